@@ -2,7 +2,7 @@
 use Rattle.gb_types.specs.Common.{◌≡◌, List, [], ◌∷◌, ◌++◌, map, reverse, Bool, true, false, Option, Some, None, refl, ◌∙◌, ap, ap₂, subst, option_map, list_any, option_map_or}
 use Rattle.gb_types.specs.declared.{plan.Plan.Plan, node.NodeId.NodeId}
 use Rattle.gb_node.specs.declared.{answer.NodeAnswer.NodeAnswer, answer.NodeAnswer.TheVariants.Sent, answer.Sent.TheVariants.Packet as SentPacket, event.NodeEvent.NodeEvent, event.NodeEvent.TheVariants.Packet as Came, tape.TapeEntry.TapeEntry}
-use Rattle.gb_cluster.specs.Common.{packet_numbered, ClusterValue, new_cluster, PacketsAreHonest, Did, IsOf}
+use Rattle.gb_cluster.specs.Common.{packet_numbered, ClusterValue, new_cluster, PacketsAreHonest, NodeStep, IsOf}
 use Rattle.gb_cluster.specs.declared.{answer.Answer.Answer, event.Event.Event, event.Event.TheVariants.At, event.Event.TheVariants.Arrive, posted.Posted.Posted, answer.Sending.TheVariants.Packet as SendingPacket, answer.Sending.TheVariants.Nothing as SendingNothing, answer.Sending.TheVariants.Refused as SendingRefused}
 use Rattle.gb_cluster.specs.declared.answer.Answer.TheVariants.{Reply as AnswerReply, Taken as AnswerTaken, Sent as AnswerSent, Ticked as AnswerTicked, Halted as AnswerHalted, NoPacket, NotNoise}
 use Rattle.gb_merge.specs.Common.{IsMergedFront, Pick, told, did, Leads, AreTold, is_refused}
@@ -70,7 +70,7 @@ all_are packets [] [] (p ∷ picks) are = absurd are
 all_are packets [] (y ∷ answers) picks are = absurd are
 all_are packets (e ∷ events) [] picks are = absurd are
 all_are packets (e ∷ events) (y ∷ answers) [] are = absurd are
-all_are packets (e ∷ events) (y ∷ answers) (p ∷ picks) are = ap₂ (λ (ds es : List Did). ds ++ es) (did_is packets e y p are.0 are.1) (all_are packets events answers picks are.2)
+all_are packets (e ∷ events) (y ∷ answers) (p ∷ picks) are = ap₂ (λ (ds es : List NodeStep). ds ++ es) (did_is packets e y p are.0 are.1) (all_are packets events answers picks are.2)
 
 -- a run of merged events in which nothing is refused is that of the entries
 pub recorded : NodeLaws → PacketsAreHonest → (plan : Plan) (tapes : List (List TapeEntry)) (events : List Event) (m : IsMergedFront plan tapes events) (answers : List Answer) (packets : List Posted) (v : ClusterValue) → IsRun plan events answers packets v → list_any tells_want answers ≡ false

@@ -4,7 +4,7 @@ use Rattle.gb_types.specs.declared.{address.Addr.Addr, plan.Plan.Plan}
 use Rattle.gb_types.specs.Common.{bounds_of}
 use Rattle.gb_node.specs.declared.tape.TapeEntry.{TapeEntry}
 use Rattle.gb_alone.specs.Common.{IsLegal, observed_alone}
-use Rattle.gb_cluster.specs.Common.{Did}
+use Rattle.gb_cluster.specs.Common.{NodeStep}
 use Rattle.gb_cluster.specs.declared.event.Event.{Event}
 use Rattle.gb_isolation.specs.{Isolation.alone_in, Project.project}
 use Rattle.gb_merge.specs.Common.{IsMergedFront, run_of}
@@ -13,7 +13,7 @@ use Rattle.gb_audit_group.specs.declared.compare.GroupSeen.{GroupSeen}
 
 -- Both observations are those of the group in the run, and of the group alone, given the projection of the run, which is legal. They are told the same exactly
 -- where they are equal, and they are equal.
-pub record IsSeen (plan : Plan) (run : List Did) (g : Addr) (found : GroupSeen) : Type 0 where
+pub record IsSeen (plan : Plan) (run : List NodeStep) (g : Addr) (found : GroupSeen) : Type 0 where
   pub seen : found.seen ≡ observed plan g run
   pub alone : found.alone ≡ observed_alone plan.nodes (alone_in plan g run)
   pub legal : IsLegal (bounds_of plan) g (project plan g run)

@@ -2,11 +2,11 @@
 use Rattle.gb_types.specs.Common.{◌≡◌, ℕ, zero, suc, ◌-◌, ◌<◌, ◌≤◌, inl, inr, true, false, Bool, List, [], ◌∷◌, length, map, get_or, Option, Some, None, refl, sym, ap, subst, ◌∙◌, arith, slice_get, slice_set, Contains, IsSome, MatchBool, if◌then◌else◌, range_with_len, cases_Bool, get_or_default, slice_get_past}
 use Rattle.gb_types.specs.declared.{node.NodeId.NodeId, plan.Plan.Plan}
 use Rattle.gb_node.specs.Common.{node_numbered, running_turn, stopped_answer, IsStarved, IsTurn, NodeValue, new_node}
-use Rattle.gb_node.specs.declared.{answer.NodeAnswer.TheVariants.Sent, answer.Sent.Sent as SentValue, event.NodeEvent.NodeEvent}
+use Rattle.gb_node.specs.declared.{answer.NodeAnswer.TheVariants.Sent, answer.Sent.Sent as SentValue, event.NodeEvent.NodeEvent, step.NodeStep.NodeStep}
 use Rattle.gb_node.specs.declared.event.NodeEvent.TheVariants.{Request as Asked, Packet as Came, Pack, Again, Ack, Tick, Stop}
 use Rattle.gb_cluster.specs.ClusterValue.{ClusterValue, cluster, node_plan, node_at, new_cluster, IsClusterPlan}
 use Rattle.gb_cluster.specs.ClusterStep.{IsNodeTurn, IsAt, IsArrival, IsStep, receiver_of, is_packet_for, packet_numbered, AreForNodes}
-use Rattle.gb_cluster.specs.Run.{Did, ComesTo, RunGoesOn, Happens, IsReached}
+use Rattle.gb_cluster.specs.Run.{ComesTo, RunGoesOn, Happens, IsReached}
 use Rattle.gb_cluster.specs.declared.{answer.Answer.Answer, answer.Answer.TheVariants.NoPacket, answer.Answer.TheVariants.NotNoise, event.Event.Event, event.Event.TheVariants.At, event.Event.TheVariants.Arrive, posted.Posted.Posted}
 use Rattle.gb_cluster.specs.Links.{PacketsAreHonest}
 use Rattle.gb_cluster.proofs.NodesLemmas.{stays}
@@ -93,8 +93,8 @@ arrived_was_posted packets k p bytes is same =
     subst (λ t. Contains packets (record { to = p.to; text = t })) is_text (numbered_contains packets k p is)
 
 -- a run goes on by a step
-abbrev RunsOn : Plan → ClusterValue → Event → Answer → List Did → ClusterValue → Type 0
-RunsOn plan old event answer earlier new = (run : List Did) × Happens old event answer earlier new run × ComesTo plan run new
+abbrev RunsOn : Plan → ClusterValue → Event → Answer → List NodeStep → ClusterValue → Type 0
+RunsOn plan old event answer earlier new = (run : List NodeStep) × Happens old event answer earlier new run × ComesTo plan run new
 
 pub goes_on : (old new : ClusterValue) (event : Event) (answer : Answer) → IsStep old event answer new → RunGoesOn old event answer new
 unfolding ComesTo
@@ -103,14 +103,14 @@ goes_on old new (At a event) answer step plan earlier comes = by (is_packet_for 
     by : (b : Bool) → is_packet_for (node_at old a) event ≡ b → MatchBool b ((answer ≡ NotNoise) × (new ≡ old)) (IsAt old a event answer new) → RunsOn plan old (At a event) answer earlier new
     by true is step = (earlier, inl (refl, step.1), subst (ComesTo plan earlier) (sym step.1) comes)
     by false is step =
-        let d : Did = record { node = a; event = event; answer = step.0 } in
+        let d : NodeStep = record { node = a; event = event; answer = step.0 } in
         (d ∷ earlier, inr (d, refl, (refl, refl), step.2), (old, comes, λ bytes same yes. absurd (let n : true ≡ false = sym yes ∙ is in cc), step.1))
 goes_on old new (Arrive k) answer step plan earlier comes = by (packet_numbered old.packets k) refl step
   where
     by : (o : Option Posted) → packet_numbered old.packets k ≡ o → IsArrival old o answer new → RunsOn plan old (Arrive k) answer earlier new
     by None is step = (earlier, inl (refl, step.1), subst (ComesTo plan earlier) (sym step.1) comes)
     by (Some p) is step =
-        let d : Did = record { node = p.to; event = Came p.text; answer = step.0 } in (
+        let d : NodeStep = record { node = p.to; event = Came p.text; answer = step.0 } in (
           d ∷ earlier,
           inr (d, refl, (p, is, refl, refl), step.2),
           (old, comes, λ bytes same yes. arrived_was_posted old.packets k p bytes is same, step.1),

@@ -2,11 +2,11 @@
 use Rattle.gb_types.specs.Common.{◌≡◌, List, [], ◌∷◌, ◌++◌, sym, ap, subst, ◌∙◌, inl, inr, slice_set}
 use Rattle.gb_types.specs.declared.{refusal.Refusal.TheVariants.OutOfMemory, reply.Reply.TheVariants.Refused, plan.Plan.Plan}
 use Rattle.gb_node.specs.Common.{takes_memory, IsStarved, IsTurn, NodeValue}
-use Rattle.gb_node.specs.declared.{answer.NodeAnswer.NodeAnswer, answer.NodeAnswer.TheVariants.Reply as Replied, answer.NodeAnswer.TheVariants.Sent, answer.Sent.TheVariants.Packet as SentPacket, event.NodeEvent.NodeEvent}
+use Rattle.gb_node.specs.declared.{answer.NodeAnswer.NodeAnswer, answer.NodeAnswer.TheVariants.Reply as Replied, answer.NodeAnswer.TheVariants.Sent, answer.Sent.TheVariants.Packet as SentPacket, event.NodeEvent.NodeEvent, step.NodeStep.NodeStep}
 use Rattle.gb_node.specs.declared.event.NodeEvent.TheVariants.{Request as Asked, Packet as Came, Pack, Again, Ack, Tick, Stop}
 use Rattle.gb_cluster.specs.ClusterStep.{NodeActs, posted}
 use Rattle.gb_cluster.specs.ClusterValue.{ClusterValue, cluster, node_at}
-use Rattle.gb_cluster.specs.Run.{Did, ComesTo}
+use Rattle.gb_cluster.specs.Run.{ComesTo}
 
 -- where memory lacked, the answer is not the one that should be
 unstarved : (event : NodeEvent) (answer : NodeAnswer) → IsStarved event answer answer → ⊥
@@ -26,13 +26,13 @@ one_turn old v w event answer (inr went) (inr so) = went.1 ∙ sym so.1
 one_turn old v w event answer (inl starved) (inr so) = absurd (unstarved event answer (subst (λ a. IsStarved event a answer) (sym so.0) starved.0))
 one_turn old v w event answer (inr went) (inl so) = absurd (unstarved event answer (subst (λ a. IsStarved event a answer) (sym went.0) so.0))
 
-one_step : (old v w : ClusterValue) (d : Did) → NodeActs old d.node d.event d.answer v → NodeActs old d.node d.event d.answer w → v ≡ w
+one_step : (old v w : ClusterValue) (d : NodeStep) → NodeActs old d.node d.event d.answer v → NodeActs old d.node d.event d.answer w → v ≡ w
 one_step old v w d acts so =
     acts.after
     ∙ (ap (λ (node : NodeValue). cluster old.plan (slice_set old.nodes d.node.number node) (old.packets ++ posted d.event d.answer)) (one_turn (node_at old d.node) acts.node so.node d.event d.answer acts.turn so.turn)
     ∙ sym so.after)
 
-pub one_end : (plan : Plan) (run : List Did) (v w : ClusterValue) → ComesTo plan run v → ComesTo plan run w → v ≡ w
+pub one_end : (plan : Plan) (run : List NodeStep) (v w : ClusterValue) → ComesTo plan run v → ComesTo plan run w → v ≡ w
 unfolding ComesTo
 one_end plan [] v w comes so = comes.1 ∙ sym so.1
 one_end plan (d ∷ run) v w (old, earlier, posted, acts) (other, so, sent, does) =

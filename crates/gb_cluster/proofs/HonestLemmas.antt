@@ -6,12 +6,12 @@ use Rattle.gb_frame.specs.Common.{Content, packet_text, IsPacket}
 use Rattle.gb_link.specs.Common.{SendWindow, frame_again, covers}
 use Rattle.gb_link.proofs.LinkLemmas.{covered_received}
 use Rattle.gb_node.specs.Common.{NodeValue, Says, PacketsSay, ReachedAreOthers, BatchesAreForOthers, OthersAreInside, PacketsAreReadBack, window_to, receiver_from, is_reached, is_another, next_batch, content_to, IsTurn, IsSpelt, Happened, read, packed_for, frames_to, numbered, is_taken, is_taken_by, is_acked, IsOfPast, PastsSay}
-use Rattle.gb_node.specs.declared.{answer.NodeAnswer.NodeAnswer, answer.Sent.Sent as SentValue, event.NodeEvent.NodeEvent, answer.Sent.TheVariants.Packet as SentPacket, answer.Sent.TheVariants.Nothing, answer.Sent.TheVariants.Refused as SentRefused}
+use Rattle.gb_node.specs.declared.{answer.NodeAnswer.NodeAnswer, answer.Sent.Sent as SentValue, event.NodeEvent.NodeEvent, answer.Sent.TheVariants.Packet as SentPacket, answer.Sent.TheVariants.Nothing, answer.Sent.TheVariants.Refused as SentRefused, step.NodeStep.NodeStep}
 use Rattle.gb_node.specs.declared.answer.NodeAnswer.TheVariants.{Reply as Replied, Taken, Sent, Ticked, Halted}
 use Rattle.gb_node.specs.declared.event.NodeEvent.TheVariants.{Request as Asked, Packet as Came, Pack, Again, Ack, Tick, Stop}
 use Rattle.gb_cluster.specs.ClusterValue.{ClusterValue, node_plan, node_at}
 use Rattle.gb_cluster.specs.ClusterStep.{posted, posted_to}
-use Rattle.gb_cluster.specs.Run.{Did, ComesTo, past_at}
+use Rattle.gb_cluster.specs.Run.{ComesTo, past_at}
 use Rattle.gb_cluster.specs.Links.{IsHonest, PacketsAreHonest}
 use Rattle.gb_types.proofs.BoolLemmas.{or_second}
 use Rattle.gb_cluster.specs.declared.posted.Posted.{Posted}
@@ -42,21 +42,21 @@ contains_get (y ∷ xs) (suc k) x l e = contains_get xs k x (omega (arith, l)) e
 
 -- What a longer run still says.
 
-pub frames_more : (key : List ℕ) (b k : ℕ) (items : List Item) (a : NodeId) (d : Did) (run : List Did) → slice_get (frames_to key b (past_at a run)) k ≡ Some items → slice_get (frames_to key b (past_at a (d ∷ run))) k ≡ Some items
+pub frames_more : (key : List ℕ) (b k : ℕ) (items : List Item) (a : NodeId) (d : NodeStep) (run : List NodeStep) → slice_get (frames_to key b (past_at a run)) k ≡ Some items → slice_get (frames_to key b (past_at a (d ∷ run))) k ≡ Some items
 unfolding frames_to
 frames_more key b k items a d run e = elim (cases_eq d.node.number a.number) [
   | inl same ↦ ap (λ hs. slice_get (frames_to key b hs) k) (past_same a d run same) ∙ get_left (frames_to key b (past_at a run)) (packed_for key b d.event d.answer) k items e
   | inr other ↦ ap (λ hs. slice_get (frames_to key b hs) k) (past_other a d run other) ∙ e
 ]
 
-pub taken_more : (key : List ℕ) (b n : ℕ) (a : NodeId) (d : Did) (run : List Did) → is_taken key b n (past_at a run) ≡ true → is_taken key b n (past_at a (d ∷ run)) ≡ true
+pub taken_more : (key : List ℕ) (b n : ℕ) (a : NodeId) (d : NodeStep) (run : List NodeStep) → is_taken key b n (past_at a run) ≡ true → is_taken key b n (past_at a (d ∷ run)) ≡ true
 unfolding is_taken
 taken_more key b n a d run e = elim (cases_eq d.node.number a.number) [
   | inl same ↦ ap (is_taken key b n) (past_same a d run same) ∙ or_second (is_taken_by key b n d.event d.answer) (is_taken key b n (past_at a run)) e
   | inr other ↦ ap (is_taken key b n) (past_other a d run other) ∙ e
 ]
 
-honest_more : (plan : Plan) (run : List Did) (d : Did) (p : Posted) → IsHonest plan run p → IsHonest plan (d ∷ run) p
+honest_more : (plan : Plan) (run : List NodeStep) (d : NodeStep) (p : Posted) → IsHonest plan run p → IsHonest plan (d ∷ run) p
 honest_more plan run d p h = record {
   content = h.content;
   from = h.from;
@@ -140,7 +140,7 @@ module _ (law : SendLaws) (plan : Plan) (a : NodeId) (inside : a.number < plan.n
   acks_are b frame items n from is = sym (was.beside.received b n) ∙ covered_received (receiver_from v b.number) n from is
 
   -- with a frame of the node's past with what happens now
-  module _ (run : List Did) (past_is : past_at a run ≡ past) (d : Did) (here : d.node ≡ a) where
+  module _ (run : List NodeStep) (past_is : past_at a run ≡ past) (d : NodeStep) (here : d.node ≡ a) where
     honest : (b : NodeId) (text : List ℕ) (frame : ℕ) (items : List Item) → is_another v b ≡ true → text ≡ packet_text v.key (content_to v b frame items) → IsPacket (content_to v b frame items)
         → (frame ≢ 0 → slice_get (frames_to plan.cluster_key b.number (past_at a (d ∷ run))) (frame - 1) ≡ Some items) → IsHonest plan (d ∷ run) (record { to = b; text = text })
     honest b text frame items other is fit framed = record {

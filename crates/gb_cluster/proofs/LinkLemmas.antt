@@ -9,11 +9,11 @@ use Rattle.gb_link.specs.Common.{Received, admission, is_awaited, covers}
 use Rattle.gb_link.specs.declared.receiver.Admission.TheVariants.{First, Seen, Outside}
 use Rattle.gb_node.specs.Common.{NodeValue, running_turn, stopped_answer, node_numbered, receiver_from, is_here, if_here, read_at, taken_answer, good_of, fate, kind_of, IsStarved, IsTurn, read, came, frames_to, is_first, is_taken, is_taken_by, is_frame, is_acked, is_ack, PastsSay, packed_for}
 use Rattle.gb_node.proofs.{PacketLemmas.read_one, TookLemmas.numbered_is}
-use Rattle.gb_node.specs.declared.{answer.NodeAnswer.NodeAnswer, answer.Good.Good, answer.Frame.TheVariants.Nothing as NoFrame, event.NodeEvent.NodeEvent, answer.PacketAnswer.TheVariants.Good as TakenGood, answer.PacketAnswer.TheVariants.Fault, answer.PacketAnswer.TheVariants.Refused as TakenRefused}
+use Rattle.gb_node.specs.declared.{answer.NodeAnswer.NodeAnswer, answer.Good.Good, answer.Frame.TheVariants.Nothing as NoFrame, event.NodeEvent.NodeEvent, answer.PacketAnswer.TheVariants.Good as TakenGood, answer.PacketAnswer.TheVariants.Fault, answer.PacketAnswer.TheVariants.Refused as TakenRefused, step.NodeStep.NodeStep}
 use Rattle.gb_node.specs.declared.answer.NodeAnswer.TheVariants.{Reply as Replied, Taken, Sent, Ticked, Halted}
 use Rattle.gb_node.specs.declared.event.NodeEvent.TheVariants.{Request as Asked, Packet as Came, Pack, Again, Ack, Tick, Stop}
 use Rattle.gb_cluster.specs.ClusterValue.{ClusterValue, node_plan, node_at}
-use Rattle.gb_cluster.specs.Run.{Did, ComesTo, past_at, IsSent}
+use Rattle.gb_cluster.specs.Run.{ComesTo, past_at, IsSent}
 use Rattle.gb_cluster.specs.Links.{IsHonest, PacketsAreHonest, first_taken, IsWhole, IsAlwaysWhole, LinksHold}
 use Rattle.gb_cluster.proofs.NodesLemmas.{stays, past_same, past_other, have_pasts}
 use Rattle.gb_cluster.proofs.HonestLemmas.{contains_get, frames_more, taken_more}
@@ -66,7 +66,7 @@ first_new r n e = by (nat_eq n 0) refl e
     by false is e = (grind (arith, nat_tests, is), admitted (set.contains r n) (is_awaited r n) e)
 
 -- A packet that a node of a cluster takes is honest.
-pub record HonestArrival (plan : Plan) (run : List Did) (a : NodeId) (bytes : List ℕ) (good : Good) (v : NodeValue) : Type 0 where
+pub record HonestArrival (plan : Plan) (run : List NodeStep) (a : NodeId) (bytes : List ℕ) (good : Good) (v : NodeValue) : Type 0 where
   pub content : Content
   pub text : read plan.cluster_key bytes ≡ content ∷ []
   pub good_is : good ≡ good_of content v
@@ -80,7 +80,7 @@ one_content {c} {e} same = ap first same
     first (x ∷ xs) = x
 
 module _ (pasts : PastsSay) (packets : PacketsAreHonest) (plan : Plan) where
-  pub arrives_honestly : (run : List Did) (v : ClusterValue) (a : NodeId) (bytes : List ℕ) (good : Good) (w : NodeValue) → ComesTo plan run v → a.number < plan.nodes → IsSent v a (Came bytes)
+  pub arrives_honestly : (run : List NodeStep) (v : ClusterValue) (a : NodeId) (bytes : List ℕ) (good : Good) (w : NodeValue) → ComesTo plan run v → a.number < plan.nodes → IsSent v a (Came bytes)
       → IsTurn (node_at v a) (Came bytes) (Taken (TakenGood good)) w → HonestArrival plan run a bytes good (node_at v a)
   arrives_honestly run v a bytes good w comes inside sent turned =
       let took = takes (node_at v a) bytes good w turned in
@@ -93,7 +93,7 @@ module _ (pasts : PastsSay) (packets : PacketsAreHonest) (plan : Plan) where
         honest = packets plan run v comes place.0 (record { to = a; text = bytes }) (contains_get v.packets place.0 (record { to = a; text = bytes }) place.1 place.2);
       }
 
-  whole_at : (run : List Did) (before : ClusterValue) (a : NodeId) (event : NodeEvent) (answer : NodeAnswer) (w : NodeValue) → ComesTo plan run before → a.number < plan.nodes → IsSent before a event
+  whole_at : (run : List NodeStep) (before : ClusterValue) (a : NodeId) (event : NodeEvent) (answer : NodeAnswer) (w : NodeValue) → ComesTo plan run before → a.number < plan.nodes → IsSent before a event
       → IsTurn (node_at before a) event answer w → IsWhole plan run (record { node = a; event = event; answer = answer })
   whole_at run before a (Came bytes) (Taken (TakenGood good)) w comes inside sent turned c e = by (is_first good.frame) refl e
     where
@@ -128,7 +128,7 @@ module _ (pasts : PastsSay) (packets : PacketsAreHonest) (plan : Plan) where
   whole_at run before a Tick answer w comes inside sent turned c e = absurd (cc)
   whole_at run before a Stop answer w comes inside sent turned c e = absurd (cc)
 
-  always_whole : (run : List Did) (v : ClusterValue) → ComesTo plan run v → IsAlwaysWhole plan run
+  always_whole : (run : List NodeStep) (v : ClusterValue) → ComesTo plan run v → IsAlwaysWhole plan run
   unfolding IsAlwaysWhole ComesTo
   always_whole [] v comes = tt
   always_whole (d ∷ run) v comes =
@@ -140,7 +140,7 @@ module _ (pasts : PastsSay) (packets : PacketsAreHonest) (plan : Plan) where
 
   -- Links.
 
-  frames_longer : (b : ℕ) (a : NodeId) (d : Did) (run : List Did) → length (frames_to plan.cluster_key b (past_at a run)) ≤ length (frames_to plan.cluster_key b (past_at a (d ∷ run)))
+  frames_longer : (b : ℕ) (a : NodeId) (d : NodeStep) (run : List NodeStep) → length (frames_to plan.cluster_key b (past_at a run)) ≤ length (frames_to plan.cluster_key b (past_at a (d ∷ run)))
   unfolding frames_to
   frames_longer b a d run = elim (cases_eq d.node.number a.number) [
     | inl same ↦
@@ -181,7 +181,7 @@ module _ (pasts : PastsSay) (packets : PacketsAreHonest) (plan : Plan) where
   first_of b n Tick answer e = absurd (cc)
   first_of b n Stop answer e = absurd (cc)
 
-  taken_packed : (run : List Did) (v : ClusterValue) → IsAlwaysWhole plan run → (a b : NodeId) (n : ℕ) → is_taken plan.cluster_key a.number n (past_at b run) ≡ true → (1 ≤ n) × (n ≤ length (frames_to plan.cluster_key b.number (past_at a run)))
+  taken_packed : (run : List NodeStep) (v : ClusterValue) → IsAlwaysWhole plan run → (a b : NodeId) (n : ℕ) → is_taken plan.cluster_key a.number n (past_at b run) ≡ true → (1 ≤ n) × (n ≤ length (frames_to plan.cluster_key b.number (past_at a run)))
   unfolding IsAlwaysWhole is_taken past_at
   taken_packed [] v whole a b n e = absurd (cc)
   taken_packed (d ∷ run) v whole a b n e =
@@ -213,7 +213,7 @@ module _ (pasts : PastsSay) (packets : PacketsAreHonest) (plan : Plan) where
           split (inr was) = later (earlier was)
 
   -- an acknowledgement that comes
-  ack_came : (run : List Did) (v : ClusterValue) (a b : NodeId) (n : ℕ) (event : NodeEvent) (answer : NodeAnswer) (w : NodeValue) → ComesTo plan run v → a.number < plan.nodes → IsSent v a event → IsTurn (node_at v a) event answer w
+  ack_came : (run : List NodeStep) (v : ClusterValue) (a b : NodeId) (n : ℕ) (event : NodeEvent) (answer : NodeAnswer) (w : NodeValue) → ComesTo plan run v → a.number < plan.nodes → IsSent v a event → IsTurn (node_at v a) event answer w
       → 1 ≤ n → list_any (is_ack b.number n) (came plan.cluster_key event answer) ≡ true → is_taken plan.cluster_key a.number n (past_at b run) ≡ true
   ack_came run v a b n (Came bytes) (Taken (TakenGood good)) w comes inside sent turned from e =
       let one = only (is_ack b.number n) bytes e in
@@ -235,7 +235,7 @@ module _ (pasts : PastsSay) (packets : PacketsAreHonest) (plan : Plan) where
   ack_came run v a b n Tick answer w comes inside sent turned from e = absurd (cc)
   ack_came run v a b n Stop answer w comes inside sent turned from e = absurd (cc)
 
-  covered_taken : (run : List Did) (d : Did) (v : ClusterValue) → ComesTo plan (d ∷ run) v → (c : Content) → came plan.cluster_key d.event d.answer ≡ c ∷ [] → c.from < NODES → (n : ℕ) → 1 ≤ n → covers c.base c.mask n ≡ true
+  covered_taken : (run : List NodeStep) (d : NodeStep) (v : ClusterValue) → ComesTo plan (d ∷ run) v → (c : Content) → came plan.cluster_key d.event d.answer ≡ c ∷ [] → c.from < NODES → (n : ℕ) → 1 ≤ n → covers c.base c.mask n ≡ true
       → is_taken plan.cluster_key d.node.number n (past_at (node_numbered c.from) run) ≡ true
   unfolding ComesTo
   covered_taken run d v comes c one below n from e =
@@ -247,7 +247,7 @@ module _ (pasts : PastsSay) (packets : PacketsAreHonest) (plan : Plan) where
       let here : nat_eq c.from (node_numbered c.from).number ≡ true = grind (arith, nat_tests, sender) in
       ack_came run comes.0 d.node (node_numbered c.from) n d.event d.answer acts.node comes.1 (omega (arith, count, placed)) comes.2 acts.turn from (ap (list_any (is_ack (node_numbered c.from).number n)) one ∙ rw (here, e) refl)
 
-  acked_taken : (run : List Did) (v : ClusterValue) → ComesTo plan run v → (a b : NodeId) (n : ℕ) → 1 ≤ n → is_acked plan.cluster_key b.number n (past_at a run) ≡ true → is_taken plan.cluster_key a.number n (past_at b run) ≡ true
+  acked_taken : (run : List NodeStep) (v : ClusterValue) → ComesTo plan run v → (a b : NodeId) (n : ℕ) → 1 ≤ n → is_acked plan.cluster_key b.number n (past_at a run) ≡ true → is_taken plan.cluster_key a.number n (past_at b run) ≡ true
   unfolding ComesTo is_acked past_at
   acked_taken [] v comes a b n from e = absurd (cc)
   acked_taken (d ∷ run) v comes a b n from e = taken_more plan.cluster_key a.number n b d run (by (acked_taken run comes.0 comes.1 a b n from) (cases_eq d.node.number a.number))

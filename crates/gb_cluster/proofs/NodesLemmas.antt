@@ -6,9 +6,10 @@ use Rattle.gb_types.proofs.SameLemmas.{same_number}
 use Rattle.gb_node.specs.Common.{node_numbered, IsTurn, IsSpelt, NodeValue, new_node}
 use Rattle.gb_node.specs.Past.{ComesTo as NodeComesTo}
 use Rattle.gb_node.proofs.TookLemmas.{numbered_is}
+use Rattle.gb_node.specs.declared.step.NodeStep.{NodeStep}
 use Rattle.gb_cluster.specs.ClusterValue.{ClusterValue, node_plan, node_at, IsClusterPlan}
 use Rattle.gb_cluster.specs.ClusterStep.{NodeActs}
-use Rattle.gb_cluster.specs.Run.{Did, ComesTo, past_at, NodesHavePasts}
+use Rattle.gb_cluster.specs.Run.{ComesTo, past_at, NodesHavePasts}
 
 -- what a run leaves as it is
 pub record Stays (plan : Plan) (v : ClusterValue) : Type 0 where
@@ -16,7 +17,7 @@ pub record Stays (plan : Plan) (v : ClusterValue) : Type 0 where
   pub plan_is : v.plan ≡ plan
   pub count : length v.nodes ≡ plan.nodes
 
-pub stays : (plan : Plan) (run : List Did) (v : ClusterValue) → ComesTo plan run v → Stays plan v
+pub stays : (plan : Plan) (run : List NodeStep) (v : ClusterValue) → ComesTo plan run v → Stays plan v
 unfolding ComesTo
 stays plan [] v comes = record {
   right = comes.0;
@@ -33,29 +34,29 @@ stays plan (d ∷ run) v comes =
     }
 
 -- the node that acts, and the others
-pub acting_is : (old : ClusterValue) (d : Did) (new : ClusterValue) (acts : NodeActs old d.node d.event d.answer new) (a : NodeId) → d.node.number ≡ a.number → node_at new a ≡ acts.node
+pub acting_is : (old : ClusterValue) (d : NodeStep) (new : ClusterValue) (acts : NodeActs old d.node d.event d.answer new) (a : NodeId) → d.node.number ≡ a.number → node_at new a ≡ acts.node
 acting_is old d new acts a same =
     ap (λ (w : ClusterValue). node_at w a) acts.after
     ∙ (ap (λ k. get_or (slice_set old.nodes d.node.number acts.node) k (new_node (node_plan old.plan a))) (sym same)
     ∙ get_or-set_same old.nodes d.node.number acts.node (new_node (node_plan old.plan a)) acts.placed)
 
-pub other_is : (old : ClusterValue) (d : Did) (new : ClusterValue) → NodeActs old d.node d.event d.answer new → (a : NodeId) → d.node.number ≢ a.number → node_at new a ≡ node_at old a
+pub other_is : (old : ClusterValue) (d : NodeStep) (new : ClusterValue) → NodeActs old d.node d.event d.answer new → (a : NodeId) → d.node.number ≢ a.number → node_at new a ≡ node_at old a
 other_is old d new acts a other =
     ap (λ (w : ClusterValue). node_at w a) acts.after
     ∙ get_or-set_other old.nodes d.node.number a.number acts.node (new_node (node_plan old.plan a)) (λ e. other (sym e))
 
-pub past_same : (a : NodeId) (d : Did) (run : List Did) → d.node.number ≡ a.number → past_at a (d ∷ run) ≡ record { event = d.event; answer = d.answer } ∷ past_at a run
+pub past_same : (a : NodeId) (d : NodeStep) (run : List NodeStep) → d.node.number ≡ a.number → past_at a (d ∷ run) ≡ record { event = d.event; answer = d.answer } ∷ past_at a run
 unfolding past_at
 past_same a d run same = ap (λ b. if b then record { event = d.event; answer = d.answer } ∷ past_at a run else past_at a run) (eq-eqb d.node.number a.number same)
 
-pub past_other : (a : NodeId) (d : Did) (run : List Did) → d.node.number ≢ a.number → past_at a (d ∷ run) ≡ past_at a run
+pub past_other : (a : NodeId) (d : NodeStep) (run : List NodeStep) → d.node.number ≢ a.number → past_at a (d ∷ run) ≡ past_at a run
 unfolding past_at
 past_other a d run other = ap (λ b. if b then record { event = d.event; answer = d.answer } ∷ past_at a run else past_at a run) (ne_eqb d.node.number a.number other)
 
-abbrev Turns : NodeValue → Did → NodeValue → Type 0
+abbrev Turns : NodeValue → NodeStep → NodeValue → Type 0
 Turns old d new = IsTurn old d.event d.answer new
 
-abbrev NodeTurn : ClusterValue → NodeId → Did → NodeValue → Type 0
+abbrev NodeTurn : ClusterValue → NodeId → NodeStep → NodeValue → Type 0
 NodeTurn v a d node = IsTurn (node_at v a) d.event d.answer node × IsSpelt (node_at v a) d.event d.answer
 
 pub have_pasts : NodesHavePasts

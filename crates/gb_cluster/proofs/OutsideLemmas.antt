@@ -9,11 +9,11 @@ use Rattle.gb_link.specs.declared.receiver.Admission.TheVariants.{First, Seen, O
 use Rattle.gb_link.proofs.BaseLemmas.{base_of_from, base_of_below, base_of_lacks}
 use Rattle.gb_node.specs.Common.{NodeValue, window_to, receiver_from, is_reached, batch_to, room_to, unless_empty, content_to, pack_content, sent, fate, kind_of, IsTurn, Happened, read, came, packed_for, frames_to, numbered, is_taken, is_acked, is_ack, PastsSay, SendersRun}
 use Rattle.gb_node.specs.Past.{ComesTo as NodeComesTo}
-use Rattle.gb_node.specs.declared.{answer.NodeAnswer.NodeAnswer, answer.PacketAnswer.TheVariants.Good as TakenGood, answer.Good.Good, answer.Frame.TheVariants.Nothing as NoFrame, answer.Frame.TheVariants.Outside as Beyond, event.NodeEvent.NodeEvent, plan.NodePlan.NodePlan, answer.Sent.TheVariants.Packet as SentPacket, answer.Sent.TheVariants.Nothing, answer.Sent.TheVariants.Refused as SentRefused}
+use Rattle.gb_node.specs.declared.{answer.NodeAnswer.NodeAnswer, answer.PacketAnswer.TheVariants.Good as TakenGood, answer.Good.Good, answer.Frame.TheVariants.Nothing as NoFrame, answer.Frame.TheVariants.Outside as Beyond, event.NodeEvent.NodeEvent, plan.NodePlan.NodePlan, answer.Sent.TheVariants.Packet as SentPacket, answer.Sent.TheVariants.Nothing, answer.Sent.TheVariants.Refused as SentRefused, step.NodeStep.NodeStep}
 use Rattle.gb_node.specs.declared.answer.NodeAnswer.TheVariants.{Reply as Replied, Taken, Sent, Ticked, Halted}
 use Rattle.gb_node.specs.declared.event.NodeEvent.TheVariants.{Request as Asked, Packet as Came, Pack, Again, Ack, Tick, Stop}
 use Rattle.gb_cluster.specs.ClusterValue.{ClusterValue, node_plan, node_at}
-use Rattle.gb_cluster.specs.Run.{Did, ComesTo, past_at, IsSent}
+use Rattle.gb_cluster.specs.Run.{ComesTo, past_at, IsSent}
 use Rattle.gb_cluster.specs.Links.{PacketsAreHonest, LinksHold, NothingIsOutside}
 use Rattle.gb_types.proofs.BoolLemmas.{and_sides, or_left, refuted_by}
 use Rattle.gb_cluster.proofs.NodesLemmas.{stays, have_pasts}
@@ -145,7 +145,7 @@ inside_fate r n inside e = by (nat_eq n 0) refl e
 
 -- Every packet that is taken.
 module _ (sends : SendersRun) (pasts : PastsSay) (packets : PacketsAreHonest) (links : LinksHold) (plan : Plan) where
-  taken_inside : (run : List Did) (before : ClusterValue) (a : NodeId) (bytes : List ℕ) (good : Good) (w : NodeValue) → ComesTo plan run before → a.number < plan.nodes → IsSent before a (Came bytes)
+  taken_inside : (run : List NodeStep) (before : ClusterValue) (a : NodeId) (bytes : List ℕ) (good : Good) (w : NodeValue) → ComesTo plan run before → a.number < plan.nodes → IsSent before a (Came bytes)
       → IsTurn (node_at before a) (Came bytes) (Taken (TakenGood good)) w → good.frame ≢ Beyond
   taken_inside run before a bytes good w comes inside was_sent turned e =
       let so = arrives_honestly pasts packets plan run before a bytes good w comes inside was_sent turned in

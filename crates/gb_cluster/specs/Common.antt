@@ -3,5 +3,6 @@ pub use Rattle.gb_cluster.specs.ClusterStep.{AreRead, IsArrival, IsAt, IsPlaced,
 pub use Rattle.gb_cluster.specs.ClusterValue.{ClusterValue, IsClusterPlan, cluster, new_cluster, node_at, node_plan}
 pub use Rattle.gb_cluster.specs.Links.{CoversTaken, IsHonest, IsInside, IsLink, LinksHold, NothingIsOutside, PacketsAreHonest, PacketsAreRead}
 unfoldable pub use Rattle.gb_cluster.specs.Links.{IsAlwaysWhole}
-pub use Rattle.gb_cluster.specs.Run.{Did, Happens, IsOf, IsSent, NodesHavePasts, RunGoesOn, RunsHaveOneEnd}
+pub use Rattle.gb_node.specs.declared.step.NodeStep.{NodeStep}
+pub use Rattle.gb_cluster.specs.Run.{Happens, IsOf, IsSent, NodesHavePasts, RunGoesOn, RunsHaveOneEnd}
 unfoldable pub use Rattle.gb_cluster.specs.Run.{ComesTo, past_at}

@@ -4,8 +4,8 @@ use Rattle.std.specs.FinSet as set
 use Rattle.gb_types.proofs.SameLemmas.{same_number}
 use Rattle.gb_types.specs.declared.node.NodeId.{NodeId}
 use Rattle.gb_node.specs.Common.{IsTurn, NodeValue, Happened, ComesTo}
-use Rattle.gb_node.specs.declared.{plan.NodePlan.NodePlan, tape.TapeEntry.TapeEntry}
-use Rattle.gb_host.specs.declared.{plan.HostPlan.HostPlan, entry.SeatEntry.SeatEntry, closed.Closed.Closed, fault.HostFault.HostFault}
+use Rattle.gb_node.specs.declared.{plan.NodePlan.NodePlan, tape.TapeEntry.TapeEntry, step.NodeStep.NodeStep}
+use Rattle.gb_host.specs.declared.{plan.HostPlan.HostPlan, closed.Closed.Closed, fault.HostFault.HostFault}
 use Rattle.gb_host.specs.SeatValue.{SeatValue}
 use Rattle.gb_host.specs.Placed.{AreSoFar, HasAdded}
 use Rattle.gb_host.specs.Plans.{plan_of}
@@ -106,7 +106,7 @@ of_picked : (s : ℕ) (es : List TapeEntry) → length (calls_of s es) ≡ picke
 of_picked s [] = refl
 of_picked s (e ∷ es) = length_if (e.seat == s) (call_of e) (calls_of s es) ∙ ap (λ a. one_if (e.seat == s) + a) (of_picked s es)
 
-at_picked : (k : ℕ) (es : List SeatEntry) → length (calls_at k es) ≡ picked (λ (e : SeatEntry). e.node.number) k es
+at_picked : (k : ℕ) (es : List NodeStep) → length (calls_at k es) ≡ picked (λ (e : NodeStep). e.node.number) k es
 at_picked k [] = refl
 at_picked k (e ∷ es) = length_if (e.node.number == k) (e.event, e.answer) (calls_at k es) ∙ ap (λ a. one_if (e.node.number == k) + a) (at_picked k es)
 
@@ -115,13 +115,13 @@ length-numbered n [] = refl
 length-numbered n (c ∷ cs) = ap suc (length-numbered (n + 1) cs)
 
 -- as many entries in all tapes as in all lists
-pub same_entries : (tapes : List (List TapeEntry)) (lists : List (List SeatEntry)) → AreSame tapes (list_at lists) → sum_by length tapes ≡ sum_by length lists
+pub same_entries : (tapes : List (List TapeEntry)) (lists : List (List NodeStep)) → AreSame tapes (list_at lists) → sum_by length tapes ≡ sum_by length lists
 same_entries tapes lists h =
     let n = length tapes in
     let m = length lists in
-    let here : (s k : ℕ) → picked (λ (e : TapeEntry). e.seat) s (tape_at tapes k) ≡ picked (λ (e : SeatEntry). e.node.number) k (list_at lists s) = λ s k. sym (of_picked s (tape_at tapes k)) ∙ (ap length (h s k) ∙ (length-numbered 0 (calls_at k (list_at lists s)) ∙ at_picked k (list_at lists s))) in
-    let by_tape : (k : ℕ) → sum_to m (λ s. picked (λ (e : TapeEntry). e.seat) s (tape_at tapes k)) ≡ length (tape_at tapes k) = λ k. all_picked (λ (e : TapeEntry). e.seat) m (tape_at tapes k) (λ s le. here s k ∙ ap (picked (λ (e : SeatEntry). e.node.number) k) (past_end lists s le)) in
-    let by_list : (s : ℕ) → sum_to n (λ k. picked (λ (e : SeatEntry). e.node.number) k (list_at lists s)) ≡ length (list_at lists s) = λ s. all_picked (λ (e : SeatEntry). e.node.number) n (list_at lists s) (λ k le. sym (here s k) ∙ ap (picked (λ (e : TapeEntry). e.seat) s) (past_end tapes k le)) in
+    let here : (s k : ℕ) → picked (λ (e : TapeEntry). e.seat) s (tape_at tapes k) ≡ picked (λ (e : NodeStep). e.node.number) k (list_at lists s) = λ s k. sym (of_picked s (tape_at tapes k)) ∙ (ap length (h s k) ∙ (length-numbered 0 (calls_at k (list_at lists s)) ∙ at_picked k (list_at lists s))) in
+    let by_tape : (k : ℕ) → sum_to m (λ s. picked (λ (e : TapeEntry). e.seat) s (tape_at tapes k)) ≡ length (tape_at tapes k) = λ k. all_picked (λ (e : TapeEntry). e.seat) m (tape_at tapes k) (λ s le. here s k ∙ ap (picked (λ (e : NodeStep). e.node.number) k) (past_end lists s le)) in
+    let by_list : (s : ℕ) → sum_to n (λ k. picked (λ (e : NodeStep). e.node.number) k (list_at lists s)) ≡ length (list_at lists s) = λ s. all_picked (λ (e : NodeStep). e.node.number) n (list_at lists s) (λ k le. sym (here s k) ∙ ap (picked (λ (e : TapeEntry). e.seat) s) (past_end tapes k le)) in
     lengths_to tapes
     ∙ (sum_to_same n _ _ (λ k. sym (by_tape k))
     ∙ (exchange n m (λ k s. picked (λ (e : TapeEntry). e.seat) s (tape_at tapes k))
@@ -242,7 +242,7 @@ state_of p is_here b (Some v) tape before rest e on closed place = (v, closed.1 
 state_of p is_here b None tape [] rest e on closed place = absurd (let g : [] ≡ e ∷ rest = sym closed.1 ∙ place in cc)
 state_of p is_here b None tape (x ∷ before) rest e on closed place = absurd (let g : [] ≡ x ∷ (before ++ e ∷ rest) = sym closed.1 ∙ place in cc)
 
-pub all_fresh : (p : HostPlan) (here : set.FinSet nat_cmp) (nodes : List (Option NodeValue)) (tapes : List (List TapeEntry)) (lists : ℕ → List SeatEntry) → p.tape ≡ true → AreReplays p here p.cluster.nodes nodes tapes → AreSame tapes lists → AreFresh p tapes lists
+pub all_fresh : (p : HostPlan) (here : set.FinSet nat_cmp) (nodes : List (Option NodeValue)) (tapes : List (List TapeEntry)) (lists : ℕ → List NodeStep) → p.tape ≡ true → AreReplays p here p.cluster.nodes nodes tapes → AreSame tapes lists → AreFresh p tapes lists
 all_fresh p here nodes tapes lists on replays same s xs ys x split under =
     let k : ℕ = x.node.number in
     let tape : List TapeEntry = tape_at tapes k in
@@ -268,12 +268,12 @@ all_fresh p here nodes tapes lists on replays same s xs ys x split under =
     }
 
 -- at the end: the lists are those of the seats
-pub closed_same : (tapes : List (List TapeEntry)) (lists : List (List SeatEntry)) (seats : List SeatValue) → ((s : ℕ) → list_at lists s ≡ list_of seats s) → AreSame tapes (list_at lists) → AreSame tapes (list_of seats)
+pub closed_same : (tapes : List (List TapeEntry)) (lists : List (List NodeStep)) (seats : List SeatValue) → ((s : ℕ) → list_at lists s ≡ list_of seats s) → AreSame tapes (list_at lists) → AreSame tapes (list_of seats)
 closed_same tapes lists seats h same s k = same s k ∙ ap (λ xs. numbered 0 (calls_at k xs)) (h s)
 
-pub closed_entries : (tapes : List (List TapeEntry)) (lists : List (List SeatEntry)) (seats : List SeatValue) → sum_by length lists ≡ seat_entries seats → AreSame tapes (list_at lists) → tape_entries tapes ≡ seat_entries seats
+pub closed_entries : (tapes : List (List TapeEntry)) (lists : List (List NodeStep)) (seats : List SeatValue) → sum_by length lists ≡ seat_entries seats → AreSame tapes (list_at lists) → tape_entries tapes ≡ seat_entries seats
 closed_entries tapes lists seats sum same = same_entries tapes lists same ∙ sum
 
-pub closed_fresh : (p : HostPlan) (here : set.FinSet nat_cmp) (nodes : List (Option NodeValue)) (tapes : List (List TapeEntry)) (lists : List (List SeatEntry)) (seats : List SeatValue) → p.tape ≡ true → AreReplays p here p.cluster.nodes nodes tapes
+pub closed_fresh : (p : HostPlan) (here : set.FinSet nat_cmp) (nodes : List (Option NodeValue)) (tapes : List (List TapeEntry)) (lists : List (List NodeStep)) (seats : List SeatValue) → p.tape ≡ true → AreReplays p here p.cluster.nodes nodes tapes
     → ((s : ℕ) → list_at lists s ≡ list_of seats s) → AreSame tapes (list_at lists) → AreFresh p tapes (list_of seats)
 closed_fresh p here nodes tapes lists seats on replays h same = all_fresh p here nodes tapes (list_of seats) on replays (closed_same tapes lists seats h same)

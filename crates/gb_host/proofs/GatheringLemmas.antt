@@ -1,10 +1,10 @@
 -- Gathering lists by number.
 use Rattle.gb_types.specs.Common.{◌≡◌, ◌≢◌, ℕ, ◌+◌, ◌<◌, Bool, true, false, List, [], ◌∷◌, ◌++◌, length, sym, ap, ◌∙◌, arith, cond, eqb, get_or, set, take, append_assoc, sum_by, inl, inr, ◌⊎◌, false≢true, eqb_tells, length-set, get_or-set_same, get_or-set_other, take_at, sum_by-set, sum_by-append}
-use Rattle.gb_host.specs.declared.entry.SeatEntry.{SeatEntry}
+use Rattle.gb_node.specs.declared.step.NodeStep.{NodeStep}
 use Rattle.gb_host.specs.SeatValue.{SeatValue}
 use Rattle.gb_host.specs.Closing.{list_at, list_of, seat_entries, Gathered}
 
-list_kept : (x : SeatValue) (late : List SeatValue) (lists : List (List SeatEntry)) (s : ℕ) → ((s : ℕ) → list_at lists s ≡ list_of late s) → x.number < length lists
+list_kept : (x : SeatValue) (late : List SeatValue) (lists : List (List NodeStep)) (s : ℕ) → ((s : ℕ) → list_at lists s ≡ list_of late s) → x.number < length lists
     → ((eqb x.number s ≡ true) × (x.number ≡ s)) ⊎ ((eqb x.number s ≡ false) × (x.number ≢ s)) → list_at (set lists x.number x.list) s ≡ list_of (x ∷ late) s
 list_kept x late lists s kept under (inl h) =
     let e : list_of (x ∷ late) s ≡ x.list = ap (λ b. cond b x.list (list_of late s)) h.0 in
@@ -15,7 +15,7 @@ list_kept x late lists s kept under (inr h) =
     let f : list_at (set lists x.number x.list) s ≡ list_at lists s = get_or-set_other lists x.number s x.list [] (λ p. h.1 (sym p)) in
     f ∙ (kept s ∙ sym e)
 
-still_free : (n s : ℕ) (list : List SeatEntry) (lists : List (List SeatEntry)) (given : List Bool) → ((s : ℕ) → get_or given s true ≡ false → list_at lists s ≡ []) → length given ≡ length lists
+still_free : (n s : ℕ) (list : List NodeStep) (lists : List (List NodeStep)) (given : List Bool) → ((s : ℕ) → get_or given s true ≡ false → list_at lists s ≡ []) → length given ≡ length lists
     → ((eqb n s ≡ true) × (n ≡ s)) ⊎ ((eqb n s ≡ false) × (n ≢ s)) → n < length lists → get_or (set given n true) s true ≡ false → list_at (set lists n list) s ≡ []
 still_free n s list lists given free as_many (inl h) under not =
     let f : get_or (set given n true) n true ≡ true = get_or-set_same given n true true (omega arith) in
@@ -24,7 +24,7 @@ still_free n s list lists given free as_many (inl h) under not =
 still_free n s list lists given free as_many (inr h) under not =
     get_or-set_other lists n s list [] (λ p. h.1 (sym p)) ∙ free s (sym (get_or-set_other given n s true true (λ p. h.1 (sym p))) ∙ not)
 
-pub gathered_more : (all rest less : List SeatValue) (x : SeatValue) (lists : List (List SeatEntry)) (given : List Bool) → Gathered all rest lists given → rest ≡ less ++ x ∷ []
+pub gathered_more : (all rest less : List SeatValue) (x : SeatValue) (lists : List (List NodeStep)) (given : List Bool) → Gathered all rest lists given → rest ≡ less ++ x ∷ []
     → x.number < length lists → get_or given x.number true ≡ false → Gathered all less (set lists x.number x.list) (set given x.number true)
 gathered_more all rest less x lists given g pop under free = record {
   late = x ∷ g.late;
@@ -41,7 +41,7 @@ gathered_more all rest less x lists given g pop under free = record {
 }
 
 -- the same where lists and marks were lent as slices, and are back
-pub gathered_step : (all rest less : List SeatValue) (x : SeatValue) (lists lent put more : List (List SeatEntry)) (given lent_given put_given more_given : List Bool) (n m : ℕ) → Gathered all rest lists given → rest ≡ less ++ x ∷ []
+pub gathered_step : (all rest less : List SeatValue) (x : SeatValue) (lists lent put more : List (List NodeStep)) (given lent_given put_given more_given : List Bool) (n m : ℕ) → Gathered all rest lists given → rest ≡ less ++ x ∷ []
     → lent ≡ lists → lent_given ≡ given → put ≡ set lent x.number x.list → put_given ≡ set lent_given x.number true → x.number < length lent → get_or lent_given x.number true ≡ false
     → length lists ≡ n → length given ≡ m → Gathered all less (take n (put ++ more)) (take m (put_given ++ more_given))
 gathered_step all rest less x lists lent put more given lent_given put_given more_given n m g pop same same_given put_is given_is under free len len_given =

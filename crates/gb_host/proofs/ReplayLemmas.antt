@@ -4,7 +4,7 @@ use Rattle.gb_past.specs.Story.{Known}
 use Rattle.gb_types.proofs.SameLemmas.{same_number}
 use Rattle.gb_types.specs.declared.{limits.TheConstants.NODES, node.NodeId.NodeId}
 use Rattle.gb_node.specs.Common.{NodeValue, new_node, IsNodePlan, IsTurn, IsSpelt, Happened, ComesTo}
-use Rattle.gb_node.specs.declared.{plan.NodePlan.NodePlan, tape.TapeEntry.TapeEntry}
+use Rattle.gb_node.specs.declared.{plan.NodePlan.NodePlan, tape.TapeEntry.TapeEntry, step.NodeStep.NodeStep}
 use Rattle.gb_host.specs.Calls.{Call, calls_at}
 use Rattle.gb_host.specs.Happened.{AreAmong, GoesOn, HasHappened, HaveHappened}
 use Rattle.gb_host.specs.Pasts.{BookName, no_book, book_at, books_of, past_at, seen_at, AreOfBooks, AreUnseen}
@@ -14,7 +14,7 @@ use Rattle.gb_host.specs.HostedValue.{HostedValue}
 use Rattle.gb_host.specs.Plans.{is_kept, plan_of, IsPlan}
 use Rattle.gb_host.specs.Replay.{happened, past_of}
 use Rattle.gb_host.specs.SeatValue.{SeatValue}
-use Rattle.gb_host.specs.declared.{entry.SeatEntry.SeatEntry, plan.HostPlan.HostPlan}
+use Rattle.gb_host.specs.declared.plan.HostPlan.{HostPlan}
 
 -- The replay of one entry more.
 
@@ -87,10 +87,10 @@ one_if_le : (b : Bool) → one_if b ≤ 1
 one_if_le true = omega arith
 one_if_le false = omega arith
 
-count_cons : (k : ℕ) (e : SeatEntry) (es : List SeatEntry) → length (calls_at k (e ∷ es)) ≡ one_if (e.node.number == k) + length (calls_at k es)
+count_cons : (k : ℕ) (e : NodeStep) (es : List NodeStep) → length (calls_at k (e ∷ es)) ≡ one_if (e.node.number == k) + length (calls_at k es)
 count_cons k e es = count_by_test (e.node.number == k) (e.event, e.answer) (calls_at k es)
 
-calls_at_push : (k : ℕ) (es : List SeatEntry) (e : SeatEntry) → length (calls_at k (es ++ e ∷ [])) ≡ length (calls_at k es) + one_if (e.node.number == k)
+calls_at_push : (k : ℕ) (es : List NodeStep) (e : NodeStep) → length (calls_at k (es ++ e ∷ [])) ≡ length (calls_at k es) + one_if (e.node.number == k)
 calls_at_push k [] e = count_cons k e [] ∙ add_comm (one_if (e.node.number == k)) 0
 calls_at_push k (x ∷ xs) e =
     let h : length (calls_at k (x ∷ xs)) ≡ one_if (x.node.number == k) + length (calls_at k xs) = count_cons k x xs in
@@ -98,7 +98,7 @@ calls_at_push k (x ∷ xs) e =
     let j : length (calls_at k (xs ++ e ∷ [])) ≡ length (calls_at k xs) + one_if (e.node.number == k) = calls_at_push k xs e in
     i ∙ (ap (λ n. one_if (x.node.number == k) + n) j ∙ (sym (add_assoc (one_if (x.node.number == k)) (length (calls_at k xs)) (one_if (e.node.number == k))) ∙ ap (λ n. n + one_if (e.node.number == k)) (sym h)))
 
-pub calls_at_le : (k : ℕ) (es : List SeatEntry) → length (calls_at k es) ≤ length es
+pub calls_at_le : (k : ℕ) (es : List NodeStep) → length (calls_at k es) ≤ length es
 calls_at_le k [] = omega arith
 calls_at_le k (x ∷ xs) =
     let h : length (calls_at k (x ∷ xs)) ≡ one_if (x.node.number == k) + length (calls_at k xs) = count_cons k x xs in
@@ -106,7 +106,7 @@ calls_at_le k (x ∷ xs) =
     let j = calls_at_le k xs in
     let g : length (calls_at k (x ∷ xs)) ≤ suc (length xs) = omega arith in g
 
-counts_more : (counts : List ℕ) (list : List SeatEntry) (e : SeatEntry) → length counts ≡ NODES
+counts_more : (counts : List ℕ) (list : List NodeStep) (e : NodeStep) → length counts ≡ NODES
     → ((k : ℕ) → k < NODES → get_or counts k 0 ≡ length (calls_at k list))
     → (k : ℕ) → k < NODES → get_or (set counts e.node.number (get_or counts e.node.number 0 + 1)) k 0 ≡ length (calls_at k (list ++ e ∷ []))
 counts_more counts list e one_each fits k under =
@@ -128,7 +128,7 @@ seen_other seen i k x d ne = get_or-set_other seen i k x d ne
 
 pub seat_fits_new : (p : HostPlan) (books : List BookName) (s : SeatValue) → s.counts ≡ replicate NODES 0 → s.calls ≡ [] → s.list ≡ [] → length s.seen ≡ p.cluster.nodes → AreUnseen s.seen → AreOfBooks books s.seen → IsPlan p → SeatFits p books s
 seat_fits_new p books s counts calls list seen unseen booked right = record {
-  counts = λ k under. ap (λ (xs : List ℕ). get_or xs k 0) counts ∙ (get_or-replicate NODES k 0 0 under ∙ ap (λ (xs : List SeatEntry). length (calls_at k xs)) (sym calls));
+  counts = λ k under. ap (λ (xs : List ℕ). get_or xs k 0) counts ∙ (get_or-replicate NODES k 0 0 under ∙ ap (λ (xs : List NodeStep). length (calls_at k xs)) (sym calls));
   one_each = ap length counts;
   kept = list ∙ (none_kept p.tape ∙ ap (λ es. cond p.tape es []) (sym calls));
   seen = seen;
@@ -136,7 +136,7 @@ seat_fits_new p books s counts calls list seen unseen booked right = record {
   happened = λ b member. record {
     state = new_node (plan_of p b);
     comes = subst (λ es. ComesTo (plan_of p b) (past_of es) (new_node (plan_of p b))) (sym (unseen b.number)) (comes_new (plan_of p b) (new_node (plan_of p b)) (node_plan_right p b right member) refl);
-    among = subst (λ (xs : List SeatEntry). AreAmong (calls_at b.number xs) (past_at s.seen b.number)) (sym calls) tt;
+    among = subst (λ (xs : List NodeStep). AreAmong (calls_at b.number xs) (past_at s.seen b.number)) (sym calls) tt;
   };
 }
 
@@ -174,7 +174,7 @@ placed_next all ys rest x n split count = (
 )
 
 -- a call more, as the node's past has it
-pub record NotedMore (p : HostPlan) (old new : SeatValue) (e : SeatEntry) (x : TapeEntry) (past others : List TapeEntry) (v w : NodeValue) (book : BookName) : Type 0 where
+pub record NotedMore (p : HostPlan) (old new : SeatValue) (e : NodeStep) (x : TapeEntry) (past others : List TapeEntry) (v w : NodeValue) (book : BookName) : Type 0 where
   pub member : e.node.number < p.cluster.nodes
   pub seat : x.seat ≡ old.number
   pub event : x.event ≡ e.event
@@ -189,25 +189,25 @@ pub record NotedMore (p : HostPlan) (old new : SeatValue) (e : SeatEntry) (x : T
   pub seen : new.seen ≡ set old.seen e.node.number (record { book = book; log = past ++ x ∷ [] })
   pub book_is : book ≡ (seen_at old.seen e.node.number).book
 
-comes_next : (p : HostPlan) (old new : SeatValue) (e : SeatEntry) (x : TapeEntry) (past others : List TapeEntry) (v w : NodeValue) (book : BookName) → NotedMore p old new e x past others v w book → ComesTo (plan_of p e.node) (past_of (past ++ x ∷ [])) w
+comes_next : (p : HostPlan) (old new : SeatValue) (e : NodeStep) (x : TapeEntry) (past others : List TapeEntry) (v w : NodeValue) (book : BookName) → NotedMore p old new e x past others v w book → ComesTo (plan_of p e.node) (past_of (past ++ x ∷ [])) w
 comes_next p old new e x past others v w book n =
     replay_more (plan_of p e.node) past x v w n.comes (rw (n.event, n.answer) n.turn) (rw (n.event, n.answer) n.spelt)
 
 -- what is seen of the call's node, and of the others
-seen_here : (p : HostPlan) (old new : SeatValue) (e : SeatEntry) (x : TapeEntry) (past others : List TapeEntry) (v w : NodeValue) (book : BookName) → NotedMore p old new e x past others v w book → length old.seen ≡ p.cluster.nodes
+seen_here : (p : HostPlan) (old new : SeatValue) (e : NodeStep) (x : TapeEntry) (past others : List TapeEntry) (v w : NodeValue) (book : BookName) → NotedMore p old new e x past others v w book → length old.seen ≡ p.cluster.nodes
     → seen_at new.seen e.node.number ≡ record { book = book; log = past ++ x ∷ [] }
 seen_here p old new e x past others v w book n len =
     let there : e.node.number < length old.seen = let m = n.member in omega arith in
     let d : Known TapeEntry = record { book = no_book; log = [] } in
     ap (λ ss. get_or ss e.node.number d) n.seen ∙ get_or-set_same old.seen e.node.number (record { book = book; log = past ++ x ∷ [] }) d there
 
-seen_there : (p : HostPlan) (old new : SeatValue) (e : SeatEntry) (x : TapeEntry) (past others : List TapeEntry) (v w : NodeValue) (book : BookName) → NotedMore p old new e x past others v w book → (k : ℕ) → k ≢ e.node.number
+seen_there : (p : HostPlan) (old new : SeatValue) (e : NodeStep) (x : TapeEntry) (past others : List TapeEntry) (v w : NodeValue) (book : BookName) → NotedMore p old new e x past others v w book → (k : ℕ) → k ≢ e.node.number
     → seen_at new.seen k ≡ seen_at old.seen k
 seen_there p old new e x past others v w book n k ne =
     let d : Known TapeEntry = record { book = no_book; log = [] } in
     ap (λ ss. get_or ss k d) n.seen ∙ seen_other old.seen e.node.number k (record { book = book; log = past ++ x ∷ [] }) d ne
 
-happened_more : (p : HostPlan) (old new : SeatValue) (e : SeatEntry) (x : TapeEntry) (past others : List TapeEntry) (v w : NodeValue) (book : BookName) → NotedMore p old new e x past others v w book → length old.seen ≡ p.cluster.nodes
+happened_more : (p : HostPlan) (old new : SeatValue) (e : NodeStep) (x : TapeEntry) (past others : List TapeEntry) (v w : NodeValue) (book : BookName) → NotedMore p old new e x past others v w book → length old.seen ≡ p.cluster.nodes
     → HaveHappened p old → HaveHappened p new
 happened_more p old new e x past others v w book n len happened b member =
     elim (eqb_tells b.number e.node.number) [
@@ -237,7 +237,7 @@ happened_more p old new e x past others v w book n len happened b member =
           }
     ]
 
-books_more : (p : HostPlan) (books : List BookName) (old new : SeatValue) (e : SeatEntry) (x : TapeEntry) (past others : List TapeEntry) (v w : NodeValue) (book : BookName) → NotedMore p old new e x past others v w book → length old.seen ≡ p.cluster.nodes
+books_more : (p : HostPlan) (books : List BookName) (old new : SeatValue) (e : NodeStep) (x : TapeEntry) (past others : List TapeEntry) (v w : NodeValue) (book : BookName) → NotedMore p old new e x past others v w book → length old.seen ≡ p.cluster.nodes
     → AreOfBooks books old.seen → AreOfBooks books new.seen
 books_more p books old new e x past others v w book n len booked k under =
     let fewer : k < length old.seen = let l = ap length n.seen ∙ length-set old.seen e.node.number (record { book = book; log = past ++ x ∷ [] }) in omega arith in
@@ -249,7 +249,7 @@ books_more p books old new e x past others v w book n len booked k under =
       | inr t ↦ ap (λ (s : Known TapeEntry). s.book) (seen_there p old new e x past others v w book n k t.1) ∙ booked k fewer
     ]
 
-pub seat_fits_more : (p : HostPlan) (books : List BookName) (old new : SeatValue) (e : SeatEntry) (x : TapeEntry) (past others : List TapeEntry) (v w : NodeValue) (book : BookName) → SeatFits p books old → NotedMore p old new e x past others v w book → SeatFits p books new
+pub seat_fits_more : (p : HostPlan) (books : List BookName) (old new : SeatValue) (e : NodeStep) (x : TapeEntry) (past others : List TapeEntry) (v w : NodeValue) (book : BookName) → SeatFits p books old → NotedMore p old new e x past others v w book → SeatFits p books new
 seat_fits_more p books old new e x past others v w book fits n = record {
   counts = rw (n.counts, n.calls) (counts_more old.counts old.calls e fits.one_each fits.counts);
   one_each = rw n.counts (simp length-set fits.one_each);
@@ -260,7 +260,7 @@ seat_fits_more p books old new e x past others v w book fits n = record {
 }
 
 -- so the past goes on
-pub goes_on : (p : HostPlan) (old new : SeatValue) (e : SeatEntry) (x : TapeEntry) (past others : List TapeEntry) (v w : NodeValue) (book : BookName) → length old.seen ≡ p.cluster.nodes → NotedMore p old new e x past others v w book → GoesOn p e.node old new e.event e.answer
+pub goes_on : (p : HostPlan) (old new : SeatValue) (e : NodeStep) (x : TapeEntry) (past others : List TapeEntry) (v w : NodeValue) (book : BookName) → length old.seen ≡ p.cluster.nodes → NotedMore p old new e x past others v w book → GoesOn p e.node old new e.event e.answer
 goes_on p old new e x past others v w book len n = record {
   others = others;
   entry = x;

@@ -6,5 +6,6 @@ pub use Rattle.gb_host.specs.Pasts.{AreBlank, BookName, books_of, no_book}
 pub use Rattle.gb_host.specs.Plans.{IsPlan, is_kept, is_ringed}
 pub use Rattle.gb_host.specs.RingValues.{RecorderValue}
 pub use Rattle.gb_host.specs.SeatValue.{SeatValue}
+pub use Rattle.gb_node.specs.declared.step.NodeStep.{NodeStep}
 pub use Rattle.gb_node.specs.declared.tape.TapeEntry.{TapeEntry}
 pub use Rattle.gb_node.specs.Common.{NodeValue}

@@ -1,8 +1,8 @@
 -- What is kept of a call.
 use Rattle.std.specs.Prelude.{ℕ, ◌≡◌, List, [], ◌∷◌}
 use Rattle.gb_types.specs.declared.node.NodeId.{NodeId}
-use Rattle.gb_node.specs.declared.{answer.NodeAnswer.NodeAnswer, event.NodeEvent.NodeEvent, tape.TapeEntry.TapeEntry}
-use Rattle.gb_host.specs.declared.{copies.Copies.Copies, copies.Way.Way, entry.SeatEntry.SeatEntry, copies.Copies.TheVariants.No, copies.Copies.TheVariants.ForMemory, copies.Copies.TheVariants.ForRing, copies.Way.TheVariants.Nowhere, copies.Way.TheVariants.InMemory, copies.Way.TheVariants.InRing}
+use Rattle.gb_node.specs.declared.{answer.NodeAnswer.NodeAnswer, event.NodeEvent.NodeEvent, tape.TapeEntry.TapeEntry, step.NodeStep.NodeStep}
+use Rattle.gb_host.specs.declared.{copies.Copies.Copies, copies.Way.Way, copies.Copies.TheVariants.No, copies.Copies.TheVariants.ForMemory, copies.Copies.TheVariants.ForRing, copies.Way.TheVariants.Nowhere, copies.Way.TheVariants.InMemory, copies.Way.TheVariants.InRing}
 
 -- the copies that are kept of this event and of this answer
 abbrev pub AreCopies : Way → NodeEvent → NodeAnswer → Copies → Type 0
@@ -18,7 +18,7 @@ tape_copy seat count event (ForMemory c) = record { seat = seat; count = count; 
 tape_copy seat count event (ForRing copy) = record { seat = seat; count = count; event = event; answer = copy } ∷ []
 
 -- the call that goes to a seat's list
-abbrev pub list_copy : NodeId → Copies → List SeatEntry
+abbrev pub list_copy : NodeId → Copies → List NodeStep
 list_copy node No = []
 list_copy node (ForMemory c) = record { node = node; event = c.event; answer = c.answer } ∷ []
 list_copy node (ForRing copy) = []

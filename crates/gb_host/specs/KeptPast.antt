@@ -3,11 +3,11 @@ use Rattle.std.specs.Prelude.{ℕ, ◌≡◌, ◌<◌, ◌++◌, true, false, Li
 use Rattle.std.specs.declared.{vec.Vec.Vec, alloc.Global.Global}
 use Rattle.gb_past.specs.Story.{Known}
 use Rattle.gb_types.specs.declared.node.NodeId.{NodeId}
-use Rattle.gb_node.specs.declared.{event.NodeEvent.NodeEvent, tape.TapeEntry.TapeEntry}
+use Rattle.gb_node.specs.declared.{event.NodeEvent.NodeEvent, tape.TapeEntry.TapeEntry, step.NodeStep.NodeStep}
 use Rattle.gb_host.specs.Pasts.{BookName}
 use Rattle.gb_host.specs.Plans.{is_kept}
 use Rattle.gb_host.specs.Rings.{IsPast}
-use Rattle.gb_host.specs.declared.{copies.Copies.Copies, copies.Way.Way, entry.SeatEntry.SeatEntry, fault.HostFault.HostFault, fault.HostFault.TheVariants.OutOfMemory, fault.HostFault.TheVariants.Behind, kept.Kept.Kept, plan.HostPlan.HostPlan, copies.Copies.TheVariants.No, copies.Copies.TheVariants.ForMemory, copies.Copies.TheVariants.ForRing, copies.Way.TheVariants.Nowhere, copies.Way.TheVariants.InMemory, copies.Way.TheVariants.InRing, kept.Kept.TheVariants.Nothing, kept.Kept.TheVariants.Memory, kept.Kept.TheVariants.Ring}
+use Rattle.gb_host.specs.declared.{copies.Copies.Copies, copies.Way.Way, fault.HostFault.HostFault, fault.HostFault.TheVariants.OutOfMemory, fault.HostFault.TheVariants.Behind, kept.Kept.Kept, plan.HostPlan.HostPlan, copies.Copies.TheVariants.No, copies.Copies.TheVariants.ForMemory, copies.Copies.TheVariants.ForRing, copies.Way.TheVariants.Nowhere, copies.Way.TheVariants.InMemory, copies.Way.TheVariants.InRing, kept.Kept.TheVariants.Nothing, kept.Kept.TheVariants.Memory, kept.Kept.TheVariants.Ring}
 
 module _ {L : Type 0} where
   -- the entries that were kept
@@ -41,7 +41,7 @@ module _ {L : Type 0} where
   IsSameWay old new = ⊥
 
   -- there is room for one more entry; if memory holds the tape, also in the seat's list
-  abbrev pub HasRoom : Kept L → Vec SeatEntry Global → Type 0
+  abbrev pub HasRoom : Kept L → Vec NodeStep Global → Type 0
   HasRoom Nothing list = Unit {0}
   HasRoom (Memory tape) list = (vec_len tape < vec_capacity tape) × (vec_len list < vec_capacity list)
   HasRoom (Ring out) list = 0 < out.free

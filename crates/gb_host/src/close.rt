@@ -6,9 +6,9 @@ ghost use Rattle.gb_host.specs.Placed.{HasAdded, AreSoFar};
 ghost use Rattle.gb_host.specs.Replay.{IsReplay};
 ghost use Rattle.gb_host.specs.declared.closed.Difference.{Difference as DifferenceValue};
 
+use crate::call_list::CallList;
 use crate::closed::{Closed, Difference};
 use crate::compare::differing;
-use crate::entry::CallList;
 use crate::fault::HostFault;
 use crate::host::Host;
 use crate::hosted::Hosted;

@@ -1,5 +1,5 @@
 //! What is left of a host.
-use crate::entry::CallList;
+use crate::call_list::CallList;
 use gb_node::{Node, Tape};
 
 /// The nodes that were here and their tapes, each at the index of the node's number. For any other node there is no node, and an

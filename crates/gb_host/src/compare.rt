@@ -7,8 +7,8 @@ ghost use Rattle.gb_host.specs.Calls.{calls_of, calls_at, numbered};
 ghost use Rattle.gb_host.specs.Closing.{list_at, AreSame, IsOther};
 ghost use Rattle.gb_host.specs.Walk.{left_of, AreBounded, HasMoved};
 
-use crate::entry::{CallList, SeatEntry};
-use gb_node::{Tape, TapeEntry};
+use crate::call_list::CallList;
+use gb_node::{NodeStep, Tape, TapeEntry};
 use gb_types::OutOfMemory;
 use std::alloc::Global;
 
@@ -20,14 +20,14 @@ pub struct Cursor {
 }
 
 // Returns true if the tape's entry and the seat's call have the same event and the same answer.
-fn is_call(noted: &TapeEntry, made: &SeatEntry) -> bool
+fn is_call(noted: &TapeEntry, made: &NodeStep) -> bool
     ensures { IsTrue result ↔ ((noted.now.event ≡ made.now.event) × (noted.now.answer ≡ made.now.answer)) }
 {
     noted.event.is(&made.event) && noted.answer.is(&made.answer)
 }
 
 // Returns the first call at the node from `place` on, with the place after it, or `None` if there is no such call.
-fn next_at(list: &[SeatEntry], node: u8, place: usize) -> Option<(&SeatEntry, usize)>
+fn next_at(list: &[NodeStep], node: u8, place: usize) -> Option<(&NodeStep, usize)>
     ensures some { IfSome result (λ r. calls_at node (drop place list.now) ≡ (r.0.now.event, r.0.now.answer) ∷ calls_at node (drop r.1 list.now)) }
     ensures within { IfSome result (λ r. (place < r.1) × (r.1 ≤ length list.now)) }
     ensures none { IfNone result (calls_at node (drop place list.now) ≡ []) }
@@ -116,7 +116,7 @@ fn differing_in(
 }
 
 // Returns true if a call in the list is at a node whose number is not below `nodes`.
-fn is_misplaced(list: &[SeatEntry], nodes: usize) -> bool
+fn is_misplaced(list: &[NodeStep], nodes: usize) -> bool
     ensures { MatchBool result ((k : ℕ) × (nodes ≤ k) × (calls_at k list.now ≢ [])) ((k : ℕ) → nodes ≤ k → calls_at k list.now ≡ []) }
 {
     for made in list {

@@ -6,14 +6,13 @@ ghost use Rattle.gb_host.specs.KeptPast.{kept_entries, tape_in, way_of, AreFor, 
 ghost use Rattle.gb_host.specs.Rings.{IsPast};
 
 use crate::copies::{Copies, MemoryCopies, Way};
-use crate::entry::SeatEntry;
 use crate::fault::HostFault;
 use crate::names::Tapes;
 use crate::outlet::{Outlet, ring_of};
 use crate::pasts::NodePast;
 use crate::plan::HostPlan;
 use crate::recorder::Recorder;
-use gb_node::{NodeEvent, TapeEntry};
+use gb_node::{NodeEvent, NodeStep, TapeEntry};
 use gb_types::NodeId;
 use std::alloc::Global;
 
@@ -92,7 +91,7 @@ pub(crate) struct KeptCall {
 // Makes room for one more entry; if memory holds the tape, also in the seat's list.
 pub(crate) fn make_room<L: Tapes>(
     kept: &mut Kept<L>,
-    list: &mut Vec<SeatEntry>,
+    list: &mut Vec<NodeStep>,
 ) -> Result<(), HostFault>
     ensures kept { (kept_entries kept.new ≡ kept_entries kept.old) × IsSameWay kept.old kept.new }
     ensures list { list.new.items ≡ list.old.items }
@@ -119,7 +118,7 @@ pub(crate) fn make_room<L: Tapes>(
 // Keeps a call that the node's past has; if memory holds the tape, also in the seat's list.
 pub(crate) fn keep<L: Tapes>(
     kept: &mut Kept<L>,
-    list: &mut Vec<SeatEntry>,
+    list: &mut Vec<NodeStep>,
     call: KeptCall,
     copies: Copies,
     past: &NodePast,
@@ -158,7 +157,7 @@ pub(crate) fn keep<L: Tapes>(
                 event,
                 answer: for_tape,
             });
-            list.push_reserved(SeatEntry {
+            list.push_reserved(NodeStep {
                 node,
                 event: copy,
                 answer,

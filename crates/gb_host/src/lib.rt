@@ -3,11 +3,11 @@
 //! `hosted::Hosted::step` first, then `host::Host` and `close::close`.
 #![tactic(auto)]
 
+pub mod call_list;
 pub mod close;
 pub mod closed;
 pub mod compare;
 pub mod copies;
-pub mod entry;
 pub mod fault;
 pub mod gate;
 pub mod here;
@@ -24,7 +24,6 @@ pub mod recorder;
 pub mod seat;
 
 pub use closed::Closed;
-pub use entry::SeatEntry;
 pub use fault::HostFault;
 pub use gate::{Gate, Open};
 pub use host::Host;

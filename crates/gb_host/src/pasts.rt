@@ -3,8 +3,7 @@ ghost use Rattle.std.specs.Prelude.{◌≡◌, ◌≤◌, ◌++◌, ◌∷◌, [
 ghost use Rattle.gb_node.specs.declared.tape.TapeEntry.{TapeEntry as Noted};
 ghost use Rattle.gb_host.specs.Pasts.{AreBlank};
 
-use crate::entry::SeatEntry;
-use gb_node::{NodeAnswer, NodeEvent, TapeEntry};
+use gb_node::{NodeAnswer, NodeEvent, NodeStep, TapeEntry};
 use gb_past::{Past, Seen, Story, Told};
 use gb_types::{NodeId, OutOfMemory};
 use std::alloc::Global;
@@ -23,7 +22,7 @@ pub type NodePast = Past<TapeEntry, Anything>;
 pub type NodeSeen = Seen<TapeEntry, Anything>;
 
 /// The calls of a seat, the oldest first.
-pub type SeatPast = Past<SeatEntry, Anything>;
+pub type SeatPast = Past<NodeStep, Anything>;
 
 /// A call: the node, the seat's number, how often the seat called the node before, the event and its answer.
 #[derive(Clone, Copy)]
@@ -45,7 +44,7 @@ impl<'a> Told<Made<'a>, TapeEntry> for AtNode {
 /// What a seat's past records of a call.
 pub struct AtSeat;
 
-impl<'a> Told<Made<'a>, SeatEntry> for AtSeat {
+impl<'a> Told<Made<'a>, NodeStep> for AtSeat {
     ghost entry = { λ m. record { node = m.node; event = m.event.now; answer = m.answer.now } };
 }
 

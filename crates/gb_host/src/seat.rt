@@ -4,9 +4,10 @@ ghost use Rattle.gb_host.specs.Happened.{HaveHappened};
 ghost use Rattle.gb_host.specs.Pasts.{AreUnseen, AreOfBooks};
 ghost use Rattle.gb_host.specs.Plans.{IsPlan};
 
-use crate::entry::{CallList, SeatEntry};
+use crate::call_list::CallList;
 use crate::names::Tapes;
 use crate::pasts::{NodeSeen, SeatPast};
+use gb_node::NodeStep;
 use gb_past::Past;
 use gb_types::limits::NODES;
 use std::alloc::Global;
@@ -19,7 +20,7 @@ pub struct Seat<L: Tapes> {
     pub(crate) number: u32,
     pub(crate) counts: [u64; NODES],
     pub(crate) calls: SeatPast,
-    pub(crate) list: Vec<SeatEntry>,
+    pub(crate) list: Vec<NodeStep>,
     pub(crate) seen: Vec<NodeSeen>,
     pub(crate) host: PhantomData<L>,
 }
@@ -58,7 +59,7 @@ impl<L: Tapes> Seat<L> {
     }
 
     /// Returns the seat's calls, the oldest first; empty if no tapes are kept.
-    pub fn mine(&self) -> &[SeatEntry]
+    pub fn mine(&self) -> &[NodeStep]
         ensures { result.now ≡ self.now.list }
     {
         self.list.as_slice()

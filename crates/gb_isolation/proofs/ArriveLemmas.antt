@@ -11,7 +11,7 @@ use Rattle.gb_alone.specs.Common.{Member, Group, alone_from}
 use Rattle.gb_node.specs.Common.{node_numbered, Happened, read, frames_to, is_ack, is_acked, is_frame, is_first, is_taken, is_stopped, tenants_in, watched, waiting_of, came_told, taken_told, told_of, living_of, IsTakenIn}
 use Rattle.gb_node.specs.declared.{answer.Good.Good, answer.NodeAnswer.TheVariants.Taken, answer.PacketAnswer.TheVariants.Good as TakenGood, event.NodeEvent.TheVariants.Packet as Brought, plan.NodePlan.NodePlan}
 use Rattle.gb_node.proofs.TookLemmas.{numbered_is}
-use Rattle.gb_cluster.specs.Common.{node_plan, Did, past_at}
+use Rattle.gb_cluster.specs.Common.{node_plan, NodeStep, past_at}
 use Rattle.gb_isolation.specs.Project.{group_items_of, group_items, offset, made_with, replies_in, is_met, comes, all_acknowledged, acknowledges, brings, arrived, is_new_frame}
 use Rattle.gb_isolation.specs.RunLaws.{is_dropped}
 use Rattle.gb_isolation.proofs.View.{View, view_of, Fits, Goes, AreMarked, frames_for, view_at, AllFit}
@@ -52,7 +52,7 @@ packet_view plan g past bytes good c is = λ i. record {
 
 -- A packet.
 
-module _ (plan : Plan) (g : Addr) (run : List Did) (a : NodeId) (bytes : List ℕ) (good : Good) (group : Group) (few : plan.nodes ≤ NODES) (inside : a.number < plan.nodes)
+module _ (plan : Plan) (g : Addr) (run : List NodeStep) (a : NodeId) (bytes : List ℕ) (good : Good) (group : Group) (few : plan.nodes ≤ NODES) (inside : a.number < plan.nodes)
     (right : IsTakenIn (node_plan plan a) (past_at a run) bytes good)
     (fresh : is_first good.frame ≡ is_new_frame plan.cluster_key (past_at a run) right.content)
     (framed : is_first good.frame ≡ true → slice_get (frames_to plan.cluster_key a.number (past_at (node_numbered right.content.from) run)) (right.content.frame - 1) ≡ Some right.content.items)

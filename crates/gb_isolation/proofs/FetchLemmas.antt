@@ -5,7 +5,7 @@ use Rattle.gb_rules.specs.Common.{fetch_answer}
 use Rattle.gb_node.specs.Common.{turn, IsTurn, NodeValue, new_node, Happened, is_stopped, tenants_in, has_group_token, is_admitted_by, admitted_answer, past_answer}
 use Rattle.gb_node.specs.Past.{ComesTo as NodeComesTo}
 use Rattle.gb_node.specs.declared.{answer.NodeAnswer.TheVariants.Reply as Replied, event.NodeEvent.NodeEvent, event.NodeEvent.TheVariants.Request as Asked, event.NodeEvent.TheVariants.Packet as Came, plan.NodePlan.NodePlan}
-use Rattle.gb_cluster.specs.Common.{NodeActs, ClusterValue, cluster, node_at, node_plan, Did, ComesTo, IsSent, past_at}
+use Rattle.gb_cluster.specs.Common.{NodeActs, ClusterValue, cluster, node_at, node_plan, NodeStep, ComesTo, IsSent, past_at}
 use Rattle.gb_cluster.proofs.NodesLemmas.{have_pasts, stays}
 use Rattle.gb_node.proofs.ReadLemmas.{reads}
 use Rattle.gb_isolation.specs.Isolation.{alone_in}
@@ -42,7 +42,7 @@ request_sent v a request bytes same is = absurd (clash same)
     clash : Asked request ≡ Came bytes → ⊥
     clash e = cc
 
-goes_on : (plan : Plan) (run : List Did) (v w : ClusterValue) (d : Did) → ComesTo plan run v → IsSent v d.node d.event → NodeActs v d.node d.event d.answer w → ComesTo plan (d ∷ run) w
+goes_on : (plan : Plan) (run : List NodeStep) (v w : ClusterValue) (d : NodeStep) → ComesTo plan run v → IsSent v d.node d.event → NodeActs v d.node d.event d.answer w → ComesTo plan (d ∷ run) w
 unfolding ComesTo
 goes_on plan run v w d comes sent acts = (v, comes, sent, acts)
 

@@ -11,7 +11,7 @@ use Rattle.gb_node.proofs.PacketLemmas.{read_one}
 use Rattle.gb_node.specs.declared.{answer.NodeAnswer.NodeAnswer, answer.Good.Good, answer.Frame.TheVariants.Nothing as NoFrame, answer.Frame.TheVariants.Outside as Beyond, event.NodeEvent.NodeEvent, answer.PacketAnswer.TheVariants.Good as TakenGood, answer.PacketAnswer.TheVariants.Fault, answer.PacketAnswer.TheVariants.Refused as TakenRefused}
 use Rattle.gb_node.specs.declared.answer.NodeAnswer.TheVariants.{Reply as Replied, Taken, Sent, Ticked, Halted}
 use Rattle.gb_node.specs.declared.event.NodeEvent.TheVariants.{Request as Asked, Packet as Came, Pack, Again, Ack, Tick, Stop}
-use Rattle.gb_cluster.specs.Common.{ClusterValue, node_plan, node_at, Did, ComesTo, past_at, NothingIsOutside, LinksHold}
+use Rattle.gb_cluster.specs.Common.{ClusterValue, node_plan, node_at, NodeStep, ComesTo, past_at, NothingIsOutside, LinksHold}
 use Rattle.gb_cluster.proofs.NodesLemmas.{stays, past_same, past_other, have_pasts}
 use Rattle.gb_cluster.proofs.LinkLemmas.{takes}
 use Rattle.gb_isolation.specs.Project.{has_come, is_new_frame}
@@ -37,7 +37,7 @@ record IsTakenOnce (key : List ℕ) (past : List Happened) (bytes : List ℕ) (g
   text : read key bytes ≡ content ∷ []
   first : is_first good.frame ≡ (not (nat_eq content.frame 0) && not (is_taken key content.from content.frame past))
 
-taken_once : NothingIsOutside → PastsSay → (plan : Plan) (run : List Did) (d : Did) (v : ClusterValue) (bytes : List ℕ) (good : Good) → ComesTo plan (d ∷ run) v → d.event ≡ Came bytes → d.answer ≡ Taken (TakenGood good)
+taken_once : NothingIsOutside → PastsSay → (plan : Plan) (run : List NodeStep) (d : NodeStep) (v : ClusterValue) (bytes : List ℕ) (good : Good) → ComesTo plan (d ∷ run) v → d.event ≡ Came bytes → d.answer ≡ Taken (TakenGood good)
     → IsTakenOnce plan.cluster_key (past_at d.node run) bytes good
 unfolding ComesTo
 taken_once inside pasts plan run d v bytes good comes event answer =
@@ -102,7 +102,7 @@ came_or_taken key past bytes good b n some once =
 
 -- a frame with a number came from a node where one was taken
 module _ (inside : NothingIsOutside) (pasts : PastsSay) (plan : Plan) where
-  came_now : (run : List Did) (d : Did) (v : ClusterValue) (b n : ℕ) → ComesTo plan (d ∷ run) v → 1 ≤ n → (event : NodeEvent) → d.event ≡ event → (answer : NodeAnswer) → d.answer ≡ answer
+  came_now : (run : List NodeStep) (d : NodeStep) (v : ClusterValue) (b n : ℕ) → ComesTo plan (d ∷ run) v → 1 ≤ n → (event : NodeEvent) → d.event ≡ event → (answer : NodeAnswer) → d.answer ≡ answer
       → (list_any (is_frame b n) (came plan.cluster_key event answer) || is_taken plan.cluster_key b n (past_at d.node run)) ≡ (is_taken_by plan.cluster_key b n event answer || is_taken plan.cluster_key b n (past_at d.node run))
   came_now run d v b n comes some (Came bytes) event (Taken (TakenGood good)) answer =
       came_or_taken plan.cluster_key (past_at d.node run) bytes good b n some (taken_once inside pasts plan run d v bytes good comes event answer)
@@ -119,7 +119,7 @@ module _ (inside : NothingIsOutside) (pasts : PastsSay) (plan : Plan) where
   came_now run d v b n comes some Tick event x answer = refl
   came_now run d v b n comes some Stop event x answer = refl
 
-  pub come_is_taken : (run : List Did) (v : ClusterValue) → ComesTo plan run v → (a : NodeId) (b n : ℕ) → 1 ≤ n → has_come plan.cluster_key b n (past_at a run) ≡ is_taken plan.cluster_key b n (past_at a run)
+  pub come_is_taken : (run : List NodeStep) (v : ClusterValue) → ComesTo plan run v → (a : NodeId) (b n : ℕ) → 1 ≤ n → has_come plan.cluster_key b n (past_at a run) ≡ is_taken plan.cluster_key b n (past_at a run)
   unfolding ComesTo past_at has_come is_taken
   come_is_taken [] v comes a b n some = refl
   come_is_taken (d ∷ run) v comes a b n some =
@@ -137,7 +137,7 @@ module _ (inside : NothingIsOutside) (pasts : PastsSay) (plan : Plan) where
       ]
 
 -- the frame is taken for the first time where it is new
-pub first_is_new : NothingIsOutside → LinksHold → PastsSay → (plan : Plan) (run : List Did) (d : Did) (v : ClusterValue) (bytes : List ℕ) (good : Good) (c : Content) → ComesTo plan (d ∷ run) v → d.event ≡ Came bytes → d.answer ≡ Taken (TakenGood good)
+pub first_is_new : NothingIsOutside → LinksHold → PastsSay → (plan : Plan) (run : List NodeStep) (d : NodeStep) (v : ClusterValue) (bytes : List ℕ) (good : Good) (c : Content) → ComesTo plan (d ∷ run) v → d.event ≡ Came bytes → d.answer ≡ Taken (TakenGood good)
     → read plan.cluster_key bytes ≡ c ∷ [] → is_first good.frame ≡ is_new_frame plan.cluster_key (past_at d.node run) c
 unfolding ComesTo
 first_is_new inside links pasts plan run d v bytes good c comes event answer text =

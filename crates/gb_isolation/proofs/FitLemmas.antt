@@ -6,7 +6,7 @@ use Rattle.gb_frame.specs.Common.{Content, items_for, item_for}
 use Rattle.gb_node.specs.Common.{Happened, read, frames_to, packed_for, waiting_of, told_of, IsAnswered, IsPacked, AnswersSay}
 use Rattle.gb_node.specs.Past.{ComesTo as NodeComesTo}
 use Rattle.gb_node.specs.declared.{answer.NodeAnswer.NodeAnswer, answer.NodeAnswer.TheVariants.Sent, answer.Sent.TheVariants.Packet as SentPacket, event.NodeEvent.NodeEvent, event.NodeEvent.TheVariants.Pack, plan.NodePlan.NodePlan}
-use Rattle.gb_cluster.specs.Common.{ClusterValue, node_plan, node_at, Did, ComesTo, past_at}
+use Rattle.gb_cluster.specs.Common.{ClusterValue, node_plan, node_at, NodeStep, ComesTo, past_at}
 use Rattle.gb_cluster.proofs.{HonestLemmas.get_either, NodesLemmas.have_pasts, NodesLemmas.past_same, NodesLemmas.past_other}
 use Rattle.gb_isolation.proofs.DoneLemmas.{IsOfNode}
 
@@ -43,7 +43,7 @@ packed_fit plan g past (Pack y) (Sent (SentPacket text)) right b j f is = by (na
 packed_fit plan g past e x right b j f is = absurd (cc)
 
 -- so the items of every frame of a run
-pub frames_fit : AnswersSay → (plan : Plan) (g : Addr) (run : List Did) (v : ClusterValue) → ComesTo plan run v → (x : NodeId) → x.number < plan.nodes → (b k : ℕ) (f : List Item)
+pub frames_fit : AnswersSay → (plan : Plan) (g : Addr) (run : List NodeStep) (v : ClusterValue) → ComesTo plan run v → (x : NodeId) → x.number < plan.nodes → (b k : ℕ) (f : List Item)
     → slice_get (frames_to plan.cluster_key b (past_at x run)) k ≡ Some f → All IsOfNode (items_for g f)
 unfolding ComesTo past_at frames_to
 frames_fit answers plan g [] v comes x inside b k f is = absurd (cc)

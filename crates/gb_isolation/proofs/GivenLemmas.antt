@@ -15,7 +15,7 @@ use Rattle.gb_node.specs.Common.{has_group_token, node_numbered, if_done, Happen
 use Rattle.gb_node.specs.declared.{answer.NodeAnswer.NodeAnswer, answer.PacketAnswer.TheVariants.Good as TakenGood, answer.Sent.TheVariants.Packet as SentPacket, answer.Ticked.TheVariants.Noticed, event.NodeEvent.NodeEvent, plan.NodePlan.NodePlan}
 use Rattle.gb_node.specs.declared.answer.NodeAnswer.TheVariants.{Reply as Replied, Taken, Sent, Ticked}
 use Rattle.gb_node.specs.declared.event.NodeEvent.TheVariants.{Request as Asked, Packet as Brought, Pack, Tick}
-use Rattle.gb_cluster.specs.Common.{node_plan, Did, past_at}
+use Rattle.gb_cluster.specs.Common.{node_plan, NodeStep, past_at}
 use Rattle.gb_isolation.specs.Project.{group_items, group_items_of, offset, is_named, is_own_request, event_of, command_for, makes, made_by, made_with, notices, tenant_given, other_given, is_met, with_stop, if_any, comes, all_acknowledged, is_new_ack, is_new_frame, acknowledges, brings, arrived, ticked, gives}
 use Rattle.gb_isolation.proofs.NoticeLemmas.{notices_of, notices_there, notices_keep}
 use Rattle.gb_isolation.proofs.GoesLemmas.{after_there}
@@ -69,7 +69,7 @@ carried_all g a b test n before (f ∷ fs) =
     ])
     (carried_all g a b test (n + 1) (before + length (group_items g f)) fs)
 
-carried_arrived : (plan : Plan) (g : Addr) (run : List Did) (a : NodeId) (c : Content) → AllAre (IsCarried a) (arrived plan g run a c)
+carried_arrived : (plan : Plan) (g : Addr) (run : List NodeStep) (a : NodeId) (c : Content) → AllAre (IsCarried a) (arrived plan g run a c)
 carried_arrived plan g run a c =
     all_both (IsCarried a) (acknowledges plan g (past_at a run) a c) (if is_new_frame plan.cluster_key (past_at a run) c then brings plan g run a c else [])
     (carried_all g a (node_numbered c.from) (is_new_ack plan.cluster_key (past_at a run) c) 1 0 (frames_to plan.cluster_key c.from (past_at a run)))
@@ -78,7 +78,7 @@ carried_arrived plan g run a c =
       | false ↦ tt
     ])
 
-pub carried_packets : (plan : Plan) (g : Addr) (run : List Did) (a : NodeId) (cs : List Content) → AllAre (IsCarried a) (flat_map (arrived plan g run a) cs)
+pub carried_packets : (plan : Plan) (g : Addr) (run : List NodeStep) (a : NodeId) (cs : List Content) → AllAre (IsCarried a) (flat_map (arrived plan g run a) cs)
 carried_packets plan g run a cs = all_flat (IsCarried a) (arrived plan g run a) (carried_arrived plan g run a) cs
 
 -- Where.
@@ -142,7 +142,7 @@ at_asked plan g past request reply = by (is_stopped past) (is_own_request plan.m
     by false false = beside [] tt
 
 -- what an event gives happens where the event does
-pub given_at : (plan : Plan) (g : Addr) (run : List Did) (a : NodeId) (e : NodeEvent) (x : NodeAnswer) → AllAre (IsAt a) (gives plan g run a e x)
+pub given_at : (plan : Plan) (g : Addr) (run : List NodeStep) (a : NodeId) (e : NodeEvent) (x : NodeAnswer) → AllAre (IsAt a) (gives plan g run a e x)
 given_at plan g run a (Asked request) (Replied reply) = at_asked (node_plan plan a) g (past_at a run) request reply
 given_at plan g run a (Pack b) (Sent (SentPacket text)) =
     let k : ℕ = length (group_items_of g (map (λ (c : Content). c.items) (read plan.cluster_key text))) in at_carried a (if_any a k (Took b k)) (carried_any a k (Took b k) refl)
@@ -265,7 +265,7 @@ ticked_due bounds addr a found None group made = tt
 ticked_due bounds addr a found (Some spec) group made = notices_due bounds addr a (filter (λ b. is_other spec a.number b && found b) (range_with_len 0 NODES)) group (ap is_some made)
 
 -- the notices that an event gives come where the group was made
-pub given_due : (plan : Plan) (g : Addr) (run : List Did) (group : Group) (a : NodeId) (e : NodeEvent) (x : NodeAnswer) → (group a.number).spec ≡ made_with g (past_at a run)
+pub given_due : (plan : Plan) (g : Addr) (run : List NodeStep) (group : Group) (a : NodeId) (e : NodeEvent) (x : NodeAnswer) → (group a.number).spec ≡ made_with g (past_at a run)
     → (alone_from (bounds_of plan) g group (gives plan g run a e x) a.number).spec ≡ made_with g (record { event = e; answer = x } ∷ past_at a run) → AreDue (bounds_of plan) g group (gives plan g run a e x)
 given_due plan g run group a (Asked request) (Replied reply) before now = asked_due (bounds_of plan) (node_plan plan a) g (past_at a run) group request reply now
 given_due plan g run group a (Pack b) (Sent (SentPacket text)) before now =

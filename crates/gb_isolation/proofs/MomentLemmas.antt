@@ -5,7 +5,7 @@ use Rattle.gb_frame.specs.declared.item.Item.{Item}
 use Rattle.gb_alone.specs.Common.{Group, nobody, after, alone, alone_from}
 use Rattle.gb_alone.specs.declared.event.GroupStep.{GroupStep}
 use Rattle.gb_duties.proofs.NoticeLemmas.{AllMarked, run_marked, nobody_marked}
-use Rattle.gb_cluster.specs.Common.{ClusterValue, Did, ComesTo, past_at}
+use Rattle.gb_cluster.specs.Common.{ClusterValue, NodeStep, ComesTo, past_at}
 use Rattle.gb_cluster.proofs.NodesLemmas.{stays, past_same, past_other}
 use Rattle.gb_isolation.specs.Project.{group_items, group_items_of, offset, made_with, gives, project, is_starved_by, is_fed}
 use Rattle.gb_isolation.proofs.GivenLemmas.{given_due}
@@ -13,28 +13,28 @@ use Rattle.gb_isolation.proofs.View.{BehavesAlone}
 
 -- each group of every run behaves as it does alone
 abbrev pub AllBehave : Type 0
-AllBehave = (plan : Plan) (g : Addr) (run : List Did) (v : ClusterValue) → ComesTo plan run v → is_fed g run ≡ true → BehavesAlone plan g run
+AllBehave = (plan : Plan) (g : Addr) (run : List NodeStep) (v : ClusterValue) → ComesTo plan run v → is_fed g run ≡ true → BehavesAlone plan g run
 
-pub fed_before : (plan : Plan) (g : Addr) (d : Did) (run : List Did) → is_fed g (d ∷ run) ≡ true → is_fed g run ≡ true
+pub fed_before : (plan : Plan) (g : Addr) (d : NodeStep) (run : List NodeStep) → is_fed g (d ∷ run) ≡ true → is_fed g run ≡ true
 unfolding is_fed
 fed_before plan g d run fed = (and_parts (not (is_starved_by d.node g (past_at d.node run) d.event d.answer)) (is_fed g run) fed).1
 
-pub fed_back : (plan : Plan) (g : Addr) (later earlier : List Did) → is_fed g (later ++ earlier) ≡ true → is_fed g earlier ≡ true
+pub fed_back : (plan : Plan) (g : Addr) (later earlier : List NodeStep) → is_fed g (later ++ earlier) ≡ true → is_fed g earlier ≡ true
 fed_back plan g [] earlier fed = fed
 fed_back plan g (d ∷ later) earlier fed = fed_back plan g later earlier (fed_before plan g d (later ++ earlier) fed)
 
-pub back : (plan : Plan) (later earlier : List Did) (v : ClusterValue) → ComesTo plan (later ++ earlier) v → (w : ClusterValue) × ComesTo plan earlier w
+pub back : (plan : Plan) (later earlier : List NodeStep) (v : ClusterValue) → ComesTo plan (later ++ earlier) v → (w : ClusterValue) × ComesTo plan earlier w
 unfolding ComesTo
 back plan [] earlier v comes = (v, comes)
 back plan (d ∷ later) earlier v comes = back plan later earlier comes.0 comes.1
 
 -- what happens happens at nodes of the cluster
-pub placed : (plan : Plan) (d : Did) (run : List Did) (v : ClusterValue) → ComesTo plan (d ∷ run) v → d.node.number < plan.nodes
+pub placed : (plan : Plan) (d : NodeStep) (run : List NodeStep) (v : ClusterValue) → ComesTo plan (d ∷ run) v → d.node.number < plan.nodes
 unfolding ComesTo
 placed plan d run v comes = let at = comes.3.placed in let count = (stays plan run comes.0 comes.1).count in omega (arith, at, count)
 
 -- a group is made at nodes of the cluster
-pub made_inside : (plan : Plan) (g : Addr) (run : List Did) (v : ClusterValue) → ComesTo plan run v → (a : NodeId) (spec : Spec) → made_with g (past_at a run) ≡ Some spec → a.number < plan.nodes
+pub made_inside : (plan : Plan) (g : Addr) (run : List NodeStep) (v : ClusterValue) → ComesTo plan run v → (a : NodeId) (spec : Spec) → made_with g (past_at a run) ≡ Some spec → a.number < plan.nodes
 unfolding past_at made_with ComesTo
 made_inside plan g [] v comes a spec made = absurd (cc)
 made_inside plan g (d ∷ run) v comes a spec made = by (made_inside plan g run comes.0 comes.1 a spec) (cases_eq d.node.number a.number)
@@ -46,11 +46,11 @@ made_inside plan g (d ∷ run) v comes a spec made = by (made_inside plan g run 
 -- The projection.
 
 -- what a run goes on with goes on in its projection
-pub record Continues (plan : Plan) (g : Addr) (later earlier : List Did) : Type 0 where
+pub record Continues (plan : Plan) (g : Addr) (later earlier : List NodeStep) : Type 0 where
   pub rest : List GroupStep
   pub whole : project plan g (later ++ earlier) ≡ project plan g earlier ++ rest
 
-pub project_continues : (plan : Plan) (g : Addr) (later earlier : List Did) → Continues plan g later earlier
+pub project_continues : (plan : Plan) (g : Addr) (later earlier : List NodeStep) → Continues plan g later earlier
 unfolding project
 project_continues plan g [] earlier = record { rest = []; whole = sym (append-nil (project plan g earlier)) }
 project_continues plan g (d ∷ later) earlier =
@@ -59,7 +59,7 @@ project_continues plan g (d ∷ later) earlier =
     record { rest = more.rest ++ given; whole = ap (λ xs. xs ++ given) more.whole ∙ append_assoc (project plan g earlier) more.rest given }
 
 -- the group's notices are marked as it is told of them
-pub marked : AllBehave → (plan : Plan) (g : Addr) (run : List Did) (v : ClusterValue) → ComesTo plan run v → is_fed g run ≡ true → AllMarked (alone (bounds_of plan) g (project plan g run))
+pub marked : AllBehave → (plan : Plan) (g : Addr) (run : List NodeStep) (v : ClusterValue) → ComesTo plan run v → is_fed g run ≡ true → AllMarked (alone (bounds_of plan) g (project plan g run))
 unfolding ComesTo project
 marked behave plan g [] v comes fed = nobody_marked
 marked behave plan g (d ∷ run) v comes fed =

@@ -3,7 +3,7 @@ use Rattle.gb_types.specs.Common.{◌≡◌, true, false, Bool, List, [], ◌++�
 use Rattle.gb_types.specs.declared.{refusal.Refusal.Refusal, reply.Reply.Reply, reply.Reply.TheVariants.Refused, request.Request.Request, request.Action.Action}
 use Rattle.gb_node.specs.Common.{node_did, running_turn, stopped_answer, turn, IsTurn, NodeValue, new_node}
 use Rattle.gb_node.specs.declared.{answer.NodeAnswer.NodeAnswer, answer.NodeAnswer.TheVariants.Reply as Replied, event.NodeEvent.NodeEvent, event.NodeEvent.TheVariants.Request as Asked}
-use Rattle.gb_cluster.specs.Common.{NodeActs, ClusterValue, cluster, node_at, node_plan, Did, ComesTo}
+use Rattle.gb_cluster.specs.Common.{NodeActs, ClusterValue, cluster, node_at, node_plan, NodeStep, ComesTo}
 use Rattle.gb_cluster.proofs.EndLemmas.{one_end}
 use Rattle.gb_isolation.specs.RunLaws.{RefusalsChangeNothing}
 
@@ -21,7 +21,7 @@ node_same old new request why (inr went) = went.1 ∙ by old.stopped refl
         ap (λ b. (if b then record { value = old; answer = stopped_answer (Asked request) } else running_turn old (Asked request)).value) is
         ∙ refused_same request.what why old _ (went.0 ∙ ap (λ b. (if b then record { value = old; answer = stopped_answer (Asked request) } else running_turn old (Asked request)).answer) is)
 
-acts_same : (old new : ClusterValue) (d : Did) (request : Request) (why : Refusal) → d.event ≡ Asked request → d.answer ≡ Replied (Refused why) → NodeActs old d.node d.event d.answer new → new ≡ old
+acts_same : (old new : ClusterValue) (d : NodeStep) (request : Request) (why : Refusal) → d.event ≡ Asked request → d.answer ≡ Replied (Refused why) → NodeActs old d.node d.event d.answer new → new ≡ old
 acts_same old new d request why asked refused acts = by (subst (λ (e : NodeEvent). NodeActs old d.node e (Replied (Refused why)) new) asked (subst (λ (x : NodeAnswer). NodeActs old d.node d.event x new) refused acts))
   where
     by : NodeActs old d.node (Asked request) (Replied (Refused why)) new → new ≡ old

@@ -10,7 +10,7 @@ use Rattle.gb_duties.specs.Agreement.{IsRunning, AreEnough, IsSettled, IsAgreed,
 use Rattle.gb_duties.proofs.FlowLemmas.{nobody_flows, run_flows, legal_parts, made_stays}
 use Rattle.gb_duties.proofs.{NoticeLemmas.AllMarked, SeenLemmas.noticed_seen, SeenLemmas.seen_noticed, SeenLemmas.agreement_seen}
 use Rattle.gb_node.specs.Common.{waiting_at, node_numbered, frames_to, is_taken}
-use Rattle.gb_cluster.specs.Common.{ClusterValue, node_at, Did, ComesTo, past_at}
+use Rattle.gb_cluster.specs.Common.{ClusterValue, node_at, NodeStep, ComesTo, past_at}
 use Rattle.gb_types.proofs.BoolLemmas.{and_both}
 use Rattle.gb_cluster.proofs.NodesLemmas.{stays}
 use Rattle.gb_isolation.specs.Isolation.{Seen, IsIsolated, GroupsAreIsolated}
@@ -22,7 +22,7 @@ use Rattle.gb_isolation.proofs.NoticeLemmas.{numbered_is}
 use Rattle.gb_isolation.proofs.RunDutyLemmas.{inside, noticed_is}
 use Rattle.gb_isolation.proofs.RunIntegrityLemmas.{accepted_same}
 
-module _ (isolated : GroupsAreIsolated) (behave : AllBehave) (plan : Plan) (run : List Did) (v : ClusterValue) (comes : ComesTo plan run v) (g : Addr) (fed : is_fed g run ≡ true) (runs : ℕ → Bool) (spec : Spec) (settled : IsSettledIn plan run v g runs spec) where
+module _ (isolated : GroupsAreIsolated) (behave : AllBehave) (plan : Plan) (run : List NodeStep) (v : ClusterValue) (comes : ComesTo plan run v) (g : Addr) (fed : is_fed g run ≡ true) (runs : ℕ → Bool) (spec : Spec) (settled : IsSettledIn plan run v g runs spec) where
   abbrev nodes : ℕ
   nodes = plan.nodes
 
@@ -50,10 +50,10 @@ module _ (isolated : GroupsAreIsolated) (behave : AllBehave) (plan : Plan) (run 
   -- The moment before the first message was accepted.
 
   was : (w : ClusterValue) × ComesTo plan settled.earlier w
-  was = back plan settled.later settled.earlier v (subst (λ (r : List Did). ComesTo plan r v) settled.moment comes)
+  was = back plan settled.later settled.earlier v (subst (λ (r : List NodeStep). ComesTo plan r v) settled.moment comes)
 
   fed_then : is_fed g settled.earlier ≡ true
-  fed_then = fed_back plan g settled.later settled.earlier (subst (λ (r : List Did). is_fed g r ≡ true) settled.moment fed)
+  fed_then = fed_back plan g settled.later settled.earlier (subst (λ (r : List NodeStep). is_fed g r ≡ true) settled.moment fed)
 
   behaved : BehavesAlone plan g settled.earlier
   behaved = behave plan g settled.earlier was.0 was.1 fed_then

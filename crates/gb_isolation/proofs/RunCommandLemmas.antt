@@ -12,7 +12,7 @@ use Rattle.gb_node.specs.Common.{has_group_token, Happened, read, is_stopped, te
 use Rattle.gb_node.specs.declared.{answer.NodeAnswer.NodeAnswer, answer.PacketAnswer.TheVariants.Good as TakenGood, answer.Sent.TheVariants.Packet as SentPacket, answer.Ticked.TheVariants.Noticed, event.NodeEvent.NodeEvent, plan.NodePlan.NodePlan}
 use Rattle.gb_node.specs.declared.answer.NodeAnswer.TheVariants.{Reply as Replied, Taken, Sent, Ticked}
 use Rattle.gb_node.specs.declared.event.NodeEvent.TheVariants.{Request as Asked, Packet as Brought, Pack, Tick}
-use Rattle.gb_cluster.specs.Common.{node_plan, Did, past_at}
+use Rattle.gb_cluster.specs.Common.{node_plan, NodeStep, past_at}
 use Rattle.gb_cluster.proofs.NodesLemmas.{past_same, past_other}
 use Rattle.gb_isolation.specs.Project.{event_of, group_items_of, is_named, is_own_request, command_for, made_by, made_with, tenant_given, other_given, is_met, with_stop, if_any, arrived, ticked, gives, project, reply_in, replies_in}
 use Rattle.gb_isolation.specs.RunLaws.{said_by, accepted_by, accepted_in_past}
@@ -76,7 +76,7 @@ reply_pairs plan g past request reply =
 none_paired : (es : List GroupEvent) → es ≡ [] → Pairs es [] []
 none_paired es none = subst (λ xs. Pairs xs [] []) (sym none) no_pairs
 
-given_pairs : (plan : Plan) (g : Addr) (run : List Did) (a : NodeId) (e : NodeEvent) (x : NodeAnswer)
+given_pairs : (plan : Plan) (g : Addr) (run : List NodeStep) (a : NodeId) (e : NodeEvent) (x : NodeAnswer)
     → Pairs (commands a.number (gives plan g run a e x)) (reply_in a g (past_at a run) e x) (accepted_by (node_plan plan a) g (past_at a run) e x)
 unfolding commands
 given_pairs plan g run a (Asked request) (Replied reply) = reply_pairs (node_plan plan a) g (past_at a run) request reply
@@ -92,7 +92,7 @@ given_pairs plan g run a Tick (Ticked (Noticed found)) =
 given_pairs plan g run a e x = no_pairs
 
 -- the commands of the projection at a node are those that have the replies there, and so it says what was accepted
-pub run_pairs : (plan : Plan) (g : Addr) (a : NodeId) (run : List Did) → Pairs (commands a.number (project plan g run)) (replies_in a g (past_at a run)) (accepted_in_past (node_plan plan a) g (past_at a run))
+pub run_pairs : (plan : Plan) (g : Addr) (a : NodeId) (run : List NodeStep) → Pairs (commands a.number (project plan g run)) (replies_in a g (past_at a run)) (accepted_in_past (node_plan plan a) g (past_at a run))
 unfolding commands project replies_in accepted_in_past past_at
 run_pairs plan g a [] = no_pairs
 run_pairs plan g a (d ∷ run) = by (cases_eq d.node.number a.number) (run_pairs plan g a run)

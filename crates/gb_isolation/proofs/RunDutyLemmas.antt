@@ -9,7 +9,7 @@ use Rattle.gb_alone.specs.Common.{Group, nobody, alone, is_marked}
 use Rattle.gb_alone.proofs.InsideLemmas.{run_inside}
 use Rattle.gb_duties.specs.Duties.{HasHad, KeepsDuties, IsDutiful, DeliveredAreOfMembers, LoggedAreDelivered, noticed_at, delivered_at}
 use Rattle.gb_duties.proofs.{NoticeLemmas.AllMarked, SeenLemmas.duties_seen}
-use Rattle.gb_cluster.specs.Common.{ClusterValue, node_plan, Did, past_at}
+use Rattle.gb_cluster.specs.Common.{ClusterValue, node_plan, NodeStep, past_at}
 use Rattle.gb_cluster.proofs.NodesLemmas.{stays}
 use Rattle.gb_isolation.specs.Isolation.{Seen, seen_in, IsIsolated, GroupsAreIsolated}
 use Rattle.gb_isolation.specs.Project.{project, made_with}
@@ -24,7 +24,7 @@ pub record DutyLaws : Type 0 where
   pub members : DeliveredAreOfMembers
   pub logged : LoggedAreDelivered
 
-module _ (plan : Plan) (run : List Did) (v : ClusterValue) (g : Addr) (few : plan.nodes ≤ NODES) (least : SILENCE_MIN ≤ plan.silence) (alike : IsIsolated plan run v g) (behaves : BehavesAlone plan g run) (told : AllMarked (alone (bounds_of plan) g (project plan g run))) where
+module _ (plan : Plan) (run : List NodeStep) (v : ClusterValue) (g : Addr) (few : plan.nodes ≤ NODES) (least : SILENCE_MIN ≤ plan.silence) (alike : IsIsolated plan run v g) (behaves : BehavesAlone plan g run) (told : AllMarked (alone (bounds_of plan) g (project plan g run))) where
   abbrev group : Group
   group = alone (bounds_of plan) g (project plan g run)
 

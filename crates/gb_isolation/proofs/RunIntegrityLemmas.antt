@@ -6,7 +6,7 @@ use Rattle.gb_alone.specs.declared.event.GroupStep.{GroupStep}
 use Rattle.gb_alone.proofs.CommandLemmas.{commands, paired, Pairs, replies_from, run_replies, alone_pairs}
 use Rattle.gb_alone.proofs.InsideLemmas.{none_beyond}
 use Rattle.gb_node.specs.Common.{node_numbered}
-use Rattle.gb_cluster.specs.Common.{ClusterValue, node_plan, Did, past_at}
+use Rattle.gb_cluster.specs.Common.{ClusterValue, node_plan, NodeStep, past_at}
 use Rattle.gb_cluster.proofs.NodesLemmas.{stays}
 use Rattle.gb_isolation.specs.Isolation.{Seen, seen_in, IsIsolated, GroupsAreIsolated}
 use Rattle.gb_isolation.specs.Project.{project}
@@ -15,7 +15,7 @@ use Rattle.gb_isolation.proofs.MomentLemmas.{AllBehave}
 use Rattle.gb_isolation.proofs.NoticeLemmas.{numbered_is}
 use Rattle.gb_isolation.proofs.RunCommandLemmas.{run_pairs}
 
-module _ (plan : Plan) (run : List Did) (v : ClusterValue) (g : Addr) (few : plan.nodes ≤ NODES) (isolated : IsIsolated plan run v g) where
+module _ (plan : Plan) (run : List NodeStep) (v : ClusterValue) (g : Addr) (few : plan.nodes ≤ NODES) (isolated : IsIsolated plan run v g) where
   abbrev steps : List GroupStep
   steps = project plan g run
 

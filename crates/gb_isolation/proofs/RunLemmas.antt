@@ -12,7 +12,7 @@ use Rattle.gb_node.specs.Past.{ComesTo as NodeComesTo}
 use Rattle.gb_node.specs.declared.{answer.Good.Good, answer.NodeAnswer.NodeAnswer, answer.PacketAnswer.TheVariants.Good as TakenGood, answer.Sent.TheVariants.Packet as SentPacket, answer.Ticked.TheVariants.Noticed, event.NodeEvent.NodeEvent, plan.NodePlan.NodePlan}
 use Rattle.gb_node.specs.declared.answer.NodeAnswer.TheVariants.{Reply as Replied, Taken, Sent, Ticked}
 use Rattle.gb_node.specs.declared.event.NodeEvent.TheVariants.{Request as Asked, Packet as Brought, Pack, Tick}
-use Rattle.gb_cluster.specs.Common.{ClusterValue, node_plan, node_at, IsAlwaysWhole, LinksHold, Did, ComesTo, past_at}
+use Rattle.gb_cluster.specs.Common.{ClusterValue, node_plan, node_at, IsAlwaysWhole, LinksHold, NodeStep, ComesTo, past_at}
 use Rattle.gb_cluster.proofs.NodesLemmas.{Stays, stays, have_pasts, past_same, past_other}
 use Rattle.gb_isolation.specs.Project.{made_by, gives, project, group_items_of, is_fed, is_starved_by, is_new_frame, made_with, replies_in, is_met}
 use Rattle.gb_isolation.specs.RunLaws.{is_dropped, is_dropped_by}
@@ -97,10 +97,10 @@ not_replied g request x n no_reply = (refl, refl, refl, refl)
 pub record Laws : Type 0 where
   pub answers : AnswersSay
   pub links : LinksHold
-  pub new : (plan : Plan) (run : List Did) (a : NodeId) (bytes : List ℕ) (good : Good) (v : ClusterValue) (c : Content) → ComesTo plan (record { node = a; event = Brought bytes; answer = Taken (TakenGood good) } ∷ run) v → read plan.cluster_key bytes ≡ c ∷ []
+  pub new : (plan : Plan) (run : List NodeStep) (a : NodeId) (bytes : List ℕ) (good : Good) (v : ClusterValue) (c : Content) → ComesTo plan (record { node = a; event = Brought bytes; answer = Taken (TakenGood good) } ∷ run) v → read plan.cluster_key bytes ≡ c ∷ []
       → is_first good.frame ≡ is_new_frame plan.cluster_key (past_at a run) c
 
-module _ (laws : Laws) (plan : Plan) (g : Addr) (run : List Did) (before : ClusterValue) (comes : ComesTo plan run before) (was : BehavesAlone plan g run) where
+module _ (laws : Laws) (plan : Plan) (g : Addr) (run : List NodeStep) (before : ClusterValue) (comes : ComesTo plan run before) (was : BehavesAlone plan g run) where
   abbrev group : Group
   group = alone (bounds_of plan) g (project plan g run)
 
@@ -189,7 +189,7 @@ module _ (laws : Laws) (plan : Plan) (g : Addr) (run : List Did) (before : Clust
     fits = λ b inside. subst (λ (q : Group). Fits plan.nodes g b.number (frames_for plan (d ∷ run) b) (view_at plan g (d ∷ run) b) (q b.number)) (sym on) (by b inside (cases_eq a.number b.number));
   }
     where
-      d : Did
+      d : NodeStep
       d = record { node = a; event = e; answer = x }
 
       later : Group
@@ -262,7 +262,7 @@ module _ (laws : Laws) (plan : Plan) (g : Addr) (run : List Did) (before : Clust
       by b inside (inr other) = elsewhere b inside other
 
 -- every group that had no request refused for want of memory behaves so in every run
-pub behaves : Laws → (plan : Plan) (g : Addr) (run : List Did) (v : ClusterValue) → ComesTo plan run v → is_fed g run ≡ true → BehavesAlone plan g run
+pub behaves : Laws → (plan : Plan) (g : Addr) (run : List NodeStep) (v : ClusterValue) → ComesTo plan run v → is_fed g run ≡ true → BehavesAlone plan g run
 unfolding ComesTo is_fed project
 behaves laws plan g [] v comes fed = record { legal = tt; fits = new_fits plan g }
 behaves laws plan g (d ∷ run) v comes fed =

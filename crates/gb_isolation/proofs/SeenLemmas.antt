@@ -5,7 +5,7 @@ use Rattle.gb_types.specs.declared.{address.Addr.Addr, entry.Entry.Entry, plan.P
 use Rattle.gb_frame.specs.Common.{item_for, items_for}
 use Rattle.gb_frame.specs.declared.item.Item.{Item}
 use Rattle.gb_node.specs.Common.{waiting_at, frames_to}
-use Rattle.gb_cluster.specs.Common.{ClusterValue, node_at, Did, past_at}
+use Rattle.gb_cluster.specs.Common.{ClusterValue, node_at, NodeStep, past_at}
 use Rattle.gb_isolation.specs.Isolation.{Seen, AreSpelt, IsIsolated, IsSeenAlone, alone_in, carried_alone}
 use Rattle.gb_isolation.specs.Project.{group_items, group_items_of}
 
@@ -23,7 +23,7 @@ items_spelt g (f ∷ fs) spelt =
     ∙ (ap (λ (is : List Item). map (item_for g) (group_items g f) ++ is) (items_spelt g fs spelt.1)
     ∙ sym (map-append (item_for g) (group_items g f) (group_items_of g fs))))
 
-pub is_seen_alone : (plan : Plan) (run : List Did) (v : ClusterValue) (g : Addr) → IsIsolated plan run v g → IsSeenAlone plan run g
+pub is_seen_alone : (plan : Plan) (run : List NodeStep) (v : ClusterValue) (g : Addr) → IsIsolated plan run v g → IsSeenAlone plan run g
 is_seen_alone plan run v g alike = record {
   legal = alike.legal;
   replies = λ a in_a. ap (λ (s : Seen). s.replies) (alike.same a a in_a in_a);

@@ -8,7 +8,7 @@ use Rattle.gb_alone.specs.Common.{Member, log_at, log_of_member}
 use Rattle.gb_node.specs.Common.{shown_at, waiting_at, NodeValue, Happened, read, frames_to, packed_for, Told, shown_in, told_of, waiting_of, IsAnswered, AnswersSay, IsOfPast, PastsSay}
 use Rattle.gb_node.specs.Past.{ComesTo as NodeComesTo}
 use Rattle.gb_node.specs.declared.{plan.NodePlan.NodePlan, answer.NodeAnswer.NodeAnswer, answer.NodeAnswer.TheVariants.Sent, answer.Sent.TheVariants.Packet as SentPacket, event.NodeEvent.NodeEvent, event.NodeEvent.TheVariants.Pack}
-use Rattle.gb_cluster.specs.Common.{ClusterValue, node_plan, node_at, Did, ComesTo, past_at}
+use Rattle.gb_cluster.specs.Common.{ClusterValue, node_plan, node_at, NodeStep, ComesTo, past_at}
 use Rattle.gb_cluster.proofs.NodesLemmas.{have_pasts}
 use Rattle.gb_isolation.specs.Isolation.{log_in, AreSpelt, IsIsolated, GroupsAreIsolated, alone_in}
 use Rattle.gb_isolation.specs.Project.{group_items, group_items_of}
@@ -54,7 +54,7 @@ frames_spelt law plan (h ∷ past) v g b comes =
         one false = tt
     by e x answered = tt
 
-pub isolated : PastsSay → AnswersSay → (plan : Plan) (run : List Did) (v : ClusterValue) → ComesTo plan run v → (g : Addr) → BehavesAlone plan g run → IsIsolated plan run v g
+pub isolated : PastsSay → AnswersSay → (plan : Plan) (run : List NodeStep) (v : ClusterValue) → ComesTo plan run v → (g : Addr) → BehavesAlone plan g run → IsIsolated plan run v g
 isolated pasts answers plan run v comes g alike = record {
   legal = alike.legal;
   same = λ a b in_a in_b.

@@ -6,7 +6,7 @@ use Rattle.gb_detect.specs.Watch.{due}
 use Rattle.gb_node.specs.Common.{running_turn, stopped_answer, IsStarved, IsTurn, NodeValue, Happened, is_stopped, noticed_after, PastsSay, AnswersSay, IsTicked}
 use Rattle.gb_node.specs.Past.{ComesTo as NodeComesTo}
 use Rattle.gb_node.specs.declared.{answer.NodeAnswer.NodeAnswer, answer.NodeAnswer.TheVariants.Ticked, answer.Ticked.TheVariants.Noticed, event.NodeEvent.NodeEvent, event.NodeEvent.TheVariants.Tick}
-use Rattle.gb_cluster.specs.Common.{ClusterValue, IsClusterPlan, node_at, node_plan, Did, ComesTo, past_at}
+use Rattle.gb_cluster.specs.Common.{ClusterValue, IsClusterPlan, node_at, node_plan, NodeStep, ComesTo, past_at}
 use Rattle.gb_cluster.proofs.NodesLemmas.{have_pasts, past_same, stays}
 use Rattle.gb_isolation.specs.RunLaws.{AnswersNewNotices, TicksAnswerNewNotices, is_noticed_in}
 use Rattle.gb_isolation.proofs.MomentLemmas.{placed}
@@ -24,12 +24,12 @@ fresh_only true false later fresh is = let yes : later ≡ true = is in ap (λ t
 fresh_only false true later fresh is = let yes : later ≡ true = is in ap (λ t. t && false) (sym yes)
 fresh_only false false later fresh is = let no : later ≡ false = is in ap (λ t. t && true) (sym no)
 
-new_notices : PastsSay → AnswersSay → (plan : Plan) (earlier : List Did) (a : NodeId) (answer : NodeAnswer) (v : ClusterValue) → ComesTo plan (record { node = a; event = Tick; answer = answer } ∷ earlier) v
+new_notices : PastsSay → AnswersSay → (plan : Plan) (earlier : List NodeStep) (a : NodeId) (answer : NodeAnswer) (v : ClusterValue) → ComesTo plan (record { node = a; event = Tick; answer = answer } ∷ earlier) v
     → AnswersNewNotices plan earlier (record { node = a; event = Tick; answer = answer })
 unfolding ComesTo
 new_notices pasts answers plan earlier a answer v goes tick running = (found, told, new)
   where
-    d : Did
+    d : NodeStep
     d = record { node = a; event = Tick; answer = answer }
 
     old : ClusterValue

@@ -5,7 +5,7 @@ use Rattle.gb_rules.specs.Common.{say_answer, make_answer, by_tenant}
 use Rattle.gb_alone.specs.Common.{Member, Group, after, alone, alone_from, commanded, member_after, nobody, on_group, running_reply, taken_in}
 use Rattle.gb_alone.specs.declared.{event.GroupEvent.GroupEvent, event.GroupStep.GroupStep}
 use Rattle.gb_alone.specs.declared.event.GroupEvent.TheVariants.{Tenant, Make as AskMake, Say as AskSay, OtherMade, OtherDropped, Took, Came, Done as Acknowledged, Notice, Stop}
-use Rattle.gb_cluster.specs.Common.{ClusterValue, Did, ComesTo}
+use Rattle.gb_cluster.specs.Common.{ClusterValue, NodeStep, ComesTo}
 use Rattle.gb_isolation.specs.Isolation.{seen_alone, GroupsAreIsolated}
 use Rattle.gb_isolation.specs.Project.{gives, project}
 use Rattle.gb_isolation.specs.RunLaws.{RunsAgree}
@@ -43,7 +43,7 @@ module _ (bounds other : Bounds) (addr : Addr) (size : bounds.nodes ≡ other.no
   same_from group (step ∷ steps) all = ap (λ q. alone_from bounds addr q steps) (same_after group step all.0) ∙ same_from (after other addr group step) steps all.1
 
 -- what concerns a group in a run happens at nodes of the cluster
-all_placed : (plan : Plan) (g : Addr) (run : List Did) (v : ClusterValue) → ComesTo plan run v → AllAre (λ step. step.node.number < plan.nodes) (project plan g run)
+all_placed : (plan : Plan) (g : Addr) (run : List NodeStep) (v : ClusterValue) → ComesTo plan run v → AllAre (λ step. step.node.number < plan.nodes) (project plan g run)
 unfolding project ComesTo
 all_placed plan g [] v comes = tt
 all_placed plan g (d ∷ run) v comes =

@@ -10,7 +10,7 @@ use Rattle.gb_alone.specs.Common.{Member, Group, alone, alone_from, held_spec, i
 use Rattle.gb_alone.specs.declared.event.GroupStep.{GroupStep}
 use Rattle.gb_node.specs.Common.{node_numbered, Happened, frames_to, is_acked, is_taken, tenants_in, watched, Told, noticed_after, waiting_of, told_of, living_of}
 use Rattle.gb_node.specs.declared.{answer.NodeAnswer.TheVariants.Reply as Replied, event.NodeEvent.TheVariants.Request as Asked, plan.NodePlan.NodePlan}
-use Rattle.gb_cluster.specs.Common.{node_plan, Did, past_at}
+use Rattle.gb_cluster.specs.Common.{node_plan, NodeStep, past_at}
 use Rattle.gb_isolation.specs.Project.{project, asked, is_own_request, command_for, tenant_given, other_given, ticked, group_items_of, offset, made_by, made_with, replies_in, is_met}
 use Rattle.gb_isolation.specs.RunLaws.{is_dropped}
 
@@ -140,17 +140,17 @@ pub record Goes (bounds : Bounds) (g : Addr) (a : NodeId) (frames_from : ℕ →
 -- The whole cluster.
 
 -- the frames that each node packed for a node
-abbrev pub frames_for : Plan → List Did → NodeId → ℕ → List (List Item)
+abbrev pub frames_for : Plan → List NodeStep → NodeId → ℕ → List (List Item)
 frames_for plan run a b = frames_to plan.cluster_key a.number (past_at (node_numbered b) run)
 
-abbrev pub view_at : Plan → Addr → List Did → NodeId → View
+abbrev pub view_at : Plan → Addr → List NodeStep → NodeId → View
 view_at plan g run a = view_of (node_plan plan a) g (past_at a run)
 
 -- each node's view is that of the group alone
-abbrev pub AllFit : Plan → Addr → List Did → Group → Type 0
+abbrev pub AllFit : Plan → Addr → List NodeStep → Group → Type 0
 AllFit plan g run group = (a : NodeId) → a.number < plan.nodes → Fits plan.nodes g a.number (frames_for plan run a) (view_at plan g run a) (group a.number)
 
-pub record BehavesAlone (plan : Plan) (g : Addr) (run : List Did) : Type 0 where
+pub record BehavesAlone (plan : Plan) (g : Addr) (run : List NodeStep) : Type 0 where
   pub legal : IsLegal (bounds_of plan) g (project plan g run)
   pub fits : AllFit plan g run (alone (bounds_of plan) g (project plan g run))
 

@@ -10,19 +10,19 @@ use Rattle.gb_node.specs.Common.{shown_at, waiting_at, frames_to}
 use Rattle.gb_node.specs.declared.{answer.Halted.TheVariants.Refused as HaltRefused, answer.NodeAnswer.NodeAnswer, answer.PacketAnswer.TheVariants.Refused as TakenRefused, answer.Sent.TheVariants.Refused as SentRefused, answer.Ticked.TheVariants.Refused as TickRefused}
 use Rattle.gb_node.specs.declared.answer.NodeAnswer.TheVariants.{Reply as Replied, Taken, Sent, Ticked, Halted}
 use Rattle.gb_alone.specs.Common.{Group, alone, IsLegal, log_of_member}
-use Rattle.gb_cluster.specs.Common.{ClusterValue, node_at, Did, ComesTo, past_at}
+use Rattle.gb_cluster.specs.Common.{ClusterValue, node_at, NodeStep, ComesTo, past_at}
 use Rattle.gb_isolation.specs.Project.{project, group_items, group_items_of, replies_in, is_fed}
 
 -- the group alone, given the projection of the run
-abbrev pub alone_in : Plan → Addr → List Did → Group
+abbrev pub alone_in : Plan → Addr → List NodeStep → Group
 alone_in plan g run = alone (bounds_of plan) g (project plan g run)
 
 -- the messages of the group alone that are carried from one node to another, in order
-abbrev pub carried_alone : Plan → Addr → List Did → ℕ → ℕ → List Entry
+abbrev pub carried_alone : Plan → Addr → List NodeStep → ℕ → ℕ → List Entry
 carried_alone plan g run a b = let m = alone_in plan g run a in take (m.taken b) (m.put b)
 
 -- What a run shows of a group, in events, answers and packets, is what the group has alone. Nothing is read from a node.
-pub record IsSeenAlone (plan : Plan) (run : List Did) (g : Addr) : Type 0 where
+pub record IsSeenAlone (plan : Plan) (run : List NodeStep) (g : Addr) : Type 0 where
   -- the projection of the run is a legal list of events of the group by itself
   pub legal : IsLegal (bounds_of plan) g (project plan g run)
   -- the replies to the group's commands at each node
@@ -47,7 +47,7 @@ pub record Seen : Type 0 where
   pub put : List Entry
 
 -- what is seen in a run: replies and carried items are read from what happened, log and waiting items from the nodes
-abbrev pub seen_in : Plan → List Did → ClusterValue → Addr → NodeId → NodeId → Seen
+abbrev pub seen_in : Plan → List NodeStep → ClusterValue → Addr → NodeId → NodeId → Seen
 seen_in plan run v g a b = record {
   replies = replies_in a g (past_at a run);
   log = log_in (shown_at (node_at v a) g);
@@ -63,7 +63,7 @@ abbrev pub AreSpelt : Addr → List Item → Type 0
 AreSpelt g frame = items_for g frame ≡ map (item_for g) (group_items g frame)
 
 -- the projection of the run is legal, and what is seen of the group in the run is what is seen of it alone, given the projection
-pub record IsIsolated (plan : Plan) (run : List Did) (v : ClusterValue) (g : Addr) : Type 0 where
+pub record IsIsolated (plan : Plan) (run : List NodeStep) (v : ClusterValue) (g : Addr) : Type 0 where
   pub legal : IsLegal (bounds_of plan) g (project plan g run)
   pub same : (a b : NodeId) → a.number < plan.nodes → b.number < plan.nodes → seen_in plan run v g a b ≡ seen_alone (alone_in plan g run) a.number b.number
   -- what is seen of a carried item is all that its frame says of it
@@ -73,7 +73,7 @@ pub record IsIsolated (plan : Plan) (run : List Did) (v : ClusterValue) (g : Add
 
 -- each group that had no request refused for lack of memory is isolated, in every run
 abbrev pub GroupsAreIsolated : Type 0
-GroupsAreIsolated = (plan : Plan) (run : List Did) (v : ClusterValue) → ComesTo plan run v → (g : Addr) → is_fed g run ≡ true → IsIsolated plan run v g
+GroupsAreIsolated = (plan : Plan) (run : List NodeStep) (v : ClusterValue) → ComesTo plan run v → (g : Addr) → is_fed g run ≡ true → IsIsolated plan run v g
 
 -- the answer refuses for lack of memory
 abbrev pub wants_memory : NodeAnswer → Bool
@@ -85,10 +85,10 @@ wants_memory (Halted (HaltRefused OutOfMemory)) = true
 wants_memory answer = false
 
 -- no answer of the run refuses for lack of memory
-unfoldable pub is_ample : List Did → Bool
+unfoldable pub is_ample : List NodeStep → Bool
 is_ample [] = true
 is_ample (d ∷ run) = not (wants_memory d.answer) && is_ample run
 
 -- if no answer of a run refuses for lack of memory, no group had a request refused for lack of memory
 abbrev pub AmpleRunsFeedAll : Type 0
-AmpleRunsFeedAll = (plan : Plan) (run : List Did) → is_ample run ≡ true → (g : Addr) → is_fed g run ≡ true
+AmpleRunsFeedAll = (plan : Plan) (run : List NodeStep) → is_ample run ≡ true → (g : Addr) → is_fed g run ≡ true

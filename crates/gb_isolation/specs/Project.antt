@@ -15,7 +15,7 @@ use Rattle.gb_node.specs.Common.{has_group_token, node_numbered, if_done, Happen
 use Rattle.gb_node.specs.declared.{answer.NodeAnswer.NodeAnswer, answer.PacketAnswer.TheVariants.Good as TakenGood, answer.Sent.TheVariants.Packet as SentPacket, answer.Ticked.TheVariants.Noticed, event.NodeEvent.NodeEvent}
 use Rattle.gb_node.specs.declared.answer.NodeAnswer.TheVariants.{Reply as Replied, Taken, Sent, Ticked}
 use Rattle.gb_node.specs.declared.event.NodeEvent.TheVariants.{Request as Asked, Packet as Brought, Pack, Tick}
-use Rattle.gb_cluster.specs.Common.{Did, past_at}
+use Rattle.gb_cluster.specs.Common.{NodeStep, past_at}
 
 -- Items.
 
@@ -160,16 +160,16 @@ is_new_frame key past c = not (nat_eq c.frame 0) && not (has_come key c.from c.f
 abbrev pub acknowledges : Plan → Addr → List Happened → NodeId → Content → List GroupStep
 acknowledges plan g past a c = all_acknowledged g a (node_numbered c.from) (is_new_ack plan.cluster_key past c) 1 0 (frames_to plan.cluster_key c.from past)
 
-abbrev pub brings : Plan → Addr → List Did → NodeId → Content → List GroupStep
+abbrev pub brings : Plan → Addr → List NodeStep → NodeId → Content → List GroupStep
 brings plan g run a c = comes (node_numbered c.from) a (offset g (frames_to plan.cluster_key a.number (past_at (node_numbered c.from) run)) (c.frame - 1)) (length (group_items g c.items))
 
-abbrev pub arrived : Plan → Addr → List Did → NodeId → Content → List GroupStep
+abbrev pub arrived : Plan → Addr → List NodeStep → NodeId → Content → List GroupStep
 arrived plan g run a c = acknowledges plan g (past_at a run) a c ++ (if is_new_frame plan.cluster_key (past_at a run) c then brings plan g run a c else [])
 
 -- The projection.
 
 -- the steps that an event at a node, with its answer, adds to the projection after this run
-abbrev pub gives : Plan → Addr → List Did → NodeId → NodeEvent → NodeAnswer → List GroupStep
+abbrev pub gives : Plan → Addr → List NodeStep → NodeId → NodeEvent → NodeAnswer → List GroupStep
 gives plan g run a (Asked request) (Replied reply) = asked a g (is_noticed_at plan a (past_at a run)) (past_at a run) request reply
 gives plan g run a (Pack b) (Sent (SentPacket text)) =
     let count = length (group_items_of g (map (λ (c : Content). c.items) (read plan.cluster_key text))) in if_any a count (Took b count)
@@ -178,7 +178,7 @@ gives plan g run a Tick (Ticked (Noticed found)) = ticked a (set.contains found)
 gives plan g run a event answer = []
 
 -- the projection of a run on the group, in order
-unfoldable pub project : Plan → Addr → List Did → List GroupStep
+unfoldable pub project : Plan → Addr → List NodeStep → List GroupStep
 project plan g [] = []
 project plan g (d ∷ run) = project plan g run ++ gives plan g run d.node d.event d.answer
 
@@ -199,6 +199,6 @@ is_starved_by a g past (Asked request) (Replied (Refused OutOfMemory)) = is_own_
 is_starved_by a g past event answer = false
 
 -- no request of the group was refused for lack of memory in the run
-unfoldable pub is_fed : Addr → List Did → Bool
+unfoldable pub is_fed : Addr → List NodeStep → Bool
 is_fed g [] = true
 is_fed g (d ∷ run) = not (is_starved_by d.node g (past_at d.node run) d.event d.answer) && is_fed g run

@@ -11,7 +11,7 @@ use Rattle.gb_alone.specs.declared.event.GroupEvent.TheVariants.{Fetch as AskFet
 use Rattle.gb_duties.specs.{Agreement.IsRunning, Agreement.AreEnough, Agreement.KeepsAgreement, Duties.HasHad, Duties.KeepsDuties, Duties.delivered_at}
 use Rattle.gb_node.specs.Common.{waiting_at, node_numbered, if_done, Happened, frames_to, is_stopped, is_taken}
 use Rattle.gb_node.specs.declared.{answer.NodeAnswer.NodeAnswer, answer.NodeAnswer.TheVariants.Reply as Replied, answer.NodeAnswer.TheVariants.Ticked, answer.Ticked.TheVariants.Noticed, event.NodeEvent.NodeEvent, event.NodeEvent.TheVariants.Request as Asked, event.NodeEvent.TheVariants.Tick, plan.NodePlan.NodePlan}
-use Rattle.gb_cluster.specs.Common.{ClusterValue, node_plan, node_at, Did, ComesTo, past_at}
+use Rattle.gb_cluster.specs.Common.{ClusterValue, node_plan, node_at, NodeStep, ComesTo, past_at}
 use Rattle.gb_isolation.specs.Isolation.{seen_in, alone_in}
 use Rattle.gb_isolation.specs.Project.{project, group_items, is_noticed_at, is_own_request, made_with, is_fed}
 
@@ -32,15 +32,15 @@ accepted_in_past plan g [] = []
 accepted_in_past plan g (h ∷ past) = accepted_in_past plan g past ++ accepted_by plan g past h.event h.answer
 
 -- the group's messages that were accepted at the node with this number, in order
-abbrev pub accepted_there : Plan → Addr → List Did → ℕ → List Accepted
+abbrev pub accepted_there : Plan → Addr → List NodeStep → ℕ → List Accepted
 accepted_there plan g run s = accepted_in_past (node_plan plan (node_numbered s)) g (past_at (node_numbered s) run)
 
 -- a law of groups: in every run of every cluster, each group that had no request refused for lack of memory has the property
-abbrev pub OfGroupsInRuns : (Plan → List Did → ClusterValue → Addr → Type 0) → Type 0
-OfGroupsInRuns Property = (plan : Plan) (run : List Did) (v : ClusterValue) → ComesTo plan run v → (g : Addr) → is_fed g run ≡ true → Property plan run v g
+abbrev pub OfGroupsInRuns : (Plan → List NodeStep → ClusterValue → Addr → Type 0) → Type 0
+OfGroupsInRuns Property = (plan : Plan) (run : List NodeStep) (v : ClusterValue) → ComesTo plan run v → (g : Addr) → is_fed g run ≡ true → Property plan run v g
 
 -- Integrity: the log seen at each node keeps integrity, and each item seen between two nodes was accepted at its origin.
-pub record RunIntegrity (plan : Plan) (run : List Did) (v : ClusterValue) (g : Addr) : Type 0 where
+pub record RunIntegrity (plan : Plan) (run : List NodeStep) (v : ClusterValue) (g : Addr) : Type 0 where
   pub logs : (a b : NodeId) → a.number < plan.nodes → b.number < plan.nodes → KeepsIntegrity (accepted_there plan g run) (seen_in plan run v g a b).log
   pub items : (a b : NodeId) → a.number < plan.nodes → b.number < plan.nodes → All (IsAccepted (accepted_there plan g run)) (seen_in plan run v g a b).put
 
@@ -48,7 +48,7 @@ abbrev pub GroupsKeepIntegrity : Type 0
 GroupsKeepIntegrity = OfGroupsInRuns RunIntegrity
 
 -- Order: the log seen at each node keeps the order of the kind that the group was made with there.
-abbrev pub RunOrder : Plan → List Did → ClusterValue → Addr → Type 0
+abbrev pub RunOrder : Plan → List NodeStep → ClusterValue → Addr → Type 0
 RunOrder plan run v g = (a b : NodeId) → a.number < plan.nodes → b.number < plan.nodes → KeepsOrder (made_with g (past_at a run)) (seen_in plan run v g a b).log
 
 abbrev pub GroupsKeepOrder : Type 0
@@ -71,15 +71,15 @@ is_dropped g [] = false
 is_dropped g (h ∷ past) = is_dropped_by g h.event h.answer || is_dropped g past
 
 -- a node is noticed at the node a in the run
-abbrev pub is_noticed_in : Plan → List Did → NodeId → ℕ → Bool
+abbrev pub is_noticed_in : Plan → List NodeStep → NodeId → ℕ → Bool
 is_noticed_in plan run a = is_noticed_at plan a (past_at a run)
 
 -- the duties of the node b in the run, for these messages: notices and items put out are read from the run, what another node has had is read from the projection
-abbrev pub KeepsRunDuties : Plan → List Did → ClusterValue → Addr → NodeId → Spec → (MsgId → Bool) → Type 0
+abbrev pub KeepsRunDuties : Plan → List NodeStep → ClusterValue → Addr → NodeId → Spec → (MsgId → Bool) → Type 0
 KeepsRunDuties plan run v g b spec messages = KeepsDuties spec b.number (is_noticed_in plan run b) (λ c. (seen_in plan run v g b (node_numbered c)).put) (HasHad (alone_in plan g run)) messages
 
 -- each node that made the group, and did not drop it, has done its duties for each message that its module delivered, and so for each message in the log seen there
-pub record RunDuties (plan : Plan) (run : List Did) (v : ClusterValue) (g : Addr) : Type 0 where
+pub record RunDuties (plan : Plan) (run : List NodeStep) (v : ClusterValue) (g : Addr) : Type 0 where
   pub delivered : (b : NodeId) (spec : Spec) → b.number < plan.nodes → made_with g (past_at b run) ≡ Some spec → is_dropped g (past_at b run) ≡ false
       → KeepsRunDuties plan run v g b spec (delivered_at spec b.number (alone_in plan g run b.number))
   pub logged : (b : NodeId) (spec : Spec) → b.number < plan.nodes → made_with g (past_at b run) ≡ Some spec → KeepsRunDuties plan run v g b spec (has (seen_in plan run v g b b).log)
@@ -90,18 +90,18 @@ GroupsDoTheirDuties = OfGroupsInRuns RunDuties
 -- Agreement.
 
 -- the log that is seen at the node with this number
-abbrev pub log_seen : Plan → List Did → ClusterValue → Addr → ℕ → List Entry
+abbrev pub log_seen : Plan → List NodeStep → ClusterValue → Addr → ℕ → List Entry
 log_seen plan run v g b = (seen_in plan run v g (node_numbered b) (node_numbered b)).log
 
 -- the spec with which the group was made at the node with this number, if it was
-abbrev pub made_there : Addr → List Did → ℕ → Option Spec
+abbrev pub made_there : Addr → List NodeStep → ℕ → Option Spec
 made_there g run a = made_with g (past_at (node_numbered a) run)
 
 -- The group is settled in the run, with this spec: the nodes that pass `runs` run, and the others have stopped.
-pub record IsSettledIn (plan : Plan) (run : List Did) (v : ClusterValue) (g : Addr) (runs : ℕ → Bool) (spec : Spec) : Type 0 where
+pub record IsSettledIn (plan : Plan) (run : List NodeStep) (v : ClusterValue) (g : Addr) (runs : ℕ → Bool) (spec : Spec) : Type 0 where
   -- at some moment all members had made the group with this spec, and no message had been accepted anywhere
-  pub earlier : List Did
-  pub later : List Did
+  pub earlier : List NodeStep
+  pub later : List NodeStep
   pub moment : run ≡ later ++ earlier
   pub made : (a : ℕ) → is_member spec a ≡ true → made_there g earlier a ≡ Some spec
   pub silent : (a : ℕ) → a < plan.nodes → accepted_there plan g earlier a ≡ []
@@ -119,7 +119,7 @@ pub record IsSettledIn (plan : Plan) (run : List Did) (v : ClusterValue) (g : Ad
   pub unnoticed : (a b : ℕ) → is_member spec a ≡ true → IsRunning runs spec b → is_noticed_in plan run (node_numbered a) b ≡ false
 
 -- if the group is settled, the logs seen at its members agree, whichever nodes are taken as those that run, provided that enough of them run
-abbrev pub RunAgreement : Plan → List Did → ClusterValue → Addr → Type 0
+abbrev pub RunAgreement : Plan → List NodeStep → ClusterValue → Addr → Type 0
 RunAgreement plan run v g = (runs : ℕ → Bool) (spec : Spec) → IsSettledIn plan run v g runs spec → AreEnough runs spec → KeepsAgreement (accepted_there plan g run) (log_seen plan run v g) runs spec
 
 abbrev pub SettledGroupsAgree : Type 0
@@ -128,7 +128,7 @@ SettledGroupsAgree = OfGroupsInRuns RunAgreement
 -- Logs.
 
 -- what the group alone answers to a request to fetch its log at a running node
-abbrev pub fetched_alone : Plan → List Did → Addr → NodeId → ℕ → ℕ → Reply
+abbrev pub fetched_alone : Plan → List NodeStep → Addr → NodeId → ℕ → ℕ → Reply
 fetched_alone plan run g a from most = running_reply (bounds_of plan) g a.number (AskFetch from most) (alone_in plan g run a.number)
 
 -- a request to read a log
@@ -136,7 +136,7 @@ abbrev pub to_fetch : List ℕ → Addr → ℕ → ℕ → Request
 to_fetch token g from most = record { token = token; what = AtGroup g (Fetch from most) }
 
 -- The run may go on by a request to fetch the group's log, at any running node, with the token that it needs. The answer is that of the group alone, and the cluster stays as it is.
-abbrev pub MayBeFetched : Plan → List Did → ClusterValue → Addr → Type 0
+abbrev pub MayBeFetched : Plan → List NodeStep → ClusterValue → Addr → Type 0
 MayBeFetched plan run v g =
     (a : NodeId) (token : List ℕ) (from most : ℕ) → a.number < plan.nodes → is_stopped (past_at a run) ≡ false → is_own_request a g (past_at a run) (to_fetch token g from most) ≡ true
     → ComesTo plan (record { node = a; event = Asked (to_fetch token g from most); answer = Replied (fetched_alone plan run g a from most) } ∷ run) v
@@ -153,9 +153,9 @@ pub record HaveSameBounds (plan other : Plan) : Type 0 where
 
 -- Another run, of a cluster with the same bounds, in which the same happened to the group, shows the same of it: its replies, its logs and the items that it put out,
 -- whatever else happened and whatever else the packets held. What happens to a group are its own requests, the fates of its items, and the notices of its members.
-abbrev pub IsSeenAlike : Plan → List Did → ClusterValue → Addr → Type 0
+abbrev pub IsSeenAlike : Plan → List NodeStep → ClusterValue → Addr → Type 0
 IsSeenAlike plan run v g =
-    (other : Plan) (that : List Did) (w : ClusterValue) → ComesTo other that w → is_fed g that ≡ true → HaveSameBounds plan other → project plan g run ≡ project other g that
+    (other : Plan) (that : List NodeStep) (w : ClusterValue) → ComesTo other that w → is_fed g that ≡ true → HaveSameBounds plan other → project plan g run ≡ project other g that
     → (a b : NodeId) → a.number < plan.nodes → b.number < plan.nodes → seen_in plan run v g a b ≡ seen_in other that w g a b
 
 abbrev pub RunsAgree : Type 0
@@ -164,20 +164,20 @@ RunsAgree = OfGroupsInRuns IsSeenAlike
 -- Moments.
 
 -- at each moment of a run the property holds of what happened then, after what had happened before
-abbrev pub AtEachMoment : (List Did → Did → Type 0) → List Did → Type 0
-AtEachMoment Holds run = (later earlier : List Did) (d : Did) → run ≡ later ++ d ∷ earlier → Holds earlier d
+abbrev pub AtEachMoment : (List NodeStep → NodeStep → Type 0) → List NodeStep → Type 0
+AtEachMoment Holds run = (later earlier : List NodeStep) (d : NodeStep) → run ≡ later ++ d ∷ earlier → Holds earlier d
 
 -- At a running node, a tick answers the nodes that are noticed there after it and were not before.
-abbrev pub AnswersNewNotices : Plan → List Did → Did → Type 0
+abbrev pub AnswersNewNotices : Plan → List NodeStep → NodeStep → Type 0
 AnswersNewNotices plan earlier d = d.event ≡ Tick → is_stopped (past_at d.node earlier) ≡ false
     → (found : set.FinSet nat_cmp) × (d.answer ≡ Ticked (Noticed found)) × ((b : ℕ) → set.contains found b ≡ (is_noticed_in plan (d ∷ earlier) d.node b && not (is_noticed_in plan earlier d.node b)))
 
 abbrev pub TicksAnswerNewNotices : Type 0
-TicksAnswerNewNotices = (plan : Plan) (earlier : List Did) (d : Did) (v : ClusterValue) → ComesTo plan (d ∷ earlier) v → AnswersNewNotices plan earlier d
+TicksAnswerNewNotices = (plan : Plan) (earlier : List NodeStep) (d : NodeStep) (v : ClusterValue) → ComesTo plan (d ∷ earlier) v → AnswersNewNotices plan earlier d
 
 -- A request that is refused, for whatever reason, changes nothing at any node and sends nothing.
-abbrev pub ChangesNothing : Plan → List Did → Did → Type 0
+abbrev pub ChangesNothing : Plan → List NodeStep → NodeStep → Type 0
 ChangesNothing plan earlier d = (request : Request) (why : Refusal) → d.event ≡ Asked request → d.answer ≡ Replied (Refused why) → (v w : ClusterValue) → ComesTo plan earlier v → ComesTo plan (d ∷ earlier) w → w ≡ v
 
 abbrev pub RefusalsChangeNothing : Type 0
-RefusalsChangeNothing = (plan : Plan) (earlier : List Did) (d : Did) → ChangesNothing plan earlier d
+RefusalsChangeNothing = (plan : Plan) (earlier : List NodeStep) (d : NodeStep) → ChangesNothing plan earlier d

@@ -5,22 +5,22 @@ use Rattle.std.specs.{Ordering.nat_cmp, List.list_all}
 use Rattle.std.specs.declared.{vec.Vec.Vec, alloc.Global.Global}
 use Rattle.gb_types.specs.declared.node.NodeId.{NodeId}
 use Rattle.gb_port.specs.declared.port.PortFault.{PortFault}
-use Rattle.gb_node.specs.declared.{answer.NodeAnswer.NodeAnswer, event.NodeEvent.NodeEvent}
+use Rattle.gb_node.specs.declared.{answer.NodeAnswer.NodeAnswer, event.NodeEvent.NodeEvent, step.NodeStep.NodeStep}
 use Rattle.gb_host.specs.Common.{IsRefused, GaveNothing, SeatValue}
-use Rattle.gb_host.specs.declared.{entry.SeatEntry.SeatEntry, fault.HostFault.HostFault, plan.HostPlan.HostPlan}
+use Rattle.gb_host.specs.declared.{fault.HostFault.HostFault, plan.HostPlan.HostPlan}
 use Rattle.gb_mail.specs.declared.{mail.Outcome.Outcome, mail.Outcome.TheVariants.Handed}
 use Rattle.gb_worker.specs.{Answered.gives_packet, Carried.HasCarried, Gained.noted}
 
 -- each call of a list was made at this node
-abbrev pub all_at : NodeId → List SeatEntry → Bool
+abbrev pub all_at : NodeId → List NodeStep → Bool
 all_at me es = list_all (λ e. e.node.number == me.number) es
 
 -- a list has gained calls at this node, and nothing else
-abbrev pub HasCalled : NodeId → List SeatEntry → List SeatEntry → Type 0
-HasCalled me old new = (es : List SeatEntry) × (new ≡ old ++ es) × (all_at me es ≡ true)
+abbrev pub HasCalled : NodeId → List NodeStep → List NodeStep → Type 0
+HasCalled me old new = (es : List NodeStep) × (new ≡ old ++ es) × (all_at me es ≡ true)
 
 -- Where no packet was lost: what travelled at the port is what the calls say that a list gained, in their order, each once.
-abbrev pub HasMailed : {P : Type 0} → (P → NodeId → List ℕ → Result Bool PortFault → P → Type 0) → (P → Result (Option (Vec ℕ Global)) PortFault → P → Type 0) → ℕ → P → P → List SeatEntry → List SeatEntry → Type 0
+abbrev pub HasMailed : {P : Type 0} → (P → NodeId → List ℕ → Result Bool PortFault → P → Type 0) → (P → Result (Option (Vec ℕ Global)) PortFault → P → Type 0) → ℕ → P → P → List NodeStep → List NodeStep → Type 0
 HasMailed sends receives lost before after old new = lost ≡ 0 → HasCarried sends receives before after old new
 
 -- a packet was handed to the port

@@ -9,7 +9,7 @@ use Rattle.gb_node.proofs.PacketLemmas.{packet_in, read_in}
 use Rattle.gb_node.specs.declared.{answer.NodeAnswer.NodeAnswer, event.NodeEvent.NodeEvent, answer.Sent.TheVariants.Packet as SentPacket, answer.Sent.TheVariants.Nothing, answer.Sent.TheVariants.Refused as Unsent}
 use Rattle.gb_node.specs.declared.answer.NodeAnswer.TheVariants.{Reply, Taken, Sent, Ticked, Halted}
 use Rattle.gb_node.specs.declared.event.NodeEvent.TheVariants.{Request as Asked, Packet as Came, Pack, Again, Ack, Tick, Stop}
-use Rattle.gb_cluster.specs.Common.{PacketsAreHonest, NodeActs, receiver_of, posted_by, posted, answer_of, packet_numbered, is_packet_for, IsAt, IsArrival, IsStep, IsPlaced, ClusterValue, node_plan, node_at, Did, ComesTo, IsSent, past_at}
+use Rattle.gb_cluster.specs.Common.{PacketsAreHonest, NodeActs, receiver_of, posted_by, posted, answer_of, packet_numbered, is_packet_for, IsAt, IsArrival, IsStep, IsPlaced, ClusterValue, node_plan, node_at, NodeStep, ComesTo, IsSent, past_at}
 use Rattle.gb_cluster.specs.declared.{answer.Answer.Answer, event.Event.Event, posted.Posted.Posted, answer.Sending.TheVariants.Packet as SendingPacket, answer.Sending.TheVariants.Nothing as SendingNothing, answer.Sending.TheVariants.Refused as SendingRefused}
 use Rattle.gb_cluster.specs.declared.answer.Answer.TheVariants.{Reply as AnswerReply, Taken as AnswerTaken, Sent as AnswerSent, Ticked as AnswerTicked, Halted as AnswerHalted, NoPacket, NotNoise}
 use Rattle.gb_cluster.proofs.{NodesLemmas.have_pasts, CodeLemmas.numbered_contains}
@@ -45,7 +45,7 @@ has_text packets (suc k) bytes at = let got = text_got packets k bytes at in rec
 -- Packets for a node.
 
 -- a node of a cluster takes those packets that are good there
-pub good_is : PastsSay → (plan : Plan) (run : List Did) (v : ClusterValue) (a : NodeId) (bytes : List ℕ) → ComesTo plan run v → a.number < plan.nodes → is_packet_for (node_at v a) (Came bytes) ≡ is_good plan a bytes
+pub good_is : PastsSay → (plan : Plan) (run : List NodeStep) (v : ClusterValue) (a : NodeId) (bytes : List ℕ) → ComesTo plan run v → a.number < plan.nodes → is_packet_for (node_at v a) (Came bytes) ≡ is_good plan a bytes
 unfolding is_good
 good_is pasts plan run v a bytes comes within =
     let was : IsOfPast (node_plan plan a) (past_at a run) (node_at v a) = pasts (node_plan plan a) (past_at a run) (node_at v a) (have_pasts plan run v a comes within) in
@@ -82,7 +82,7 @@ pub record Acted (w : ClusterValue) (a : NodeId) (n : NodeEvent) (x : Answer) (n
 acted : (w : ClusterValue) (a : NodeId) (n : NodeEvent) (x : Answer) (new : ClusterValue) → IsAt w a n x new → IsSent w a n → Acted w a n x new
 acted w a n x new at sent = record { own = at.0; acts = at.1; answered = at.2; sent = sent }
 
-pub acts : PastsSay → PacketsAreHonest → (plan : Plan) (run : List Did) (w : ClusterValue) (a : NodeId) (sent : List (List ℕ)) (n : NodeEvent) (e : Event) (x : Answer) (new : ClusterValue) → ComesTo plan run w → a.number < plan.nodes → IsEventOf plan a sent n e → texts w.packets ≡ sent → IsStep w e x new → Acted w a n x new
+pub acts : PastsSay → PacketsAreHonest → (plan : Plan) (run : List NodeStep) (w : ClusterValue) (a : NodeId) (sent : List (List ℕ)) (n : NodeEvent) (e : Event) (x : Answer) (new : ClusterValue) → ComesTo plan run w → a.number < plan.nodes → IsEventOf plan a sent n e → texts w.packets ≡ sent → IsStep w e x new → Acted w a n x new
 acts pasts honest plan run w a sent (Asked request) e x new comes within is packets step = acted w a _ x new (subst (λ (d : Event). IsStep w d x new) is step) (λ bytes same yes. absurd (cc))
 acts pasts honest plan run w a sent (Pack b) e x new comes within is packets step = acted w a _ x new (subst (λ (d : Event). IsStep w d x new) is step) (λ bytes same yes. absurd (cc))
 acts pasts honest plan run w a sent (Again b n) e x new comes within is packets step = acted w a _ x new (subst (λ (d : Event). IsStep w d x new) is step) (λ bytes same yes. absurd (cc))

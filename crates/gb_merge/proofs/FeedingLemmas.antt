@@ -1,11 +1,11 @@
 -- If no answer in the tapes refuses for lack of memory, none does in the run.
 use Rattle.gb_types.specs.Common.{◌≡◌, List, [], ◌∷◌, ◌++◌, map, true, false, not, ◌&&◌, refl, sym, ap, ap₂, subst, and_parts, reverse-append}
-use Rattle.gb_cluster.specs.Common.{Did}
+use Rattle.gb_cluster.specs.Common.{NodeStep}
 use Rattle.gb_isolation.specs.Isolation.{is_ample, wants_memory}
 use Rattle.gb_merge.specs.Interleaving.{Pick}
 use Rattle.gb_merge.specs.Merged.{AreFed, did, run_of}
 
-ample_more : (run more : List Did) → is_ample run ≡ true → is_ample more ≡ true → is_ample (run ++ more) ≡ true
+ample_more : (run more : List NodeStep) → is_ample run ≡ true → is_ample more ≡ true → is_ample (run ++ more) ≡ true
 unfolding is_ample
 ample_more [] more ample behind = behind
 ample_more (d ∷ run) more ample behind =
@@ -20,5 +20,5 @@ pub ample_run : (picks : List Pick) → AreFed picks → is_ample (run_of picks)
 unfolding AreFed is_ample
 ample_run [] fed = refl
 ample_run (p ∷ picks) fed =
-    subst (λ (run : List Did). is_ample run ≡ true) (sym (reverse-append (did p ∷ []) (map did picks)))
+    subst (λ (run : List NodeStep). is_ample run ≡ true) (sym (reverse-append (did p ∷ []) (map did picks)))
     (ample_more (run_of picks) (did p ∷ []) (ample_run picks fed.1) (ample_one p fed.0))

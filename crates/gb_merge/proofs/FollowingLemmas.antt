@@ -6,7 +6,7 @@ use Rattle.gb_types.proofs.SameLemmas.{same_number}
 use Rattle.gb_node.specs.Common.{NodeValue, new_node, PastsSay, SendersRun, StarvedSays}
 use Rattle.gb_node.specs.Past.{ComesTo as NodeComesTo}
 use Rattle.gb_node.specs.declared.{answer.NodeAnswer.NodeAnswer, tape.TapeEntry.TapeEntry}
-use Rattle.gb_cluster.specs.Common.{PacketsAreHonest, NodeActs, posted, IsStep, IsPlaced, ClusterValue, new_cluster, node_plan, node_at, Did, ComesTo, past_at}
+use Rattle.gb_cluster.specs.Common.{PacketsAreHonest, NodeActs, posted, IsStep, IsPlaced, ClusterValue, new_cluster, node_plan, node_at, NodeStep, ComesTo, past_at}
 use Rattle.gb_cluster.specs.declared.{answer.Answer.Answer, event.Event.Event}
 use Rattle.gb_cluster.proofs.NodesLemmas.{stays, have_pasts, acting_is, other_is}
 use Rattle.gb_isolation.specs.Isolation.{wants_memory}
@@ -61,7 +61,7 @@ goes laws honest plan done w p e x new stands within is step fed =
 stands_on : SendersRun → (plan : Plan) (done : List Pick) (w : ClusterValue) (p : Pick) (x : Answer) (new : ClusterValue) (g : Goes plan done w p x new) → Stands plan done w → p.node.number < plan.nodes → g.acted.own ≡ p.entry.answer → wants_memory p.entry.answer ≡ false → Stands plan (done ++ p ∷ []) new
 unfolding ComesTo
 stands_on sends plan done w p x new g stands within same fed = record {
-  comes = subst (λ (run : List Did). ComesTo plan run new) (sym (run_of-push done p)) (w, stands.comes, g.acted.sent, acts_so);
+  comes = subst (λ (run : List NodeStep). ComesTo plan run new) (sym (run_of-push done p)) (w, stands.comes, g.acted.sent, acts_so);
   node = λ a inside. by a inside (cases_eq p.node.number a.number);
   sent = packets_so;
 }

@@ -3,7 +3,7 @@ use Rattle.gb_types.specs.Common.{◌≡◌, ℕ, suc, ◌⊎◌, ◌<◌, ◌�
 use Rattle.gb_types.specs.declared.{node.NodeId.NodeId, plan.Plan.Plan}
 use Rattle.gb_node.specs.Common.{Happened}
 use Rattle.gb_node.specs.declared.tape.TapeEntry.{TapeEntry}
-use Rattle.gb_cluster.specs.Common.{Did, past_at}
+use Rattle.gb_cluster.specs.Common.{NodeStep, past_at}
 use Rattle.gb_cluster.specs.declared.event.Event.{Event}
 use Rattle.gb_isolation.specs.Isolation.{wants_memory}
 use Rattle.gb_merge.specs.Interleaving.{Pick, entries_at, AreEvents, tape_of, sent_by}
@@ -100,7 +100,7 @@ front_faulty plan tapes rest picks OutOfMemory parts is = is
 
 -- What happened at a node.
 
-past_at-append : (a : NodeId) (run more : List Did) → past_at a (run ++ more) ≡ past_at a run ++ past_at a more
+past_at-append : (a : NodeId) (run more : List NodeStep) → past_at a (run ++ more) ≡ past_at a run ++ past_at a more
 unfolding past_at
 past_at-append a [] more = refl
 past_at-append a (d ∷ run) more = by (nat_eq d.node.number a.number) (past_at-append a run more)

@@ -5,7 +5,7 @@ use Rattle.gb_types.proofs.SameLemmas.{same_number}
 use Rattle.gb_node.specs.Common.{NodeValue, read, PastsSay, SendersRun, StarvedSays}
 use Rattle.gb_node.specs.declared.{answer.NodeAnswer.NodeAnswer, answer.NodeAnswer.TheVariants.Sent, answer.Sent.TheVariants.Packet as SentPacket, event.NodeEvent.NodeEvent, tape.TapeEntry.TapeEntry}
 use Rattle.gb_node.specs.declared.event.NodeEvent.TheVariants.{Request as Asked, Packet as Came, Pack, Again, Ack, Tick, Stop}
-use Rattle.gb_cluster.specs.Common.{PacketsAreHonest, NodeActs, posted, answer_of, packet_numbered, IsStep, ClusterValue, cluster, new_cluster, node_at, Did, ComesTo, IsOf, IsSent}
+use Rattle.gb_cluster.specs.Common.{PacketsAreHonest, NodeActs, posted, answer_of, packet_numbered, IsStep, ClusterValue, cluster, new_cluster, node_at, NodeStep, ComesTo, IsOf, IsSent}
 use Rattle.gb_cluster.specs.declared.{answer.Answer.Answer, event.Event.Event, event.Event.TheVariants.At, event.Event.TheVariants.Arrive, posted.Posted.Posted, answer.Sending.TheVariants.Packet as SendingPacket, answer.Sending.TheVariants.Nothing as SendingNothing, answer.Sending.TheVariants.Refused as SendingRefused}
 use Rattle.gb_cluster.specs.declared.answer.Answer.TheVariants.{Reply as AnswerReply, Taken as AnswerTaken, Sent as AnswerSent, Ticked as AnswerTicked, Halted as AnswerHalted, NoPacket, NotNoise}
 use Rattle.gb_cluster.proofs.NodesLemmas.{stays}
@@ -29,7 +29,7 @@ numbered_more : (packets more : List Posted) (k : ℕ) (p : Posted) → packet_n
 numbered_more packets more zero p at = absurd (cc)
 numbered_more packets more (suc k) p at = got_more packets more k p at
 
-of_more : (packets more : List Posted) (e : Event) (d : Did) → IsOf packets e d → IsOf (packets ++ more) e d
+of_more : (packets more : List Posted) (e : Event) (d : NodeStep) → IsOf packets e d → IsOf (packets ++ more) e d
 of_more packets more (At a event) d is = is
 of_more packets more (Arrive k) d is = (is.0, numbered_more packets more k is.0 is.1, is.2, is.3)
 
@@ -50,7 +50,7 @@ told_more packets more NotNoise g is = absurd (cc)
 
 -- A packet that arrives.
 
-arrives : PacketsAreHonest → (plan : Plan) (run : List Did) (w : ClusterValue) (a : NodeId) (k : ℕ) (bytes : List ℕ) → ComesTo plan run w → text_numbered (texts w.packets) k ≡ Some bytes → is_good plan a bytes ≡ true → (p : Posted) × (packet_numbered w.packets k ≡ Some p) × (a ≡ p.to) × (Came bytes ≡ Came p.text)
+arrives : PacketsAreHonest → (plan : Plan) (run : List NodeStep) (w : ClusterValue) (a : NodeId) (k : ℕ) (bytes : List ℕ) → ComesTo plan run w → text_numbered (texts w.packets) k ≡ Some bytes → is_good plan a bytes ≡ true → (p : Posted) × (packet_numbered w.packets k ≡ Some p) × (a ≡ p.to) × (Came bytes ≡ Came p.text)
 arrives honest plan run w a zero bytes comes at good = absurd (cc)
 arrives honest plan run w a (suc k) bytes comes at good =
     let got = text_got w.packets k bytes at in
@@ -62,7 +62,7 @@ arrives honest plan run w a (suc k) bytes comes at good =
 abbrev OfEvent : ClusterValue → NodeId → NodeEvent → NodeAnswer → Event → Type 0
 OfEvent w a n g e = IsOf w.packets e (record { node = a; event = n; answer = g })
 
-of_event : PacketsAreHonest → (plan : Plan) (run : List Did) (w : ClusterValue) (a : NodeId) (n : NodeEvent) (g : NodeAnswer) (e : Event) → ComesTo plan run w → IsEventOf plan a (texts w.packets) n e → OfEvent w a n g e
+of_event : PacketsAreHonest → (plan : Plan) (run : List NodeStep) (w : ClusterValue) (a : NodeId) (n : NodeEvent) (g : NodeAnswer) (e : Event) → ComesTo plan run w → IsEventOf plan a (texts w.packets) n e → OfEvent w a n g e
 of_event honest plan run w a (Asked request) g e comes is = subst (λ (x : Event). OfEvent w a (Asked request) g x) (sym is) (refl, refl)
 of_event honest plan run w a (Pack b) g e comes is = subst (λ (x : Event). OfEvent w a (Pack b) g x) (sym is) (refl, refl)
 of_event honest plan run w a (Again b n) g e comes is = subst (λ (x : Event). OfEvent w a (Again b n) g x) (sym is) (refl, refl)
@@ -99,7 +99,7 @@ after_same : (w next theirs : ClusterValue) (a : NodeId) (n : NodeEvent) (g h : 
 after_same w next theirs a n g h mine other answers nodes =
     mine.after ∙ (ap₂ (λ (v : NodeValue) (y : NodeAnswer). cluster w.plan (slice_set w.nodes a.number v) (w.packets ++ posted n y)) nodes answers ∙ sym other.after)
 
-one : NodeLaws → PacketsAreHonest → (plan : Plan) (run : List Did) (w : ClusterValue) (p : Pick) (e : Event) (x y : Answer) (theirs next : ClusterValue) → ComesTo plan run w → p.node.number < plan.nodes → IsEventOf plan p.node (texts w.packets) p.entry.event e → wants_memory p.entry.answer ≡ false
+one : NodeLaws → PacketsAreHonest → (plan : Plan) (run : List NodeStep) (w : ClusterValue) (p : Pick) (e : Event) (x y : Answer) (theirs next : ClusterValue) → ComesTo plan run w → p.node.number < plan.nodes → IsEventOf plan p.node (texts w.packets) p.entry.event e → wants_memory p.entry.answer ≡ false
     → IsStep w e x theirs → told theirs.packets x ≡ Some p.entry.answer → IsStep w e y next → is_refused y ≡ false → IsEntry w p e y next theirs
 one laws honest plan run w p e x y theirs next comes within is fed their_step their_answer step unrefused =
     let n = p.entry.event in
@@ -133,7 +133,7 @@ record AreThese (w : ClusterValue) (events : List Event) (answers : List Answer)
   entries : AreTold v.packets events answers picks
   are : answers ≡ answers_to (length w.packets) picks
 
-these : NodeLaws → PacketsAreHonest → (plan : Plan) (run : List Did) (w v last : ClusterValue) (events : List Event) (answers : List Answer) (picks : List Pick) → ComesTo plan run w → AreEvents plan (texts w.packets) picks events → ArePlaced plan.nodes picks → AreFed picks
+these : NodeLaws → PacketsAreHonest → (plan : Plan) (run : List NodeStep) (w v last : ClusterValue) (events : List Event) (answers : List Answer) (picks : List Pick) → ComesTo plan run w → AreEvents plan (texts w.packets) picks events → ArePlaced plan.nodes picks → AreFed picks
     → Replays w events picks last → Leads w events answers v → AreThese w events answers picks v last
 unfolding AreEvents ArePlaced AreFed Replays Leads AreTold answers_to ComesTo
 these laws honest plan run w v last [] [] [] comes are placed fed replays lead = record {
@@ -169,18 +169,18 @@ these laws honest plan run w v last (e ∷ events) (y ∷ answers) (p ∷ picks)
 
 -- Each entry was merged at one of the nodes.
 
-placed_in : (plan : Plan) (picks : List Pick) (behind : List Did) (v : ClusterValue) → ComesTo plan (run_of picks ++ behind) v → ArePlaced plan.nodes picks
+placed_in : (plan : Plan) (picks : List Pick) (behind : List NodeStep) (v : ClusterValue) → ComesTo plan (run_of picks ++ behind) v → ArePlaced plan.nodes picks
 unfolding ArePlaced
 placed_in plan [] behind v comes = tt
 placed_in plan (p ∷ picks) behind v comes =
-    let longer : run_of (p ∷ picks) ++ behind ≡ run_of picks ++ did p ∷ behind = ap (λ (run : List Did). run ++ behind) (reverse-append (did p ∷ []) (map did picks)) ∙ append_assoc (run_of picks) (did p ∷ []) behind in
-    let here : ComesTo plan (run_of picks ++ did p ∷ behind) v = subst (λ (run : List Did). ComesTo plan run v) longer comes in
+    let longer : run_of (p ∷ picks) ++ behind ≡ run_of picks ++ did p ∷ behind = ap (λ (run : List NodeStep). run ++ behind) (reverse-append (did p ∷ []) (map did picks)) ∙ append_assoc (run_of picks) (did p ∷ []) behind in
+    let here : ComesTo plan (run_of picks ++ did p ∷ behind) v = subst (λ (run : List NodeStep). ComesTo plan run v) longer comes in
     let there = back plan (run_of picks) (did p ∷ behind) v here in
     (placed plan (did p) behind there.0 there.1, placed_in plan picks (did p ∷ behind) v here)
 
 -- The whole run.
 
-begins : (plan : Plan) (run : List Did) (v : ClusterValue) → ComesTo plan run v → ComesTo plan [] (new_cluster plan)
+begins : (plan : Plan) (run : List NodeStep) (v : ClusterValue) → ComesTo plan run v → ComesTo plan [] (new_cluster plan)
 unfolding ComesTo
 begins plan run v comes = ((stays plan run v comes).right, refl)
 
@@ -189,5 +189,5 @@ pub rerun : NodeLaws → PacketsAreHonest → (plan : Plan) (tapes : List (List 
 rerun laws honest plan tapes events m answers v leads =
     let all =
     these laws honest plan [] (new_cluster plan) v m.last events answers m.picks (begins plan (run_of m.picks) m.last m.comes) m.are_events
-    (placed_in plan m.picks [] m.last (subst (λ (run : List Did). ComesTo plan run m.last) (sym (append-nil (run_of m.picks))) m.comes)) m.fed m.replays leads in
+    (placed_in plan m.picks [] m.last (subst (λ (run : List NodeStep). ComesTo plan run m.last) (sym (append-nil (run_of m.picks))) m.comes)) m.fed m.replays leads in
     record { ends = all.ends; told = all.entries; are = all.are }

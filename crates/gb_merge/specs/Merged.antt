@@ -4,7 +4,7 @@ use Rattle.gb_types.specs.declared.{address.Addr.Addr, node.NodeId.NodeId, plan.
 use Rattle.gb_node.specs.Common.{Happened}
 use Rattle.gb_node.specs.declared.{answer.NodeAnswer.NodeAnswer, tape.TapeEntry.TapeEntry, answer.Sent.TheVariants.Packet as SentPacket, answer.Sent.TheVariants.Nothing, answer.Sent.TheVariants.Refused as SentRefused}
 use Rattle.gb_node.specs.declared.answer.NodeAnswer.TheVariants.{Reply as Replied, Taken, Sent, Ticked, Halted}
-use Rattle.gb_cluster.specs.Common.{packet_numbered, IsStep, ClusterValue, new_cluster, Did, ComesTo, past_at}
+use Rattle.gb_cluster.specs.Common.{packet_numbered, IsStep, ClusterValue, new_cluster, NodeStep, ComesTo, past_at}
 use Rattle.gb_cluster.specs.declared.{answer.Answer.Answer, event.Event.Event, posted.Posted.Posted, answer.Sending.TheVariants.Packet as SendingPacket, answer.Sending.TheVariants.Nothing as SendingNothing, answer.Sending.TheVariants.Refused as SendingRefused}
 use Rattle.gb_cluster.specs.declared.answer.Answer.TheVariants.{Reply as AnswerReply, Taken as AnswerTaken, Sent as AnswerSent, Ticked as AnswerTicked, Halted as AnswerHalted, NoPacket, NotNoise}
 use Rattle.gb_isolation.specs.Isolation.{IsIsolated, wants_memory}
@@ -35,10 +35,10 @@ AreFed [] = Unit {0}
 AreFed (p ∷ picks) = (wants_memory p.entry.answer ≡ false) × AreFed picks
 
 -- an entry that was taken, as a step of the cluster's run
-abbrev pub did : Pick → Did
+abbrev pub did : Pick → NodeStep
 did p = record { node = p.node; event = p.entry.event; answer = p.entry.answer }
 
-abbrev pub run_of : List Pick → List Did
+abbrev pub run_of : List Pick → List NodeStep
 run_of picks = reverse (map did picks)
 
 -- a tape as what happened at its node, the newest first

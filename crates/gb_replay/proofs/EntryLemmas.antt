@@ -1,7 +1,7 @@
 -- The steps of a replay of merged events are the entries that were merged.
 use Rattle.gb_types.specs.Common.{◌≡◌, ℕ, ◌+◌, List, [], ◌∷◌, ◌++◌, length, map, reverse, false, refl, sym, ◌∙◌, ap, subst, All, map-append, reverse-append, reverse-reverse, All-head, All-tail}
 use Rattle.gb_types.specs.declared.plan.Plan.{Plan}
-use Rattle.gb_cluster.specs.Common.{PacketsAreHonest, answer_of, IsStep, ClusterValue, new_cluster, Did}
+use Rattle.gb_cluster.specs.Common.{PacketsAreHonest, answer_of, IsStep, ClusterValue, new_cluster, NodeStep}
 use Rattle.gb_cluster.specs.declared.{answer.Answer.Answer, event.Event.Event, posted.Posted.Posted}
 use Rattle.gb_merge.specs.Common.{FrontIsOneRun, Pick, sent_by, Leads, AreTold, answers_to, is_refused}
 use Rattle.gb_merge.proofs.RerunLemmas.{NodeLaws, rerun}
@@ -20,7 +20,7 @@ lead-push w v u [] s lead step fed = (u, subst (λ (x : ClusterValue). IsStep x 
 lead-push w v u (t ∷ steps) s lead step fed = (lead.0, lead.1, lead.2, lead-push lead.0 v u steps s lead.3 step fed)
 
 -- steps that are given with the newest first
-in_order : (plan : Plan) (steps : List RunStep) (run : List Did) (v : ClusterValue) → AreRunSteps plan steps run v → All (λ (s : RunStep). is_refused s.answer ≡ false) steps → Lead (new_cluster plan) (reverse steps) v
+in_order : (plan : Plan) (steps : List RunStep) (run : List NodeStep) (v : ClusterValue) → AreRunSteps plan steps run v → All (λ (s : RunStep). is_refused s.answer ≡ false) steps → Lead (new_cluster plan) (reverse steps) v
 unfolding AreRunSteps Lead
 in_order plan [] run v made fed = made.1
 in_order plan (s ∷ steps) run v made fed =

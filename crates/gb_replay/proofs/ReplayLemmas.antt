@@ -1,7 +1,7 @@
 -- Events that were run and written, one after the other.
 use Rattle.gb_types.specs.Common.{◌≡◌, ℕ, ◌+◌, ◌<◌, length, take, List, [], ◌∷◌, ◌++◌, refl, sym, ap, subst, ◌∙◌, append_assoc, append-nil, reverse-append, take_more, All-cons, All-nil, false, codes, get_or, Result, Ok, Err, IsErrAnd}
 use Rattle.gb_types.specs.declared.plan.Plan.{Plan}
-use Rattle.gb_cluster.specs.Common.{ClusterValue, new_cluster, IsStep, Did, ComesTo, Happens}
+use Rattle.gb_cluster.specs.Common.{ClusterValue, new_cluster, IsStep, NodeStep, ComesTo, Happens}
 use Rattle.gb_cluster.specs.declared.event.Event.{Event}
 use Rattle.gb_lines.specs.Lines.{ended}
 use Rattle.gb_merge.specs.Common.{is_refused}
@@ -42,7 +42,7 @@ begun plan schedule answers v new comes line told = (
   sym new,
 )
 
-steps_on : (plan : Plan) (steps : List RunStep) (step : RunStep) (earlier run : List Did) (before v : ClusterValue)
+steps_on : (plan : Plan) (steps : List RunStep) (step : RunStep) (earlier run : List NodeStep) (before v : ClusterValue)
     → AreRunSteps plan steps earlier before → IsStep before step.event step.answer v → Happens before step.event step.answer earlier v run → AreRunSteps plan (step ∷ steps) run v
 unfolding AreRunSteps
 steps_on plan steps step earlier run before v made takes happens = (before, earlier, made, takes, happens)

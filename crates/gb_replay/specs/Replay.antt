@@ -1,7 +1,7 @@
 -- A schedule and its answers, as the texts of a run of a cluster.
 use Rattle.std.specs.Prelude.{ℕ, ◌≡◌, ◌≢◌, ◌≤◌, false, List, ◌++◌, length, map, reverse, All}
 use Rattle.gb_types.specs.declared.plan.Plan.{Plan}
-use Rattle.gb_cluster.specs.Common.{IsStep, IsPlaced, ClusterValue, Did, ComesTo, RunGoesOn}
+use Rattle.gb_cluster.specs.Common.{IsStep, IsPlaced, ClusterValue, NodeStep, ComesTo, RunGoesOn}
 use Rattle.gb_cluster.specs.declared.{answer.Answer.Answer, event.Event.Event}
 use Rattle.gb_lines.specs.Lines.{ended}
 use Rattle.gb_merge.specs.Common.{is_refused}
@@ -15,7 +15,7 @@ use Rattle.gb_replay.specs.declared.replay.ReplayFault.TheVariants.{Places, TooM
 -- lines of these steps, and the answers are those of their answers. Steps and runs have the newest first.
 pub record IsReplay (plan : Plan) (events : List Event) (schedule answers : List ℕ) : Type 0 where
   pub steps : List RunStep
-  pub run : List Did
+  pub run : List NodeStep
   pub last : ClusterValue
   pub events_are : map (λ (s : RunStep). s.event) steps ≡ reverse events
   pub made : AreRunSteps plan steps run last

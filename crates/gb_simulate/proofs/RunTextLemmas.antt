@@ -3,7 +3,7 @@ use Rattle.gb_types.specs.Common.{ℕ, ◌≡◌, List, [], ◌∷◌, ◌++◌,
 use Rattle.gb_isolation.specs.Isolation.{AmpleRunsFeedAll}
 use Rattle.gb_isolation.specs.RunLaws.{OfGroupsInRuns, AtEachMoment, AnswersNewNotices, TicksAnswerNewNotices, RefusalsChangeNothing}
 use Rattle.gb_isolation.proofs.MomentLemmas.{back}
-use Rattle.gb_cluster.specs.Common.{PacketsAreHonest, PacketsAreRead, LinksHold, NothingIsOutside, CoversTaken, IsInside, IsStep, ClusterValue, IsClusterPlan, Did, ComesTo, Happens, NodesHavePasts, RunsHaveOneEnd}
+use Rattle.gb_cluster.specs.Common.{PacketsAreHonest, PacketsAreRead, LinksHold, NothingIsOutside, CoversTaken, IsInside, IsStep, ClusterValue, IsClusterPlan, NodeStep, ComesTo, Happens, NodesHavePasts, RunsHaveOneEnd}
 use Rattle.gb_cluster.specs.declared.{answer.Answer.Answer, event.Event.Event}
 use Rattle.gb_types.specs.declared.plan.Plan.{Plan}
 use Rattle.gb_cluster.proofs.{NodesLemmas.stays, CodeLemmas.goes_on}
@@ -74,7 +74,7 @@ start_on lines text line answer w (Cluster start) event run spelt (after_is, ans
 start_on lines text line answer w other event run spelt obeys = absurd obeys
 
 -- one step more
-steps_on : (plan : Plan) (steps : List RunStep) (step : RunStep) (earlier run : List Did) (before v : ClusterValue)
+steps_on : (plan : Plan) (steps : List RunStep) (step : RunStep) (earlier run : List NodeStep) (before v : ClusterValue)
     → AreRunSteps plan steps earlier before → IsStep before step.event step.answer v → Happens before step.event step.answer earlier v run → AreRunSteps plan (step ∷ steps) run v
 unfolding AreRunSteps
 steps_on plan steps step earlier run before v made takes happens = (before, earlier, made, takes, happens)
@@ -151,10 +151,10 @@ pub record AllLaws : Type 0 where
   pub served : GroupsAreServed
 
 -- what holds of the last thing that happened in every run holds at each moment
-each_moment : (Holds : List Did → Did → Type 0) (plan : Plan) → ((earlier : List Did) (d : Did) (v : ClusterValue) → ComesTo plan (d ∷ earlier) v → Holds earlier d)
-    → (run : List Did) (v : ClusterValue) → ComesTo plan run v → AtEachMoment Holds run
+each_moment : (Holds : List NodeStep → NodeStep → Type 0) (plan : Plan) → ((earlier : List NodeStep) (d : NodeStep) (v : ClusterValue) → ComesTo plan (d ∷ earlier) v → Holds earlier d)
+    → (run : List NodeStep) (v : ClusterValue) → ComesTo plan run v → AtEachMoment Holds run
 each_moment Holds plan last run v comes later earlier d is =
-    let there = back plan later (d ∷ earlier) v (subst (λ (whole : List Did). ComesTo plan whole v) is comes) in
+    let there = back plan later (d ∷ earlier) v (subst (λ (whole : List NodeStep). ComesTo plan whole v) is comes) in
     last earlier d there.0 there.1
 
 lawful_so : AllLaws → (lines : List (List ℕ)) (text : List ℕ) (w : Option ClusterValue) → TellsRun lines text w → TellsLawfulRun lines text w

@@ -1,6 +1,6 @@
 -- The lines of a schedule and their answers, as the steps of a run of a cluster.
 use Rattle.std.specs.Prelude.{ℕ, ◌≡◌, ◌⊎◌, List, [], ◌∷◌, ◌++◌, Option, Some, None, codes, All}
-use Rattle.gb_cluster.specs.Common.{IsStep, ClusterValue, new_cluster, Did, ComesTo, Happens}
+use Rattle.gb_cluster.specs.Common.{IsStep, ClusterValue, new_cluster, NodeStep, ComesTo, Happens}
 use Rattle.gb_cluster.specs.declared.{answer.Answer.Answer, event.Event.Event}
 use Rattle.gb_types.specs.declared.plan.Plan.{Plan}
 use Rattle.gb_schedule.specs.declared.{command.ClusterStart.ClusterStart, command.Command.Command, command.Command.TheVariants.Cluster}
@@ -16,10 +16,10 @@ pub record RunStep : Type 0 where
   pub answer : Answer
 
 -- steps of a cluster, and what happened at its nodes by them, both with the newest first
-unfoldable pub AreRunSteps : Plan → List RunStep → List Did → ClusterValue → Type 0
+unfoldable pub AreRunSteps : Plan → List RunStep → List NodeStep → ClusterValue → Type 0
 AreRunSteps plan [] run v = (run ≡ []) × (v ≡ new_cluster plan)
 AreRunSteps plan (step ∷ steps) run v =
-    (before : ClusterValue) × (earlier : List Did) × AreRunSteps plan steps earlier before × IsStep before step.event step.answer v × Happens before step.event step.answer earlier v run
+    (before : ClusterValue) × (earlier : List NodeStep) × AreRunSteps plan steps earlier before × IsStep before step.event step.answer v × Happens before step.event step.answer earlier v run
 
 -- a line spells the event of a step in a cluster of this number of nodes, and the line's answer is the step's
 pub record TellsStep (nodes : ℕ) (line answer : List ℕ) (step : RunStep) : Type 0 where
@@ -39,7 +39,7 @@ TellSteps nodes (line ∷ lines) text steps =
 
 -- These lines, the newest first, are those of a run that leads to v. One line starts the cluster; those before it ask for nothing;
 -- those behind it tell the steps. The text is the answers of all lines. The run is what happened at the nodes by the steps.
-pub record IsRunOf (lines : List (List ℕ)) (text : List ℕ) (run : List Did) (v : ClusterValue) : Type 0 where
+pub record IsRunOf (lines : List (List ℕ)) (text : List ℕ) (run : List NodeStep) (v : ClusterValue) : Type 0 where
   pub start : ClusterStart
   pub behind : List (List ℕ)
   pub first : List ℕ
@@ -57,4 +57,4 @@ pub record IsRunOf (lines : List (List ℕ)) (text : List ℕ) (run : List Did) 
 -- these lines are those of a run, or ask for nothing
 abbrev pub TellsRun : List (List ℕ) → List ℕ → Option ClusterValue → Type 0
 TellsRun lines text None = All IsSilent lines × (text ≡ [])
-TellsRun lines text (Some v) = (run : List Did) × IsRunOf lines text run v
+TellsRun lines text (Some v) = (run : List NodeStep) × IsRunOf lines text run v

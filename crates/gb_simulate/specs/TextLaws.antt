@@ -4,7 +4,7 @@ use Rattle.gb_types.specs.declared.{address.Addr.Addr, node.NodeId.NodeId, plan.
 use Rattle.gb_isolation.specs.{Isolation.IsIsolated, Isolation.IsSeenAlone, Isolation.is_ample, Project.is_fed}
 use Rattle.gb_isolation.specs.RunLaws.{RunIntegrity, RunOrder, RunDuties, RunAgreement, MayBeFetched, IsSeenAlike, AtEachMoment, AnswersNewNotices, ChangesNothing}
 use Rattle.gb_node.specs.Past.{ComesTo as NodeComesTo}
-use Rattle.gb_cluster.specs.Common.{IsHonest, IsAlwaysWhole, IsLink, CoversTaken, IsInside, AreRead, ClusterValue, node_plan, node_at, Did, ComesTo, past_at}
+use Rattle.gb_cluster.specs.Common.{IsHonest, IsAlwaysWhole, IsLink, CoversTaken, IsInside, AreRead, ClusterValue, node_plan, node_at, NodeStep, ComesTo, past_at}
 use Rattle.gb_cluster.specs.declared.posted.Posted.{Posted}
 use Rattle.gb_schedule.specs.Grammar.{IsSilent}
 use Rattle.gb_lines.specs.Lines.{lines_of}
@@ -15,7 +15,7 @@ use Rattle.gb_simulate.specs.declared.outcome.SimEnd.TheVariants.{All as AllLine
 
 -- What a cluster promises of a group in a run: it is what it is alone, also as seen from outside; its log may be fetched; another
 -- run in which the same happened to it shows the same of it; and integrity, order, duties and agreement hold.
-pub record IsServed (plan : Plan) (run : List Did) (v : ClusterValue) (g : Addr) : Type 0 where
+pub record IsServed (plan : Plan) (run : List NodeStep) (v : ClusterValue) (g : Addr) : Type 0 where
   pub isolated : IsIsolated plan run v g
   pub seen : IsSeenAlone plan run g
   pub fetched : MayBeFetched plan run v g
@@ -26,7 +26,7 @@ pub record IsServed (plan : Plan) (run : List Did) (v : ClusterValue) (g : Addr)
   pub agreement : RunAgreement plan run v g
 
 -- What a cluster promises of a run.
-pub record KeepsPromises (plan : Plan) (run : List Did) (v : ClusterValue) : Type 0 where
+pub record KeepsPromises (plan : Plan) (run : List NodeStep) (v : ClusterValue) : Type 0 where
   -- the own past of each node leads to its state, and the run leads to exactly one cluster
   pub pasts : (a : NodeId) → a.number < plan.nodes → NodeComesTo (node_plan plan a) (past_at a run) (node_at v a)
   pub only : (w : ClusterValue) → ComesTo plan run w → w ≡ v
@@ -48,7 +48,7 @@ pub record KeepsPromises (plan : Plan) (run : List Did) (v : ClusterValue) : Typ
 -- these lines are those of a run that keeps all promises of a cluster; or they ask for nothing
 abbrev pub TellsLawfulRun : List (List ℕ) → List ℕ → Option ClusterValue → Type 0
 TellsLawfulRun lines text None = All IsSilent lines × (text ≡ [])
-TellsLawfulRun lines text (Some v) = (run : List Did) × (told : IsRunOf lines text run v) × KeepsPromises (plan_of told.start) run v
+TellsLawfulRun lines text (Some v) = (run : List NodeStep) × (told : IsRunOf lines text run v) × KeepsPromises (plan_of told.start) run v
 
 -- the first lines of a schedule are those of such a run, or ask for nothing; these lines are left
 abbrev pub BeginsWithRun : List ℕ → List ℕ → List (List ℕ) → Type 0

@@ -6,7 +6,7 @@ use Rattle.gb_frame.specs.Common.{Content}
 use Rattle.gb_alone.specs.declared.{event.GroupEvent.GroupEvent, event.GroupEvent.TheVariants.Came, event.GroupEvent.TheVariants.Done, event.GroupStep.GroupStep}
 use Rattle.gb_node.specs.Common.{node_numbered, Happened, read, frames_to, is_acked}
 use Rattle.gb_link.specs.Common.{covers}
-use Rattle.gb_cluster.specs.Common.{Did, past_at}
+use Rattle.gb_cluster.specs.Common.{NodeStep, past_at}
 use Rattle.gb_isolation.proofs.MarkLemmas.{group_items_of-none, group_items_of-one}
 use Rattle.gb_isolation.specs.Project.{group_items, group_items_of, offset, if_any, comes, all_acknowledged, is_new_ack, acknowledges, brings}
 use Rattle.gb_trace.specs.Counts.{counts_acknowledged, is_newly}
@@ -154,7 +154,7 @@ before_is : (plan : Plan) (g : Addr) (past : List Happened) (b n : ℕ) (f : Fra
 before_is plan g past b n f kept = ap (λ ks. sum (take n ks)) kept.counts ∙ sym (offset_is g (frames_to plan.cluster_key b past) n)
 
 -- what a frame brings
-pub brought_is : (plan : Plan) (g : Addr) (run : List Did) (a : NodeId) (c : Content) (from : NodeId) (place n count : ℕ) (f : Frames) → from ≡ node_numbered c.from → n ≡ c.frame - 1 → place ≡ sum (take n f.counts.items) → count ≡ length (group_items g c.items)
+pub brought_is : (plan : Plan) (g : Addr) (run : List NodeStep) (a : NodeId) (c : Content) (from : NodeId) (place n count : ℕ) (f : Frames) → from ≡ node_numbered c.from → n ≡ c.frame - 1 → place ≡ sum (take n f.counts.items) → count ≡ length (group_items g c.items)
     → KeepsFrames plan g a.number (past_at from run) f → comes from a place count ≡ brings plan g run a c
 brought_is plan g run a c from place n count f is number placed counts kept =
     ap (λ p. comes from a p count) (placed ∙ before_is plan g (past_at from run) a.number n f kept)

@@ -4,7 +4,7 @@ use Rattle.gb_types.specs.declared.{address.Addr.Addr, entry.Entry.Entry, node.N
 use Rattle.gb_frame.specs.declared.item.Item.{Item}
 use Rattle.gb_node.specs.Common.{Happened, packed_for, frames_to}
 use Rattle.gb_cluster.specs.Common.{past_at}
-use Rattle.gb_trace.specs.Deeds.{past_in}
+use Rattle.gb_trace.specs.NodeSteps.{past_in}
 use Rattle.gb_isolation.proofs.MarkLemmas.{group_items_of-append, group_items_of-none, group_items_of-one}
 use Rattle.gb_isolation.specs.Project.{group_items, group_items_of}
 

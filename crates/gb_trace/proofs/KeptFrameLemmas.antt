@@ -1,5 +1,5 @@
 -- What is kept of frames and marks.
-use Rattle.gb_types.specs.Common.{◌≡◌, ◌≢◌, ℕ, ◌+◌, ◌-◌, ◌<◌, ◌≤◌, Bool, true, false, ◌&&◌, ◌||◌, List, [], ◌∷◌, ◌++◌, length, take, get_or, set, nat_eq, nat_le, nat_lt, refl, sym, ap, subst, ◌∙◌, arith, length-append, sum, list_any, or-false, and-false, or-true, eqb-true, eqb-false, ltb-true, ltb-false, lt-ltb, le-ltb, le-leb, append-nil, map-append, take_all, take-append-le, get_or_append_left, length-map, length-set, get_or-set_same, get_or-set_other, sum_by-append, get_or-append_seam}
+use Rattle.gb_types.specs.Common.{◌≡◌, ◌≢◌, ℕ, ◌+◌, ◌<◌, ◌≤◌, Bool, true, false, ◌&&◌, ◌||◌, List, [], ◌∷◌, ◌++◌, length, take, get_or, set, nat_eq, nat_le, nat_lt, refl, sym, ap, subst, ◌∙◌, arith, length-append, sum, list_any, or-false, and-false, or-true, eqb-true, eqb-false, ltb-true, ltb-false, lt-ltb, le-ltb, le-leb, append-nil, map-append, take_all, take-append-le, get_or_append_left, length-map, length-set, get_or-set_same, get_or-set_other, sum_by-append, get_or-append_seam}
 use Rattle.gb_types.specs.declared.{address.Addr.Addr, plan.Plan.Plan}
 use Rattle.gb_types.proofs.BoolLemmas.{or_left, or_right}
 use Rattle.gb_frame.specs.declared.item.Item.{Item}

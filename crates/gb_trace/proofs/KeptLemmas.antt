@@ -10,7 +10,7 @@ use Rattle.gb_detect.proofs.TickLemmas.{ticks_since, ticks_since-tick}
 use Rattle.gb_rules.specs.Common.{row_of}
 use Rattle.gb_node.specs.Common.{Happened, added, came, packed_for, is_stopped, stops, tenants_in, ticks, watched}
 use Rattle.gb_node.specs.declared.{answer.NodeAnswer.NodeAnswer, answer.NodeAnswer.TheVariants.Taken, answer.NodeAnswer.TheVariants.Ticked, answer.PacketAnswer.TheVariants.Good as TakenGood, answer.Ticked.TheVariants.Noticed, event.NodeEvent.NodeEvent, event.NodeEvent.TheVariants.Packet as Came, event.NodeEvent.TheVariants.Tick as Ticking}
-use Rattle.gb_cluster.specs.Common.{Did, past_at}
+use Rattle.gb_cluster.specs.Common.{NodeStep, past_at}
 use Rattle.gb_isolation.specs.Project.{group_items, is_met, is_met_by, made_by, made_with}
 use Rattle.gb_trace.specs.declared.{frames.Frames.Frames, kept.NodeKept.NodeKept, links.Link.Link}
 use Rattle.gb_trace.specs.Kept.{AreNew, IsBare, IsNew, Keeps, KeepsFrames, KeepsLink, KeepsLinks, KeepsNode, TickAll, Takes, Ticks}
@@ -241,7 +241,7 @@ unfolding past_at
 nodes_new plan g nodes positive new = record { many = new.many; each = λ a d. node_new plan g a (get_or nodes a.number d) positive (new.each a.number d a.below) }
 
 -- the node where it happened is changed
-pub nodes_go_on : (plan : Plan) (g : Addr) (d : Did) (run : List Did) (nodes : List NodeKept) (new : NodeKept) → KeepsNode plan g d.node (record { event = d.event; answer = d.answer } ∷ past_at d.node run) new → Keeps plan g run nodes
+pub nodes_go_on : (plan : Plan) (g : Addr) (d : NodeStep) (run : List NodeStep) (nodes : List NodeKept) (new : NodeKept) → KeepsNode plan g d.node (record { event = d.event; answer = d.answer } ∷ past_at d.node run) new → Keeps plan g run nodes
     → Keeps plan g (d ∷ run) (set nodes d.node.number new)
 unfolding past_at
 nodes_go_on plan g d run nodes new here was = record {

@@ -1,4 +1,4 @@
-pub mod DeedLemmas
+pub mod NodeStepLemmas
 pub mod PastLemmas
 pub mod FrameLemmas
 pub mod SeenLemmas

@@ -2,7 +2,7 @@
 use Rattle.gb_types.specs.Common.{◌≡◌, suc, List, [], ◌∷◌, ◌++◌, length, refl, sym, ap, subst, ◌∙◌, reverse, reverse-append}
 use Rattle.gb_types.specs.declared.{node.NodeId.NodeId, plan.Plan.Plan, reply.Reply.Reply, request.Request.Request}
 use Rattle.gb_node.specs.declared.{answer.NodeAnswer.TheVariants.Reply as Replied, event.NodeEvent.TheVariants.Request as Asked}
-use Rattle.gb_cluster.specs.Common.{IsStep, NodeActs, ClusterValue, new_cluster, Did, ComesTo}
+use Rattle.gb_cluster.specs.Common.{IsStep, NodeActs, ClusterValue, new_cluster, NodeStep, ComesTo}
 use Rattle.gb_cluster.specs.declared.{answer.Answer.Answer, answer.Answer.TheVariants.Reply as AnswerReply, event.Event.Event, event.Event.TheVariants.At, posted.Posted.Posted}
 use Rattle.gb_cluster.proofs.EndLemmas.{one_end}
 use Rattle.gb_isolation.specs.RunLaws.{LogsMayBeFetched, fetched_alone, to_fetch}
@@ -19,7 +19,7 @@ as_many v w (e ∷ es) [] steps = absurd steps
 as_many v w (e ∷ es) (r ∷ rs) steps = ap suc (as_many steps.0 w es rs steps.2)
 
 -- a run that goes on at a node, which leaves the cluster as it is
-acts_on : (plan : Plan) (run : List Did) (v : ClusterValue) (d : Did) → ComesTo plan run v → ComesTo plan (d ∷ run) v → NodeActs v d.node d.event d.answer v
+acts_on : (plan : Plan) (run : List NodeStep) (v : ClusterValue) (d : NodeStep) → ComesTo plan run v → ComesTo plan (d ∷ run) v → NodeActs v d.node d.event d.answer v
 unfolding ComesTo
 acts_on plan run v d comes (old, was, sent, acts) = subst (λ (o : ClusterValue). NodeActs o d.node d.event d.answer v) (one_end plan run old v was comes) acts
 
@@ -29,11 +29,11 @@ goes_on : (plan : Plan) (events : List Event) (answers : List Answer) (packets :
     → IsRun plan (events ++ At a (Asked request) ∷ []) (answers ++ AnswerReply reply ∷ []) packets v
 goes_on plan events answers packets v was a request reply goes = record {
   stepped = steps_more (new_cluster plan) v v events answers (At a (Asked request)) (AnswerReply reply) was.stepped step;
-  comes = subst (λ (ds : List Did). ComesTo plan ds v) (sym longer) goes;
+  comes = subst (λ (ds : List NodeStep). ComesTo plan ds v) (sym longer) goes;
   sent = was.sent;
 }
   where
-    d : Did
+    d : NodeStep
     d = record { node = a; event = Asked request; answer = Replied reply }
 
     step : IsStep v (At a (Asked request)) (AnswerReply reply) v

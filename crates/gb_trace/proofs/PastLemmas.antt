@@ -2,47 +2,47 @@
 use Rattle.gb_types.specs.Common.{◌≡◌, ℕ, ◌+◌, ◌<◌, ◌≤◌, Bool, true, false, List, [], ◌∷◌, ◌++◌, length, take, get_or, ◌∙◌, ap, sym, refl, option_or, find-append, reverse, find, nat_eq, if◌then◌else◌, take_all, take_more, reverse-append}
 use Rattle.gb_types.specs.declared.{address.Addr.Addr, node.NodeId.NodeId, plan.Plan.Plan}
 use Rattle.gb_node.specs.Common.{Happened, added, tenants_in}
-use Rattle.gb_cluster.specs.Common.{Did, past_at}
+use Rattle.gb_cluster.specs.Common.{NodeStep, past_at}
 use Rattle.gb_isolation.specs.Project.{gives, project, reply_in, replies_in}
-use Rattle.gb_trace.specs.Deeds.{past_in}
+use Rattle.gb_trace.specs.NodeSteps.{past_in}
 
 -- one thing more
-pub newest : (ds : List Did) (i : ℕ) (d : Did) → i < length ds → d ≡ get_or ds i d → reverse (take (i + 1) ds) ≡ d ∷ reverse (take i ds)
-newest ds i d lt is = ap reverse (take_more ds i d lt ∙ ap (λ (x : Did). take i ds ++ x ∷ []) (sym is)) ∙ reverse-append (take i ds) (d ∷ [])
+pub newest : (ds : List NodeStep) (i : ℕ) (d : NodeStep) → i < length ds → d ≡ get_or ds i d → reverse (take (i + 1) ds) ≡ d ∷ reverse (take i ds)
+newest ds i d lt is = ap reverse (take_more ds i d lt ∙ ap (λ (x : NodeStep). take i ds ++ x ∷ []) (sym is)) ∙ reverse-append (take i ds) (d ∷ [])
 
-pub whole : (ds : List Did) (n : ℕ) → length ds ≤ n → take n ds ≡ ds
+pub whole : (ds : List NodeStep) (n : ℕ) → length ds ≤ n → take n ds ≡ ds
 whole ds n le = take_all n ds le
 
-past_newest : (a : NodeId) (ds : List Did) (i : ℕ) (d : Did) → i < length ds → d ≡ get_or ds i d
+past_newest : (a : NodeId) (ds : List NodeStep) (i : ℕ) (d : NodeStep) → i < length ds → d ≡ get_or ds i d
     → past_in a (take (i + 1) ds) ≡ (if nat_eq d.node.number a.number then record { event = d.event; answer = d.answer } ∷ past_in a (take i ds) else past_in a (take i ds))
 unfolding past_at
 past_newest a ds i d lt is = ap (past_at a) (newest ds i d lt is)
 
 -- at the node, and at another
-pub here : (a : NodeId) (ds : List Did) (i : ℕ) (d : Did) → i < length ds → d ≡ get_or ds i d → nat_eq d.node.number a.number ≡ true
+pub here : (a : NodeId) (ds : List NodeStep) (i : ℕ) (d : NodeStep) → i < length ds → d ≡ get_or ds i d → nat_eq d.node.number a.number ≡ true
     → past_in a (take (i + 1) ds) ≡ record { event = d.event; answer = d.answer } ∷ past_in a (take i ds)
 here a ds i d lt is at = past_newest a ds i d lt is ∙ ap (λ (t : Bool). if t then record { event = d.event; answer = d.answer } ∷ past_in a (take i ds) else past_in a (take i ds)) at
 
-pub elsewhere : (a : NodeId) (ds : List Did) (i : ℕ) (d : Did) → i < length ds → d ≡ get_or ds i d → nat_eq d.node.number a.number ≡ false → past_in a (take (i + 1) ds) ≡ past_in a (take i ds)
+pub elsewhere : (a : NodeId) (ds : List NodeStep) (i : ℕ) (d : NodeStep) → i < length ds → d ≡ get_or ds i d → nat_eq d.node.number a.number ≡ false → past_in a (take (i + 1) ds) ≡ past_in a (take i ds)
 elsewhere a ds i d lt is at = past_newest a ds i d lt is ∙ ap (λ (t : Bool). if t then record { event = d.event; answer = d.answer } ∷ past_in a (take i ds) else past_in a (take i ds)) at
 
 -- a list that each thing at the node lengthens, after one thing more there
-pub longer : {X : Type 0} (f : List Happened → List X) (more : List X) (a : NodeId) (ds : List Did) (i : ℕ) (d : Did) (was now : List X) → i < length ds → d ≡ get_or ds i d → nat_eq d.node.number a.number ≡ true
+pub longer : {X : Type 0} (f : List Happened → List X) (more : List X) (a : NodeId) (ds : List NodeStep) (i : ℕ) (d : NodeStep) (was now : List X) → i < length ds → d ≡ get_or ds i d → nat_eq d.node.number a.number ≡ true
     → f (record { event = d.event; answer = d.answer } ∷ past_in a (take i ds)) ≡ f (past_in a (take i ds)) ++ more → now ≡ was ++ more → was ≡ f (past_in a (take i ds)) → now ≡ f (past_in a (take (i + 1) ds))
 longer f more a ds i d was now lt is at grows adds so = adds ∙ (ap (λ xs. xs ++ more) so ∙ (sym grows ∙ ap f (sym (here a ds i d lt is at))))
 
 -- and after one elsewhere
-pub as_long : {X : Type 0} (f : List Happened → List X) (a : NodeId) (ds : List Did) (i : ℕ) (d : Did) (was : List X) → i < length ds → d ≡ get_or ds i d → nat_eq d.node.number a.number ≡ false
+pub as_long : {X : Type 0} (f : List Happened → List X) (a : NodeId) (ds : List NodeStep) (i : ℕ) (d : NodeStep) (was : List X) → i < length ds → d ≡ get_or ds i d → nat_eq d.node.number a.number ≡ false
     → was ≡ f (past_in a (take i ds)) → was ≡ f (past_in a (take (i + 1) ds))
 as_long f a ds i d was lt is at so = so ∙ ap f (sym (elsewhere a ds i d lt is at))
 
 -- the tenants that were added, after one thing more
-pub added_here : (a : NodeId) (ds : List Did) (i : ℕ) (d : Did) → i < length ds → d ≡ get_or ds i d → nat_eq d.node.number a.number ≡ true
+pub added_here : (a : NodeId) (ds : List NodeStep) (i : ℕ) (d : NodeStep) → i < length ds → d ≡ get_or ds i d → nat_eq d.node.number a.number ≡ true
     → tenants_in (past_in a (take (i + 1) ds)) ≡ tenants_in (past_in a (take i ds)) ++ added d.event d.answer
 unfolding tenants_in
 added_here a ds i d lt is at = ap tenants_in (here a ds i d lt is at)
 
-pub added_elsewhere : (a : NodeId) (ds : List Did) (i : ℕ) (d : Did) → i < length ds → d ≡ get_or ds i d → nat_eq d.node.number a.number ≡ false → tenants_in (past_in a (take (i + 1) ds)) ≡ tenants_in (past_in a (take i ds))
+pub added_elsewhere : (a : NodeId) (ds : List NodeStep) (i : ℕ) (d : NodeStep) → i < length ds → d ≡ get_or ds i d → nat_eq d.node.number a.number ≡ false → tenants_in (past_in a (take (i + 1) ds)) ≡ tenants_in (past_in a (take i ds))
 added_elsewhere a ds i d lt is at = ap tenants_in (elsewhere a ds i d lt is at)
 
 pub none_added : (a : NodeId) → tenants_in (past_in a []) ≡ []
@@ -63,7 +63,7 @@ pub none_projected : (plan : Plan) (g : Addr) → project plan g [] ≡ []
 unfolding project
 none_projected plan g = refl
 
-pub more_projected : (plan : Plan) (g : Addr) (run : List Did) (d : Did) → project plan g (d ∷ run) ≡ project plan g run ++ gives plan g run d.node d.event d.answer
+pub more_projected : (plan : Plan) (g : Addr) (run : List NodeStep) (d : NodeStep) → project plan g (d ∷ run) ≡ project plan g run ++ gives plan g run d.node d.event d.answer
 unfolding project
 more_projected plan g run d = refl
 

@@ -4,7 +4,7 @@ use Rattle.gb_types.specs.declared.{address.Addr.Addr, limits.TheConstants.NODES
 use Rattle.gb_types.proofs.BoolLemmas.{or_left, or_right}
 use Rattle.gb_node.specs.Common.{Happened, added, tenants_in}
 use Rattle.gb_node.specs.declared.{answer.NodeAnswer.NodeAnswer, answer.NodeAnswer.TheVariants.Reply as Replied, answer.NodeAnswer.TheVariants.Sent, answer.Sent.Sent as SentValue, event.NodeEvent.NodeEvent, event.NodeEvent.TheVariants.Request as Asked, event.NodeEvent.TheVariants.Packet as Came}
-use Rattle.gb_cluster.specs.Common.{packet_numbered, Did, past_at}
+use Rattle.gb_cluster.specs.Common.{packet_numbered, NodeStep, past_at}
 use Rattle.gb_cluster.specs.declared.{answer.Answer.Answer, event.Event.Event, event.Event.TheVariants.At, event.Event.TheVariants.Arrive, posted.Posted.Posted}
 use Rattle.gb_cluster.specs.declared.answer.Answer.TheVariants.{Reply as AnswerReply, Taken as AnswerTaken, Sent as AnswerSent, Ticked as AnswerTicked, Halted as AnswerHalted, NoPacket, NotNoise}
 use Rattle.gb_isolation.specs.Project.{is_starved_by, is_fed}
@@ -12,10 +12,10 @@ use Rattle.gb_trace.specs.Kept.{AreRows}
 use Rattle.gb_trace.specs.Refused.{is_untaken_by, is_refused_for, is_lacked_by, rows_by}
 use Rattle.gb_trace.specs.Trace.{did_in, did_with, own_answer, sent_as, run_of, all_did}
 use Rattle.gb_rules.specs.Common.{row_of}
-use Rattle.gb_trace.proofs.DeedLemmas.{did_arrive, newest_deed}
+use Rattle.gb_trace.proofs.NodeStepLemmas.{did_arrive, newest_node_step}
 use Rattle.gb_trace.proofs.PastLemmas.{find_later}
 
-pub unrefused_fed : (g : Addr) (run : List Did) → is_refused_for g run ≡ false → is_fed g run ≡ true
+pub unrefused_fed : (g : Addr) (run : List NodeStep) → is_refused_for g run ≡ false → is_fed g run ≡ true
 unfolding is_refused_for is_fed
 unrefused_fed g [] none = refl
 unrefused_fed g (d ∷ run) none =
@@ -26,7 +26,7 @@ unrefused_fed g (d ∷ run) none =
 -- the run with one event more
 run_more : (ps : List Posted) (es : List Event) (rs : List Answer) (i : ℕ) (e : Event) (r : Answer) → i < length es → i < length rs → e ≡ get_or es i e → r ≡ get_or rs i r
     → run_of (take (i + 1) es) (take (i + 1) rs) ps ≡ reverse (did_in ps e r) ++ run_of (take i es) (take i rs) ps
-run_more ps es rs i e r lt ls is it = ap reverse (newest_deed ps es rs i e r lt ls is it) ∙ reverse-append (all_did ps (take i es) (take i rs)) (did_in ps e r)
+run_more ps es rs i e r lt ls is it = ap reverse (newest_node_step ps es rs i e r lt ls is it) ∙ reverse-append (all_did ps (take i es) (take i rs)) (did_in ps e r)
 
 -- only a reply says that a request was refused, or that a tenant was added
 abbrev is_reply : NodeAnswer → Bool
@@ -48,7 +48,7 @@ abbrev IsUntold : Option NodeAnswer → Type 0
 IsUntold None = Unit {0}
 IsUntold (Some answer) = is_reply answer ≡ false
 
-with_untold : (g : Addr) (run : List Did) (a : NodeId) (event : NodeEvent) (o : Option NodeAnswer) → IsUntold o → is_refused_for g (reverse (did_with a event o) ++ run) ≡ is_refused_for g run
+with_untold : (g : Addr) (run : List NodeStep) (a : NodeId) (event : NodeEvent) (o : Option NodeAnswer) → IsUntold o → is_refused_for g (reverse (did_with a event o) ++ run) ≡ is_refused_for g run
 unfolding is_refused_for
 with_untold g run a event None other = refl
 with_untold g run a event (Some answer) other = ap (λ t. t || is_refused_for g run) (unrefused g a (past_at a run) event answer other)
@@ -81,7 +81,7 @@ untold ps NoPacket other = tt
 untold ps NotNoise other = tt
 
 -- a packet that arrives is no request
-arrival_unrefused : (g : Addr) (run : List Did) (p : Option Posted) (o : Option NodeAnswer) → is_refused_for g (reverse (did_arrive p o) ++ run) ≡ is_refused_for g run
+arrival_unrefused : (g : Addr) (run : List NodeStep) (p : Option Posted) (o : Option NodeAnswer) → is_refused_for g (reverse (did_arrive p o) ++ run) ≡ is_refused_for g run
 unfolding is_refused_for
 arrival_unrefused g run None o = refl
 arrival_unrefused g run (Some p) None = refl
@@ -98,7 +98,7 @@ arrival_unadded a (Some p) (Some answer) = by (nat_eq p.to.number a.number)
     by false = refl
 
 -- one event more
-lacks_more : (g : Addr) (run : List Did) (ps : List Posted) (e : Event) (r : Answer) → is_refused_for g (reverse (did_in ps e r) ++ run) ≡ (is_lacked_by g run e r || is_refused_for g run)
+lacks_more : (g : Addr) (run : List NodeStep) (ps : List Posted) (e : Event) (r : Answer) → is_refused_for g (reverse (did_in ps e r) ++ run) ≡ (is_lacked_by g run e r || is_refused_for g run)
 unfolding is_refused_for
 lacks_more g run ps (Arrive k) r = arrival_unrefused g run (packet_numbered ps k) (own_answer ps r)
 lacks_more g run ps (At a event) (AnswerReply reply) = refl
@@ -125,7 +125,7 @@ rows_in a ps (At node event) NoPacket = refl
 rows_in a ps (At node event) NotNoise = refl
 
 -- the rows of a node, behind those of what happened before
-rows_behind : (a : NodeId) (run : List Did) (ds : List Did) → tenants_in (past_at a (ds ++ run)) ≡ tenants_in (past_at a run) ++ tenants_in (past_at a ds)
+rows_behind : (a : NodeId) (run : List NodeStep) (ds : List NodeStep) → tenants_in (past_at a (ds ++ run)) ≡ tenants_in (past_at a run) ++ tenants_in (past_at a ds)
 unfolding past_at tenants_in
 rows_behind a run [] = sym (append-nil (tenants_in (past_at a run)))
 rows_behind a run (d ∷ ds) = by (nat_eq d.node.number a.number) (rows_behind a run ds)
@@ -152,9 +152,9 @@ one ps (Arrive k) r = one_arrives (packet_numbered ps k) (own_answer ps r)
 pub rows_more : (a : NodeId) (ps : List Posted) (es : List Event) (rs : List Answer) (i : ℕ) (e : Event) (r : Answer) → i < length es → i < length rs → e ≡ get_or es i e → r ≡ get_or rs i r
     → tenants_in (past_at a (run_of (take (i + 1) es) (take (i + 1) rs) ps)) ≡ tenants_in (past_at a (run_of (take i es) (take i rs) ps)) ++ rows_by a e r
 rows_more a ps es rs i e r lt ls is it =
-    let was : List Did = run_of (take i es) (take i rs) ps in
-    ap (λ (run : List Did). tenants_in (past_at a run)) (run_more ps es rs i e r lt ls is it)
-    ∙ (ap (λ (ds : List Did). tenants_in (past_at a (ds ++ was))) (one ps e r)
+    let was : List NodeStep = run_of (take i es) (take i rs) ps in
+    ap (λ (run : List NodeStep). tenants_in (past_at a run)) (run_more ps es rs i e r lt ls is it)
+    ∙ (ap (λ (ds : List NodeStep). tenants_in (past_at a (ds ++ was))) (one ps e r)
     ∙ (rows_behind a was (did_in ps e r) ∙ ap (λ (rows : List TenantRow). tenants_in (past_at a was) ++ rows) (rows_in a ps e r)))
 
 pub refused_more : (g : Addr) (ps : List Posted) (es : List Event) (rs : List Answer) (i : ℕ) (e : Event) (r : Answer) → i < length es → i < length rs → e ≡ get_or es i e → r ≡ get_or rs i r

@@ -7,13 +7,13 @@ use Rattle.gb_node.specs.declared.{answer.NodeAnswer.NodeAnswer, event.NodeEvent
 use Rattle.gb_node.specs.declared.answer.NodeAnswer.TheVariants.{Reply as Replied, Taken, Sent, Ticked, Halted}
 use Rattle.gb_node.specs.declared.event.NodeEvent.TheVariants.{Request as Asked, Packet as Came, Pack, Again, Ack, Tick, Stop}
 use Rattle.gb_cluster.proofs.{CodeLemmas.arrived_was_posted, NodesLemmas.stays}
-use Rattle.gb_cluster.specs.Common.{posted, answer_of, packet_numbered, is_packet_for, NodeActs, IsAt, IsArrival, IsPlaced, IsStep, ClusterValue, node_at, new_cluster, Did, ComesTo, IsSent}
+use Rattle.gb_cluster.specs.Common.{posted, answer_of, packet_numbered, is_packet_for, NodeActs, IsAt, IsArrival, IsPlaced, IsStep, ClusterValue, node_at, new_cluster, NodeStep, ComesTo, IsSent}
 use Rattle.gb_cluster.specs.declared.{answer.Answer.Answer, event.Event.Event, event.Event.TheVariants.At, event.Event.TheVariants.Arrive, posted.Posted.Posted, answer.Sending.TheVariants.Packet as SendingPacket, answer.Sending.TheVariants.Nothing as SendingNothing, answer.Sending.TheVariants.Refused as SendingRefused}
 use Rattle.gb_cluster.specs.declared.answer.Answer.TheVariants.{Reply as AnswerReply, Taken as AnswerTaken, Sent as AnswerSent, Ticked as AnswerTicked, Halted as AnswerHalted, NoPacket, NotNoise}
 use Rattle.gb_isolation.specs.Isolation.{wants_memory, is_ample}
 use Rattle.gb_trace.specs.Run.{is_refused_by, tells_want}
 use Rattle.gb_trace.specs.Trace.{own_answer, did_with, did_in, all_did, AreSteps, IsRun}
-use Rattle.gb_trace.proofs.DeedLemmas.{did_arrive}
+use Rattle.gb_trace.proofs.NodeStepLemmas.{did_arrive}
 
 -- Packets by their numbers.
 
@@ -79,7 +79,7 @@ record IsOneMore (v : ClusterValue) (e : Event) (a : Answer) (w : ClusterValue) 
   more : List Posted
   grows : w.packets ≡ v.packets ++ more
   settled : (rest : List Posted) → did_in (w.packets ++ rest) e a ≡ did_in w.packets e a
-  comes : (plan : Plan) (run : List Did) → ComesTo plan run v → ComesTo plan (reverse (did_in w.packets e a) ++ run) w
+  comes : (plan : Plan) (run : List NodeStep) → ComesTo plan run v → ComesTo plan (reverse (did_in w.packets e a) ++ run) w
 
 none_arrives : (o : Option Posted) → did_arrive o None ≡ []
 none_arrives None = refl
@@ -91,7 +91,7 @@ nothing_more v w e a same none = record {
   more = [];
   grows = ap (λ (n : ClusterValue). n.packets) same ∙ sym (append-nil v.packets);
   settled = λ rest. none (w.packets ++ rest) ∙ sym (none w.packets);
-  comes = λ plan run comes. subst (λ (ds : List Did). ComesTo plan (reverse ds ++ run) w) (sym (none w.packets)) (subst (ComesTo plan run) (sym same) comes);
+  comes = λ plan run comes. subst (λ (ds : List NodeStep). ComesTo plan (reverse ds ++ run) w) (sym (none w.packets)) (subst (ComesTo plan run) (sym same) comes);
 }
 
 -- something happened at a node
@@ -102,7 +102,7 @@ one_more v w e a at event own acts sent is = record {
   more = posted event own;
   grows = ap (λ (n : ClusterValue). n.packets) acts.after;
   settled = λ rest. is rest ∙ sym here;
-  comes = λ plan run comes. subst (λ (ds : List Did). ComesTo plan (reverse ds ++ run) w) (sym here) (v, comes, sent, acts);
+  comes = λ plan run comes. subst (λ (ds : List NodeStep). ComesTo plan (reverse ds ++ run) w) (sym here) (v, comes, sent, acts);
 }
   where
     here : did_in w.packets e a ≡ record { node = at; event = event; answer = own } ∷ []
@@ -167,7 +167,7 @@ run_begins plan rs v none is comes = subst (λ (xs : List Answer). Goes plan [] 
 run_on : SendersRun → (plan : Plan) (es : List Event) (rs : List Answer) (v w : ClusterValue) (e : Event) (a : Answer) → Goes plan es rs v → IsStep v e a w → Goes plan (es ++ e ∷ []) (rs ++ a ∷ []) w
 run_on law plan es rs v w e a was step = record {
   stepped = steps_more (new_cluster plan) v w es rs e a was.stepped step;
-  comes = subst (λ (ds : List Did). ComesTo plan ds w) (sym all) (one.comes plan (reverse (all_did v.packets es rs)) was.comes);
+  comes = subst (λ (ds : List NodeStep). ComesTo plan ds w) (sym all) (one.comes plan (reverse (all_did v.packets es rs)) was.comes);
   settled = λ rest.
       all_did_more (w.packets ++ rest) es rs e a was.count
       ∙ (ap (λ ds. ds ++ did_in (w.packets ++ rest) e a) (later rest)
@@ -242,7 +242,7 @@ refused_as packets (AnswerHalted halted) = refl
 refused_as packets NoPacket = refl
 refused_as packets NotNoise = refl
 
-ample_append : (xs ys : List Did) → is_ample xs ≡ true → is_ample ys ≡ true → is_ample (xs ++ ys) ≡ true
+ample_append : (xs ys : List NodeStep) → is_ample xs ≡ true → is_ample ys ≡ true → is_ample (xs ++ ys) ≡ true
 unfolding is_ample
 ample_append [] ys a b = b
 ample_append (x ∷ xs) ys a b = let parts = and_parts (not (wants_memory x.answer)) (is_ample xs) a in and_both parts.0 (ample_append xs ys parts.1 b)

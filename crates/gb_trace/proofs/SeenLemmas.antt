@@ -5,7 +5,7 @@ use Rattle.gb_alone.specs.Common.{Group, alone, IsLegal, observed_alone}
 use Rattle.gb_alone.specs.declared.event.GroupStep.{GroupStep}
 use Rattle.gb_alone.proofs.ObservationLemmas.{seen_same}
 use Rattle.gb_node.specs.Common.{waiting_at, node_numbered, frames_to}
-use Rattle.gb_cluster.specs.Common.{node_at, Did, past_at}
+use Rattle.gb_cluster.specs.Common.{node_at, NodeStep, past_at}
 use Rattle.gb_cluster.proofs.NodesLemmas.{stays}
 use Rattle.gb_isolation.proofs.{NoticeLemmas.numbered_is, SeenLemmas.take_front}
 use Rattle.gb_isolation.specs.Isolation.{Seen, alone_in, IsIsolated, GroupsAreIsolated}
@@ -58,7 +58,7 @@ seen_alone_projected isolated seen plan events answers packets v is_run g fed st
   seen plan run v g (stays plan run v is_run.comes).right.few alike ∙ ap (λ (ss : List GroupStep). observed_alone plan.nodes (alone (bounds_of plan) g ss)) (sym are),
 )
   where
-    run : List Did
+    run : List NodeStep
     run = run_of events answers packets
 
     alike : IsIsolated plan run v g

@@ -7,12 +7,12 @@ use Rattle.gb_link.specs.Common.{covers}
 use Rattle.gb_detect.specs.Silence.{since_heard, is_noticed, is_tick}
 use Rattle.gb_rules.specs.Common.{row_of}
 use Rattle.gb_node.specs.Common.{Happened, frames_to, is_acked, is_stopped, tenants_in, watched}
-use Rattle.gb_cluster.specs.Common.{Did, past_at}
+use Rattle.gb_cluster.specs.Common.{NodeStep, past_at}
 use Rattle.gb_isolation.specs.Project.{group_items, has_come, is_met, made_with}
 use Rattle.gb_trace.specs.declared.{frames.Frames.Frames, links.Link.Link, kept.NodeKept.NodeKept}
 
 -- for each node, the row of the tenant there after the run, if it was added
-abbrev pub AreRows : ℕ → List Did → List (Option TenantRow) → Type 0
+abbrev pub AreRows : ℕ → List NodeStep → List (Option TenantRow) → Type 0
 AreRows tenant run rows = (a : NodeId) → slice_index_or rows a.number None ≡ row_of tenant (tenants_in (past_at a run))
 
 -- Frames.
@@ -122,6 +122,6 @@ pub record KeepsNode (plan : Plan) (g : Addr) (a : NodeId) (past : List Happened
   pub links : KeepsLinks plan g past node.links.items
 
 -- and so at each node, after the run
-pub record Keeps (plan : Plan) (g : Addr) (run : List Did) (nodes : List NodeKept) : Type 0 where
+pub record Keeps (plan : Plan) (g : Addr) (run : List NodeStep) (nodes : List NodeKept) : Type 0 where
   pub many : length nodes ≡ NODES
   pub each : (a : NodeId) (d : NodeKept) → KeepsNode plan g a (past_at a run) (slice_index_or nodes a.number d)

@@ -1,5 +1,5 @@
 pub mod Trace
-pub mod Deeds
+pub mod NodeSteps
 pub mod Counts
 pub mod Observed
 pub mod Run

@@ -4,7 +4,7 @@ use Rattle.std.specs.Option.{option_map_or, option_to_list}
 use Rattle.gb_types.specs.declared.{address.Addr.Addr, node.NodeId.NodeId, plan.Plan.Plan}
 use Rattle.gb_node.specs.declared.{answer.NodeAnswer.NodeAnswer, answer.Sent.Sent as SentValue, event.NodeEvent.NodeEvent, event.NodeEvent.TheVariants.Packet as Came, answer.Sent.TheVariants.Packet as SentPacket, answer.Sent.TheVariants.Nothing as SentNothing, answer.Sent.TheVariants.Refused as SentRefused}
 use Rattle.gb_node.specs.declared.answer.NodeAnswer.TheVariants.{Reply as Replied, Taken, Sent, Ticked, Halted}
-use Rattle.gb_cluster.specs.Common.{packet_numbered, IsStep, ClusterValue, new_cluster, Did, ComesTo}
+use Rattle.gb_cluster.specs.Common.{packet_numbered, IsStep, ClusterValue, new_cluster, NodeStep, ComesTo}
 use Rattle.gb_cluster.specs.declared.{answer.Answer.Answer, answer.Sending.Sending, event.Event.Event, event.Event.TheVariants.At, event.Event.TheVariants.Arrive, posted.Posted.Posted, answer.Sending.TheVariants.Packet as SendingPacket, answer.Sending.TheVariants.Nothing as SendingNothing, answer.Sending.TheVariants.Refused as SendingRefused}
 use Rattle.gb_cluster.specs.declared.answer.Answer.TheVariants.{Reply as AnswerReply, Taken as AnswerTaken, Sent as AnswerSent, Ticked as AnswerTicked, Halted as AnswerHalted}
 use Rattle.gb_isolation.specs.{Isolation.IsSeenAlone, Project.is_fed}
@@ -25,23 +25,23 @@ own_answer packets (AnswerHalted halted) = Some (Halted halted)
 own_answer packets answer = None
 
 -- what happened at a node by an event; nothing if the node did not answer
-abbrev pub did_with : NodeId → NodeEvent → Option NodeAnswer → List Did
+abbrev pub did_with : NodeId → NodeEvent → Option NodeAnswer → List NodeStep
 did_with a event o = option_to_list (option_map (λ answer. record { node = a; event = event; answer = answer }) o)
 
 -- What happened at a node by an event with its answer. An event at a node is that node's own. A packet that arrives is its text, at the node that it was sent to.
 -- If there was no such packet, or no node answered, nothing happened.
-abbrev pub did_in : List Posted → Event → Answer → List Did
+abbrev pub did_in : List Posted → Event → Answer → List NodeStep
 did_in packets (At a event) answer = did_with a event (own_answer packets answer)
 did_in packets (Arrive k) answer = option_map_or (λ (p : Posted). did_with p.to (Came p.text) (own_answer packets answer)) (packet_numbered packets k) []
 
 -- all that happened, in order; if there are more events than answers, or more answers than events, the surplus is ignored
-unfoldable pub all_did : List Posted → List Event → List Answer → List Did
+unfoldable pub all_did : List Posted → List Event → List Answer → List NodeStep
 all_did packets [] answers = []
 all_did packets (e ∷ events) [] = []
 all_did packets (e ∷ events) (a ∷ answers) = did_in packets e a ++ all_did packets events answers
 
 -- the run that these events, answers and packets show, the newest first
-abbrev pub run_of : List Event → List Answer → List Posted → List Did
+abbrev pub run_of : List Event → List Answer → List Posted → List NodeStep
 run_of events answers packets = reverse (all_did packets events answers)
 
 -- what the run shows of each group that had no request refused for lack of memory is what the group has alone

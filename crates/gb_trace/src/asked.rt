@@ -4,7 +4,7 @@ ghost use Rattle.std.specs.Option.{option_to_list};
 ghost use Rattle.gb_alone.specs.declared.event.GroupEvent.TheVariants.{Stop as Ends};
 ghost use Rattle.gb_isolation.specs.Project.{event_of, command_for, made_by, is_own_request as is_own, is_noticed_at, ticked, tenant_given, other_given, with_stop, asked};
 ghost use Rattle.gb_node.specs.declared.{answer.NodeAnswer.TheVariants.Reply as Replied, event.NodeEvent.TheVariants.Request as Asked};
-ghost use Rattle.gb_trace.specs.Deeds.{past_in};
+ghost use Rattle.gb_trace.specs.NodeSteps.{past_in};
 ghost use Rattle.gb_trace.specs.Kept.{KeepsLinks, KeepsNode};
 
 use crate::kept::NodeKept;

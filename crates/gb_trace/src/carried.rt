@@ -7,7 +7,7 @@ ghost use Rattle.gb_node.specs.Common.{node_numbered};
 ghost use Rattle.gb_alone.specs.declared.event.GroupEvent.TheVariants.{Took, Done};
 ghost use Rattle.gb_isolation.specs.Project.{group_items_of, if_any, comes, is_new_frame, acknowledges, brings, arrived};
 ghost use Rattle.gb_trace.specs.Counts.{counts_acknowledged, is_newly};
-ghost use Rattle.gb_trace.specs.Deeds.{past_in};
+ghost use Rattle.gb_trace.specs.NodeSteps.{past_in};
 ghost use Rattle.gb_trace.specs.Kept.{ArePlaces, IsFront, Keeps, KeepsLinks};
 ghost use Rattle.gb_frame.specs.Common.{Content};
 

@@ -3,14 +3,14 @@ ghost use Rattle.std.specs.Prelude.{◌≡◌, ◌≤◌, ◌∷◌, ◌||◌, I
 ghost use Rattle.std.specs.Option.{option_or};
 ghost use Rattle.gb_types.specs.declared.limits.TheConstants.{SILENCE_MIN as LEAST};
 ghost use Rattle.gb_isolation.specs.Project.{made_by};
-ghost use Rattle.gb_trace.specs.Deeds.{past_in};
+ghost use Rattle.gb_trace.specs.NodeSteps.{past_in};
 ghost use Rattle.gb_trace.specs.Kept.{AreNew, IsNew, Keeps, KeepsNode};
 
-use crate::deed::Deed;
 use crate::links::{Link, keep_links, new_links};
 use crate::moment::Moment;
 use crate::past::{makes, meets, row_in, stops};
 use gb_cap::HmacKey;
+use gb_node::NodeStep;
 use gb_types::limits::NODES;
 use gb_types::{Addr, OutOfMemory, Spec, TenantRow};
 use std::alloc::Global;
@@ -61,49 +61,49 @@ fn either(first: bool, second: bool) -> bool
     first || second
 }
 
-/// Keeps the spec with which `deed` makes the group, if it does.
-fn keep_made(addr: Addr, deed: &Deed, made: &mut Option<Spec>)
-    ensures { made.new ≡ option_or (made_by addr deed.now.event deed.now.answer) made.old }
+/// Keeps the spec with which `node_step` makes the group, if it does.
+fn keep_made(addr: Addr, node_step: &NodeStep, made: &mut Option<Spec>)
+    ensures { made.new ≡ option_or (made_by addr node_step.now.event node_step.now.answer) made.old }
 {
-    if let Some(spec) = makes(addr, deed) {
+    if let Some(spec) = makes(addr, node_step) {
         *made = Some(spec.duplicate());
     }
 }
 
-/// Takes in `deed`, which happens at the moment. `node` is what is kept of the moment's node.
+/// Takes in `node_step`, which happens at the moment. `node` is what is kept of the moment's node.
 fn keep_at(
     moment: Moment<'_>,
     key: &HmacKey,
-    deed: &Deed,
+    node_step: &NodeStep,
     node: &mut NodeKept,
 ) -> Result<(), OutOfMemory>
     requires least { LEAST ≤ moment.plan.now.silence }
     requires key { key.now ≡ moment.plan.now.cluster_key }
     requires kept { KeepsNode moment.plan.now moment.addr moment.node (past_in moment.node moment.before.now) node.old }
-    ensures { let m = moment.entry in OnOk result (KeepsNode m.plan.now m.addr m.node (record { event = deed.now.event; answer = deed.now.answer } ∷ past_in m.node m.before.now) node.new) }
+    ensures { let m = moment.entry in OnOk result (KeepsNode m.plan.now m.addr m.node (record { event = node_step.now.event; answer = node_step.now.answer } ∷ past_in m.node m.before.now) node.new) }
 {
-    let met = meets(moment, node, deed);
-    keep_links(moment, key, deed, &mut node.links)?;
-    node.row = node.row.or(row_in(moment.addr.tenant, deed).copied());
-    node.stopped = either(stops(deed), node.stopped);
+    let met = meets(moment, node, node_step);
+    keep_links(moment, key, node_step, &mut node.links)?;
+    node.row = node.row.or(row_in(moment.addr.tenant, node_step).copied());
+    node.stopped = either(stops(node_step), node.stopped);
     node.met = either(met, node.met);
-    keep_made(moment.addr, deed, &mut node.made);
+    keep_made(moment.addr, node_step, &mut node.made);
     Ok(())
 }
 
-/// Takes in `deed`, which happens at the moment. `nodes` is what is kept of each node.
+/// Takes in `node_step`, which happens at the moment. `nodes` is what is kept of each node.
 pub(crate) fn keep(
     moment: Moment<'_>,
     key: &HmacKey,
-    deed: &Deed,
+    node_step: &NodeStep,
     nodes: &mut Vec<NodeKept>,
 ) -> Result<(), OutOfMemory>
     requires least { LEAST ≤ moment.plan.now.silence }
     requires key { key.now ≡ moment.plan.now.cluster_key }
     requires kept { Keeps moment.plan.now moment.addr (reverse moment.before.now) nodes.old.items }
-    ensures { let m = moment.entry in OnOk result (Keeps m.plan.now m.addr (record { node = m.node; event = deed.now.event; answer = deed.now.answer } ∷ reverse m.before.now) nodes.new.items) }
+    ensures { let m = moment.entry in OnOk result (Keeps m.plan.now m.addr (record { node = m.node; event = node_step.now.event; answer = node_step.now.answer } ∷ reverse m.before.now) nodes.new.items) }
 {
-    keep_at(moment, key, deed, &mut nodes[moment.node.index()])
+    keep_at(moment, key, node_step, &mut nodes[moment.node.index()])
 }
 
 /// Returns what is kept of the moment's node. `nodes` is what is kept of each node.

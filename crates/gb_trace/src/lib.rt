@@ -7,12 +7,12 @@
 
 mod asked;
 mod carried;
-mod deed;
 mod frames;
 mod kept;
 pub mod laws;
 mod links;
 mod moment;
+mod node_steps;
 mod noticed;
 pub mod observation;
 mod past;

@@ -2,16 +2,16 @@
 ghost use Rattle.std.specs.Prelude.{◌≡◌, ◌≤◌, [], ◌∷◌, IfOk, OnOk};
 ghost use Rattle.gb_types.specs.declared.limits.TheConstants.{SILENCE_MIN as LEAST};
 ghost use Rattle.gb_node.specs.Past as past;
-ghost use Rattle.gb_trace.specs.Deeds.{past_in};
+ghost use Rattle.gb_trace.specs.NodeSteps.{past_in};
 ghost use Rattle.gb_trace.specs.Kept.{AreBare, IsBare, IsFront, KeepsLink, KeepsLinks, Takes, Ticks, TickAll};
 
-use crate::deed::Deed;
 use crate::frames::Frames;
 use crate::moment::Moment;
 use crate::reading::{came, count_in, packed, sender, target};
 use crate::silence::{is_silent, ticks};
 use gb_cap::HmacKey;
 use gb_frame::PacketView;
+use gb_node::NodeStep;
 use gb_types::limits::NODES;
 use gb_types::{NodeId, OutOfMemory};
 use std::alloc::Global;
@@ -89,25 +89,25 @@ fn tick_all(silence: u16, links: &mut Vec<Link>) -> Result<(), OutOfMemory>
     Ok(())
 }
 
-/// Takes in `deed`, which happens at the moment and took no packet and is no tick: if it packed a frame, that is added. `links` is
+/// Takes in `node_step`, which happens at the moment and took no packet and is no tick: if it packed a frame, that is added. `links` is
 /// what is kept of the links of the moment's node.
 fn keep_packed(
     moment: Moment<'_>,
     key: &HmacKey,
-    deed: &Deed,
+    node_step: &NodeStep,
     links: &mut Vec<Link>,
 ) -> Result<(), OutOfMemory>
     requires least { LEAST ≤ moment.plan.now.silence }
     requires key { key.now ≡ moment.plan.now.cluster_key }
-    requires untaken { past.came key.now deed.now.event deed.now.answer ≡ [] }
-    requires unticked { past.ticks deed.now.event deed.now.answer ≡ [] }
+    requires untaken { past.came key.now node_step.now.event node_step.now.answer ≡ [] }
+    requires unticked { past.ticks node_step.now.event node_step.now.answer ≡ [] }
     requires kept { KeepsLinks moment.plan.now moment.addr (past_in moment.node moment.before.now) links.old.items }
-    ensures { let m = moment.entry in OnOk result (KeepsLinks m.plan.now m.addr (record { event = deed.now.event; answer = deed.now.answer } ∷ past_in m.node m.before.now) links.new.items) }
+    ensures { let m = moment.entry in OnOk result (KeepsLinks m.plan.now m.addr (record { event = node_step.now.event; answer = node_step.now.answer } ∷ past_in m.node m.before.now) links.new.items) }
 {
-    let Some(to) = target(deed) else {
+    let Some(to) = target(node_step) else {
         return Ok(());
     };
-    match packed(key, to, deed) {
+    match packed(key, to, node_step) {
         None => Ok(()),
         Some(packet) => {
             let count = count_in(moment.addr, &packet);
@@ -116,25 +116,25 @@ fn keep_packed(
     }
 }
 
-/// Takes in `deed`, which happens at the moment. `links` is what is kept of the links of the moment's node.
+/// Takes in `node_step`, which happens at the moment. `links` is what is kept of the links of the moment's node.
 pub(crate) fn keep_links(
     moment: Moment<'_>,
     key: &HmacKey,
-    deed: &Deed,
+    node_step: &NodeStep,
     links: &mut Vec<Link>,
 ) -> Result<(), OutOfMemory>
     requires least { LEAST ≤ moment.plan.now.silence }
     requires key { key.now ≡ moment.plan.now.cluster_key }
     requires kept { KeepsLinks moment.plan.now moment.addr (past_in moment.node moment.before.now) links.old.items }
-    ensures { let m = moment.entry in OnOk result (KeepsLinks m.plan.now m.addr (record { event = deed.now.event; answer = deed.now.answer } ∷ past_in m.node m.before.now) links.new.items) }
+    ensures { let m = moment.entry in OnOk result (KeepsLinks m.plan.now m.addr (record { event = node_step.now.event; answer = node_step.now.answer } ∷ past_in m.node m.before.now) links.new.items) }
 {
-    if let Some(packet) = came(key, deed) {
+    if let Some(packet) = came(key, node_step) {
         return links[sender(&packet).index()].take(&packet);
     }
-    if ticks(deed) {
+    if ticks(node_step) {
         return tick_all(moment.plan.silence, links);
     }
-    keep_packed(moment, key, deed, links)
+    keep_packed(moment, key, node_step, links)
 }
 
 /// Returns what is kept of the link to the node `b`. `links` is what is kept of the links of the moment's node.

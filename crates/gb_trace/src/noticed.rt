@@ -5,7 +5,7 @@ ghost use Rattle.std.specs.Option.{option_copied};
 ghost use Rattle.gb_rules.specs.Common.{is_other};
 ghost use Rattle.gb_alone.specs.declared.event.GroupEvent.TheVariants.{Notice};
 ghost use Rattle.gb_isolation.specs.Project.{is_noticed_at, notices, ticked};
-ghost use Rattle.gb_trace.specs.Deeds.{past_in};
+ghost use Rattle.gb_trace.specs.NodeSteps.{past_in};
 ghost use Rattle.gb_trace.specs.Kept.{KeepsLinks};
 
 use crate::links::Link;

@@ -6,39 +6,39 @@ ghost use Rattle.gb_rules.specs.Common.{row_of};
 ghost use Rattle.gb_alone.specs.Common.{numbers_below};
 ghost use Rattle.gb_node.specs.Common.{packed_for, frames_to, tenants_in};
 ghost use Rattle.gb_isolation.specs.Project.{group_items_of, reply_in, replies_in};
-ghost use Rattle.gb_trace.specs.Deeds.{past_in};
+ghost use Rattle.gb_trace.specs.NodeSteps.{past_in};
 ghost use Rattle.gb_trace.specs.Observed.{observed, observed_at};
 ghost use Rattle.gb_trace.specs.Trace.{run_of};
 
-use crate::deed::{Deed, deeds_of};
+use crate::node_steps::{is_at, node_steps_of};
 use crate::past::{is_own_by, row_in};
 use crate::reading::{add_items, packed};
 use crate::trace::Trace;
 use gb_alone::{NodeSeen, Observation};
 use gb_cap::HmacKey;
 use gb_cluster::Event;
-use gb_node::{NodeAnswer, NodeEvent};
+use gb_node::{NodeAnswer, NodeEvent, NodeStep};
 use gb_types::{Addr, Entries, NodeId, OutOfMemory, Plan, Reply, TenantRow};
 use std::alloc::Global;
 
-/// If `deed` is a request of the group at the node `a`, adds a copy of its reply. `before` is what happened before, and `row` is
+/// If `node_step` is a request of the group at the node `a`, adds a copy of its reply. `before` is what happened before, and `row` is
 /// the row of the group's tenant at the node by then.
 fn add_reply(
     alloc: Global,
     addr: Addr,
     a: NodeId,
-    before: &[Deed],
+    before: &[NodeStep],
     row: Option<&TenantRow>,
-    deed: &Deed,
+    node_step: &NodeStep,
     replies: &mut Vec<Reply>,
 ) -> Result<(), OutOfMemory>
     requires { option_copied row ≡ row_of addr.tenant (tenants_in (past_in a before.now)) }
-    ensures { OnOk result (replies.new.items ≡ replies.old.items ++ reply_in a addr (past_in a before.now) deed.now.event deed.now.answer) }
+    ensures { OnOk result (replies.new.items ≡ replies.old.items ++ reply_in a addr (past_in a before.now) node_step.now.event node_step.now.answer) }
 {
-    let NodeEvent::Request(request) = deed.event() else {
+    let NodeEvent::Request(request) = &node_step.event else {
         return Ok(());
     };
-    let NodeAnswer::Reply(reply) = deed.answer() else {
+    let NodeAnswer::Reply(reply) = &node_step.answer else {
         return Ok(());
     };
     if is_own_by(addr, a, row, request) {
@@ -52,35 +52,43 @@ fn replies_at(
     alloc: Global,
     addr: Addr,
     a: NodeId,
-    deeds: &[Deed],
+    node_steps: &[NodeStep],
 ) -> Result<Vec<Reply>, OutOfMemory>
-    ensures { IfOk result (λ v. v.items ≡ replies_in a addr (past_in a deeds.now)) }
+    ensures { IfOk result (λ v. v.items ≡ replies_in a addr (past_in a node_steps.now)) }
 {
     let mut replies = Vec::new(alloc);
     let mut row = None;
-    for i in 0..deeds.len() {
-        let deed = &deeds[i];
-        if deed.is_at(a) {
-            add_reply(alloc, addr, a, &deeds[..i], row, deed, &mut replies)?;
-            row = row.or(row_in(addr.tenant, deed));
+    for i in 0..node_steps.len() {
+        let node_step = &node_steps[i];
+        if is_at(node_step, a) {
+            add_reply(
+                alloc,
+                addr,
+                a,
+                &node_steps[..i],
+                row,
+                node_step,
+                &mut replies,
+            )?;
+            row = row.or(row_in(addr.tenant, node_step));
         }
     }
     Ok(replies)
 }
 
-/// If `deed` packed a frame for the node `b`, adds the group's items in it.
+/// If `node_step` packed a frame for the node `b`, adds the group's items in it.
 #[tactic(auto, using(crate::proofs::FrameLemmas::one_frame, crate::proofs::FrameLemmas::no_frame))]
 fn add_frame(
     alloc: Global,
     addr: Addr,
     key: &HmacKey,
     b: NodeId,
-    deed: &Deed,
+    node_step: &NodeStep,
     items: &mut Entries,
 ) -> Result<(), OutOfMemory>
-    ensures { OnOk result (items.new ≡ items.old ++ group_items_of addr (packed_for key.now b.number deed.now.event deed.now.answer)) }
+    ensures { OnOk result (items.new ≡ items.old ++ group_items_of addr (packed_for key.now b.number node_step.now.event node_step.now.answer)) }
 {
-    if let Some(packet) = packed(key, b, deed) {
+    if let Some(packet) = packed(key, b, node_step) {
         add_items(alloc, addr, &packet, items)?;
     }
     Ok(())
@@ -93,15 +101,15 @@ fn items_to(
     key: &HmacKey,
     a: NodeId,
     b: NodeId,
-    deeds: &[Deed],
+    node_steps: &[NodeStep],
 ) -> Result<Entries, OutOfMemory>
-    ensures { IfOk result (λ e. e ≡ group_items_of addr (frames_to key.now b.number (past_in a deeds.now))) }
+    ensures { IfOk result (λ e. e ≡ group_items_of addr (frames_to key.now b.number (past_in a node_steps.now))) }
 {
     let mut items = Entries::new(alloc);
-    for i in 0..deeds.len() {
-        let deed = &deeds[i];
-        if deed.is_at(a) {
-            add_frame(alloc, addr, key, b, deed, &mut items)?;
+    for i in 0..node_steps.len() {
+        let node_step = &node_steps[i];
+        if is_at(node_step, a) {
+            add_frame(alloc, addr, key, b, node_step, &mut items)?;
         }
     }
     Ok(items)
@@ -115,14 +123,14 @@ fn items_from(
     key: &HmacKey,
     nodes: u8,
     a: NodeId,
-    deeds: &[Deed],
+    node_steps: &[NodeStep],
 ) -> Result<Vec<Entries>, OutOfMemory>
     requires { nodes ≤ MOST }
-    ensures { IfOk result (λ v. v.items ≡ map (λ b. group_items_of addr (frames_to key.now b (past_in a deeds.now))) (numbers_below nodes)) }
+    ensures { IfOk result (λ v. v.items ≡ map (λ b. group_items_of addr (frames_to key.now b (past_in a node_steps.now))) (numbers_below nodes)) }
 {
     let mut carried = Vec::new(alloc);
     for b in 0..nodes {
-        carried.push(items_to(alloc, addr, key, a, NodeId::new(b), deeds)?)?;
+        carried.push(items_to(alloc, addr, key, a, NodeId::new(b), node_steps)?)?;
     }
     Ok(carried)
 }
@@ -134,14 +142,14 @@ fn seen_at(
     addr: Addr,
     key: &HmacKey,
     a: NodeId,
-    deeds: &[Deed],
+    node_steps: &[NodeStep],
 ) -> Result<NodeSeen, OutOfMemory>
     requires few { plan.now.nodes ≤ MOST }
     requires key { key.now ≡ plan.now.cluster_key }
-    ensures { IfOk result (λ s. s ≡ observed_at plan.now addr (reverse deeds.now) a) }
+    ensures { IfOk result (λ s. s ≡ observed_at plan.now addr (reverse node_steps.now) a) }
 {
-    let replies = replies_at(alloc, addr, a, deeds)?;
-    let carried = items_from(alloc, addr, key, plan.nodes, a, deeds)?;
+    let replies = replies_at(alloc, addr, a, node_steps)?;
+    let carried = items_from(alloc, addr, key, plan.nodes, a, node_steps)?;
     Ok(NodeSeen::new(replies, carried))
 }
 
@@ -151,15 +159,15 @@ fn seen_in(
     alloc: Global,
     plan: &Plan,
     addr: Addr,
-    deeds: &[Deed],
+    node_steps: &[NodeStep],
 ) -> Result<Observation, OutOfMemory>
     requires { plan.now.nodes ≤ MOST }
-    ensures { IfOk result (λ o. o ≡ observed plan.now addr (reverse deeds.now)) }
+    ensures { IfOk result (λ o. o ≡ observed plan.now addr (reverse node_steps.now)) }
 {
     let key = HmacKey::new(&plan.cluster_key);
     let mut seen = Vec::new(alloc);
     for a in 0..plan.nodes {
-        seen.push(seen_at(alloc, plan, addr, &key, NodeId::new(a), deeds)?)?;
+        seen.push(seen_at(alloc, plan, addr, &key, NodeId::new(a), node_steps)?)?;
     }
     Ok(Observation::from(seen))
 }
@@ -176,6 +184,6 @@ pub fn observe(
     requires { plan.now.nodes ≤ MOST }
     ensures { IfOk result (λ o. o ≡ observed plan.now addr (run_of events.now trace.now.answers.items trace.now.packets.items)) }
 {
-    let deeds = deeds_of(alloc, events, &trace.answers, &trace.packets)?;
-    seen_in(alloc, plan, addr, &deeds)
+    let node_steps = node_steps_of(alloc, events, &trace.answers, &trace.packets)?;
+    seen_in(alloc, plan, addr, &node_steps)
 }

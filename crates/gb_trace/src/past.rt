@@ -7,15 +7,14 @@ ghost use Rattle.gb_table.specs.Common.{has_group_token, is_by_row};
 ghost use Rattle.gb_types.specs.declared.spec.TenantRow.{TenantRow as RowValue};
 ghost use Rattle.gb_node.specs.declared.{answer.NodeAnswer.TheVariants.Reply as Replied, event.NodeEvent.TheVariants.Request as Asked};
 ghost use Rattle.gb_isolation.specs.Project as projected;
-ghost use Rattle.gb_trace.specs.Deeds.{past_in};
+ghost use Rattle.gb_trace.specs.NodeSteps.{past_in};
 ghost use Rattle.gb_trace.specs.Kept.{KeepsNode};
 
-use crate::deed::Deed;
 use crate::kept::NodeKept;
 use crate::moment::Moment;
 use gb_cap::token::admits;
 use gb_cap::{Need, Token};
-use gb_node::{Halted, NodeAnswer, NodeEvent};
+use gb_node::{Halted, NodeAnswer, NodeEvent, NodeStep};
 use gb_rules::address::is_same;
 use gb_table::need::command_need;
 use gb_types::{Action, Addr, GroupCommand, NodeId, Reply, Request, Spec, TenantRow};
@@ -37,12 +36,12 @@ pub(crate) fn row_added<'a>(
     }
 }
 
-/// Returns the row of the tenant, if `deed` added it.
-pub(crate) fn row_in(tenant: u16, deed: &Deed) -> Option<&TenantRow>
-    ensures { option_copied result ≡ row_of tenant (added deed.now.event deed.now.answer) }
+/// Returns the row of the tenant, if `node_step` added it.
+pub(crate) fn row_in(tenant: u16, node_step: &NodeStep) -> Option<&TenantRow>
+    ensures { option_copied result ≡ row_of tenant (added node_step.now.event node_step.now.answer) }
 {
-    match deed.event() {
-        NodeEvent::Request(request) => match deed.answer() {
+    match &node_step.event {
+        NodeEvent::Request(request) => match &node_step.answer {
             NodeAnswer::Reply(reply) => row_added(tenant, request, reply),
             _ => None,
         },
@@ -82,12 +81,12 @@ pub(crate) fn is_own_request(moment: Moment<'_>, row: Option<&TenantRow>, reques
     is_own_by(moment.addr, moment.node, row, request)
 }
 
-/// Returns true if the node stopped by `deed`.
-pub(crate) fn stops(deed: &Deed) -> bool
-    ensures { result ≡ occurred.stops deed.now.event deed.now.answer }
+/// Returns true if the node stopped by `node_step`.
+pub(crate) fn stops(node_step: &NodeStep) -> bool
+    ensures { result ≡ occurred.stops node_step.now.event node_step.now.answer }
 {
-    match deed.event() {
-        NodeEvent::Stop => match deed.answer() {
+    match &node_step.event {
+        NodeEvent::Stop => match &node_step.answer {
             NodeAnswer::Halted(Halted::Done) => true,
             _ => false,
         },
@@ -95,16 +94,16 @@ pub(crate) fn stops(deed: &Deed) -> bool
     }
 }
 
-/// Returns true if `deed`, which happens at the moment, is a request of the group, and the moment's node had stopped before. `node`
+/// Returns true if `node_step`, which happens at the moment, is a request of the group, and the moment's node had stopped before. `node`
 /// is what is kept of that node.
-pub(crate) fn meets(moment: Moment<'_>, node: &NodeKept, deed: &Deed) -> bool
+pub(crate) fn meets(moment: Moment<'_>, node: &NodeKept, node_step: &NodeStep) -> bool
     requires { KeepsNode moment.plan.now moment.addr moment.node (past_in moment.node moment.before.now) node.now }
-    ensures { let m = moment.entry in result ≡ projected.is_met_by m.node m.addr (past_in m.node m.before.now) deed.now.event deed.now.answer }
+    ensures { let m = moment.entry in result ≡ projected.is_met_by m.node m.addr (past_in m.node m.before.now) node_step.now.event node_step.now.answer }
 {
-    let NodeEvent::Request(request) = deed.event() else {
+    let NodeEvent::Request(request) = &node_step.event else {
         return false;
     };
-    let NodeAnswer::Reply(_) = deed.answer() else {
+    let NodeAnswer::Reply(_) = &node_step.answer else {
         return false;
     };
     node.stopped && is_own_request(moment, node.row.as_ref(), request)
@@ -123,12 +122,12 @@ pub(crate) fn made<'a>(addr: Addr, request: &'a Request, reply: &Reply) -> Optio
     }
 }
 
-/// Returns the spec with which `deed` makes the group, or `None` if it does not make it.
-pub(crate) fn makes(addr: Addr, deed: &Deed) -> Option<&Spec>
-    ensures { option_copied result ≡ projected.made_by addr deed.now.event deed.now.answer }
+/// Returns the spec with which `node_step` makes the group, or `None` if it does not make it.
+pub(crate) fn makes(addr: Addr, node_step: &NodeStep) -> Option<&Spec>
+    ensures { option_copied result ≡ projected.made_by addr node_step.now.event node_step.now.answer }
 {
-    match deed.event() {
-        NodeEvent::Request(request) => match deed.answer() {
+    match &node_step.event {
+        NodeEvent::Request(request) => match &node_step.answer {
             NodeAnswer::Reply(reply) => made(addr, request, reply),
             _ => None,
         },

@@ -8,52 +8,52 @@ ghost use Rattle.gb_trace.specs.Trace.{run_of};
 
 use crate::asked::of_request;
 use crate::carried::{of_packed, of_taken};
-use crate::deed::{Deed, deeds_of};
 use crate::kept::{NodeKept, keep, new_nodes, node_at};
 use crate::moment::Moment;
+use crate::node_steps::node_steps_of;
 use crate::noticed::of_tick;
 use crate::steps::add;
 use crate::trace::Trace;
 use gb_alone::GroupStep;
 use gb_cap::HmacKey;
 use gb_cluster::Event;
-use gb_node::{NodeAnswer, NodeEvent, PacketAnswer, Sent, Ticked};
+use gb_node::{NodeAnswer, NodeEvent, NodeStep, PacketAnswer, Sent, Ticked};
 use gb_types::{Addr, OutOfMemory, Plan};
 use std::alloc::Global;
 
-/// Adds the group's steps from `deed`, which happens at the moment. `nodes` is what is kept of each node.
-fn of_deed(
+/// Adds the group's steps from `node_step`, which happens at the moment. `nodes` is what is kept of each node.
+fn of_node_step(
     alloc: Global,
     moment: Moment<'_>,
     key: &HmacKey,
     nodes: &[NodeKept],
-    deed: &Deed,
+    node_step: &NodeStep,
     steps: &mut Vec<GroupStep>,
 ) -> Result<(), OutOfMemory>
     requires key { key.now ≡ moment.plan.now.cluster_key }
     requires kept { Keeps moment.plan.now moment.addr (reverse moment.before.now) nodes.now }
-    ensures { let m = moment.entry in OnOk result (steps.new.items ≡ steps.old.items ++ gives m.plan.now m.addr (reverse m.before.now) m.node deed.now.event deed.now.answer) }
+    ensures { let m = moment.entry in OnOk result (steps.new.items ≡ steps.old.items ++ gives m.plan.now m.addr (reverse m.before.now) m.node node_step.now.event node_step.now.answer) }
 {
     let node = node_at(moment, nodes);
-    match deed.event() {
-        NodeEvent::Request(request) => match deed.answer() {
+    match &node_step.event {
+        NodeEvent::Request(request) => match &node_step.answer {
             NodeAnswer::Reply(reply) => of_request(alloc, moment, node, request, reply, steps),
             _ => Ok(()),
         },
-        NodeEvent::Pack(b) => match deed.answer() {
+        NodeEvent::Pack(b) => match &node_step.answer {
             NodeAnswer::Sent(Sent::Packet(text)) => {
                 let step = of_packed(moment.addr, key, moment.node, *b, text.as_slice());
                 add(step, steps)
             }
             _ => Ok(()),
         },
-        NodeEvent::Packet(bytes) => match deed.answer() {
+        NodeEvent::Packet(bytes) => match &node_step.answer {
             NodeAnswer::Taken(PacketAnswer::Good(_)) => {
                 of_taken(moment, key, nodes, bytes.as_slice(), steps)
             }
             _ => Ok(()),
         },
-        NodeEvent::Tick => match deed.answer() {
+        NodeEvent::Tick => match &node_step.answer {
             NodeAnswer::Ticked(Ticked::Noticed(found)) => {
                 of_tick(moment.node, node.made.as_ref(), found, steps)
             }
@@ -63,30 +63,30 @@ fn of_deed(
     }
 }
 
-/// Returns the part of `deeds` that concerns the group, as steps of the group.
-fn of_deeds(
+/// Returns the part of `node_steps` that concerns the group, as steps of the group.
+fn of_node_steps(
     alloc: Global,
     plan: &Plan,
     addr: Addr,
-    deeds: &[Deed],
+    node_steps: &[NodeStep],
 ) -> Result<Vec<GroupStep>, OutOfMemory>
     requires { LEAST ≤ plan.now.silence }
-    ensures { IfOk result (λ v. v.items ≡ projected.project plan.now addr (reverse deeds.now)) }
+    ensures { IfOk result (λ v. v.items ≡ projected.project plan.now addr (reverse node_steps.now)) }
 {
     let key = HmacKey::new(&plan.cluster_key);
     let mut nodes = new_nodes(alloc)?;
     let mut steps = Vec::new(alloc);
-    for i in 0..deeds.len() {
-        let before = &deeds[..i];
-        let deed = &deeds[i];
+    for i in 0..node_steps.len() {
+        let before = &node_steps[..i];
+        let node_step = &node_steps[i];
         let moment = Moment {
             plan,
             addr,
             before,
-            node: deed.node(),
+            node: node_step.node,
         };
-        of_deed(alloc, moment, &key, &nodes, deed, &mut steps)?;
-        keep(moment, &key, deed, &mut nodes)?;
+        of_node_step(alloc, moment, &key, &nodes, node_step, &mut steps)?;
+        keep(moment, &key, node_step, &mut nodes)?;
     }
     Ok(steps)
 }
@@ -105,6 +105,6 @@ pub fn project(
     requires { LEAST ≤ plan.now.silence }
     ensures { IfOk result (λ v. v.items ≡ projected.project plan.now addr (run_of events.now trace.now.answers.items trace.now.packets.items)) }
 {
-    let deeds = deeds_of(alloc, events, &trace.answers, &trace.packets)?;
-    of_deeds(alloc, plan, addr, &deeds)
+    let node_steps = node_steps_of(alloc, events, &trace.answers, &trace.packets)?;
+    of_node_steps(alloc, plan, addr, &node_steps)
 }

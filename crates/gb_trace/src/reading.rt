@@ -5,11 +5,10 @@ ghost use Rattle.gb_node.specs.Common.{node_numbered};
 ghost use Rattle.gb_node.specs.Past as past;
 ghost use Rattle.gb_isolation.specs.Project.{group_items};
 
-use crate::deed::Deed;
 use gb_cap::HmacKey;
 use gb_frame::reading::decode;
 use gb_frame::{ItemView, PacketView};
-use gb_node::{NodeAnswer, NodeEvent, PacketAnswer, Sent};
+use gb_node::{NodeAnswer, NodeEvent, NodeStep, PacketAnswer, Sent};
 use gb_rules::address::is_same;
 use gb_types::limits::NODES;
 use gb_types::{Addr, Entries, Entry, NodeId, OutOfMemory, Payload};
@@ -25,27 +24,31 @@ pub(crate) fn read<'a>(key: &HmacKey, bytes: &'a [u8]) -> Option<PacketView<'a>>
     }
 }
 
-/// Returns the packet that `deed` took, or `None` if it took none.
-pub(crate) fn came<'a>(key: &HmacKey, deed: &'a Deed) -> Option<PacketView<'a>>
-    ensures { MatchOption result (past.came key.now deed.now.event deed.now.answer ≡ []) (λ c. past.came key.now deed.now.event deed.now.answer ≡ c ∷ []) }
+/// Returns the packet that `node_step` took, or `None` if it took none.
+pub(crate) fn came<'a>(key: &HmacKey, node_step: &'a NodeStep) -> Option<PacketView<'a>>
+    ensures { MatchOption result (past.came key.now node_step.now.event node_step.now.answer ≡ []) (λ c. past.came key.now node_step.now.event node_step.now.answer ≡ c ∷ []) }
 {
-    let NodeEvent::Packet(bytes) = deed.event() else {
+    let NodeEvent::Packet(bytes) = &node_step.event else {
         return None;
     };
-    let NodeAnswer::Taken(PacketAnswer::Good(_)) = deed.answer() else {
+    let NodeAnswer::Taken(PacketAnswer::Good(_)) = &node_step.answer else {
         return None;
     };
     read(key, bytes.as_slice())
 }
 
-/// Returns the packet that `deed` packed for the node `b`, or `None` if it packed none.
-pub(crate) fn packed<'a>(key: &HmacKey, b: NodeId, deed: &'a Deed) -> Option<PacketView<'a>>
-    ensures { MatchOption result (past.packed_for key.now b.number deed.now.event deed.now.answer ≡ []) (λ c. past.packed_for key.now b.number deed.now.event deed.now.answer ≡ c.items ∷ []) }
+/// Returns the packet that `node_step` packed for the node `b`, or `None` if it packed none.
+pub(crate) fn packed<'a>(
+    key: &HmacKey,
+    b: NodeId,
+    node_step: &'a NodeStep,
+) -> Option<PacketView<'a>>
+    ensures { MatchOption result (past.packed_for key.now b.number node_step.now.event node_step.now.answer ≡ []) (λ c. past.packed_for key.now b.number node_step.now.event node_step.now.answer ≡ c.items ∷ []) }
 {
-    let NodeEvent::Pack(to) = deed.event() else {
+    let NodeEvent::Pack(to) = &node_step.event else {
         return None;
     };
-    let NodeAnswer::Sent(Sent::Packet(text)) = deed.answer() else {
+    let NodeAnswer::Sent(Sent::Packet(text)) = &node_step.answer else {
         return None;
     };
     if to.number != b.number {
@@ -54,11 +57,11 @@ pub(crate) fn packed<'a>(key: &HmacKey, b: NodeId, deed: &'a Deed) -> Option<Pac
     read(key, text.as_slice())
 }
 
-/// Returns the node for which `deed` may have packed a packet, or `None` if it packed none.
-pub(crate) fn target(deed: &Deed) -> Option<NodeId>
-    ensures { MatchOption result ((key : List ℕ) (b : ℕ) → past.packed_for key b deed.now.event deed.now.answer ≡ []) (λ to. (key : List ℕ) (b : ℕ) → nat_eq to.number b ≡ false → past.packed_for key b deed.now.event deed.now.answer ≡ []) }
+/// Returns the node for which `node_step` may have packed a packet, or `None` if it packed none.
+pub(crate) fn target(node_step: &NodeStep) -> Option<NodeId>
+    ensures { MatchOption result ((key : List ℕ) (b : ℕ) → past.packed_for key b node_step.now.event node_step.now.answer ≡ []) (λ to. (key : List ℕ) (b : ℕ) → nat_eq to.number b ≡ false → past.packed_for key b node_step.now.event node_step.now.answer ≡ []) }
 {
-    match deed.event() {
+    match &node_step.event {
         NodeEvent::Pack(to) => Some(*to),
         _ => None,
     }

@@ -3,7 +3,7 @@ ghost use Rattle.std.specs.Prelude.{◌≡◌, false, true, None, List, slice_in
 ghost use Rattle.std.specs.Option.{option_copied, option_or};
 ghost use Rattle.gb_types.specs.declared.node.NodeId.{NodeId as AnyNode};
 ghost use Rattle.gb_rules.specs.Common.{row_of};
-ghost use Rattle.gb_cluster.specs.Common.{Did};
+ghost use Rattle.gb_cluster.specs.Common.{NodeStep};
 ghost use Rattle.gb_isolation.specs.Project.{is_fed};
 ghost use Rattle.gb_trace.specs.Kept.{AreRows};
 ghost use Rattle.gb_trace.specs.Refused.{is_lacked_by, is_refused_for, rows_by};
@@ -46,7 +46,7 @@ fn keep_row(rows: &mut [Option<TenantRow>; NODES], tenant: u16, event: &Event, a
 /// Returns true if the event was refused for lack of memory and is a request of the group or one that adds its tenant. `rows`
 /// has, for each node, the row of the group's tenant as it was before the event.
 fn is_lacking(rows: &[Option<TenantRow>; NODES], addr: Addr, event: &Event, answer: &Answer) -> bool
-    ensures { (run : List Did) → AreRows addr.tenant run rows.now → result ≡ is_lacked_by addr run event.now answer.now }
+    ensures { (run : List NodeStep) → AreRows addr.tenant run rows.now → result ≡ is_lacked_by addr run event.now answer.now }
 {
     let Event::At(node, NodeEvent::Request(request)) = event else {
         return false;
@@ -64,7 +64,7 @@ fn is_lacking(rows: &[Option<TenantRow>; NODES], addr: Addr, event: &Event, answ
 /// Returns true if in the run a request of the group, or one that adds its tenant, was refused for lack of memory. If it returns
 /// false, the group is what it is alone. If there are more events than answers, or more answers than events, the surplus is
 /// ignored.
-#[tactic(auto, using(crate::proofs::RefusedLemmas::refused_more, crate::proofs::RefusedLemmas::none_refused, crate::proofs::RefusedLemmas::unrefused_fed, crate::proofs::DeedLemmas::all_deeds))]
+#[tactic(auto, using(crate::proofs::RefusedLemmas::refused_more, crate::proofs::RefusedLemmas::none_refused, crate::proofs::RefusedLemmas::unrefused_fed, crate::proofs::NodeStepLemmas::all_node_steps))]
 pub fn refused_for(trace: &Trace, events: &[Event], addr: Addr) -> bool
     ensures refused { result ≡ is_refused_for addr (run_of events.now trace.now.answers.items trace.now.packets.items) }
     ensures fed { result ≡ false → is_fed addr (run_of events.now trace.now.answers.items trace.now.packets.items) ≡ true }

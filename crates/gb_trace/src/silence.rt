@@ -3,21 +3,20 @@ ghost use Rattle.std.specs.Prelude.{◌≡◌, ◌||◌, [], ◌∷◌, nat_le, 
 ghost use Rattle.gb_detect.specs.Silence.{Tick};
 ghost use Rattle.gb_node.specs.Past.{ticks as ticked_by};
 ghost use Rattle.gb_isolation.specs.Project.{is_noticed_at};
-ghost use Rattle.gb_trace.specs.Deeds.{past_in};
+ghost use Rattle.gb_trace.specs.NodeSteps.{past_in};
 ghost use Rattle.gb_trace.specs.Kept.{KeepsLinks};
 
-use crate::deed::Deed;
 use crate::links::{Link, link_at};
 use crate::moment::Moment;
-use gb_node::{NodeAnswer, NodeEvent, Ticked};
+use gb_node::{NodeAnswer, NodeEvent, NodeStep, Ticked};
 use gb_types::NodeId;
 
-/// Returns true if `deed` is a tick that was answered with the nodes noticed.
-pub(crate) fn ticks(deed: &Deed) -> bool
-    ensures { ticked_by deed.now.event deed.now.answer ≡ (if result then Tick ∷ [] else []) }
+/// Returns true if `node_step` is a tick that was answered with the nodes noticed.
+pub(crate) fn ticks(node_step: &NodeStep) -> bool
+    ensures { ticked_by node_step.now.event node_step.now.answer ≡ (if result then Tick ∷ [] else []) }
 {
-    match deed.event() {
-        NodeEvent::Tick => match deed.answer() {
+    match &node_step.event {
+        NodeEvent::Tick => match &node_step.answer {
             NodeAnswer::Ticked(Ticked::Noticed(_)) => true,
             _ => false,
         },

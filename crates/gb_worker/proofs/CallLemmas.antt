@@ -2,9 +2,9 @@
 use Rattle.gb_types.specs.Common.{◌≡◌, ◌⊎◌, ◌+◌, ◌∙◌, ℕ, inl, inr, ◌&&◌, ◌||◌, not, Bool, true, false, List, [], ◌∷◌, ◌++◌, ap, arith, cond, refl, Result, Ok, Err, nat_cmp, IfOk, IfErr, OnErr}
 use Rattle.std.specs.FinSet as set
 use Rattle.gb_types.specs.declared.{node.NodeId.NodeId, refusal.Refusal.TheVariants.Stopped, refusal.Refusal.TheVariants.OutOfMemory, reply.Reply.Reply, reply.Reply.TheVariants.Refused, request.Request.Request}
-use Rattle.gb_node.specs.declared.{answer.NodeAnswer.NodeAnswer, event.NodeEvent.NodeEvent, event.NodeEvent.TheVariants.Request as Asked}
+use Rattle.gb_node.specs.declared.{answer.NodeAnswer.NodeAnswer, event.NodeEvent.NodeEvent, event.NodeEvent.TheVariants.Request as Asked, step.NodeStep.NodeStep}
 use Rattle.gb_host.specs.Common.{IsRefused, is_kept, SeatValue}
-use Rattle.gb_host.specs.declared.{entry.SeatEntry.SeatEntry, plan.HostPlan.HostPlan, fault.HostFault.HostFault}
+use Rattle.gb_host.specs.declared.{plan.HostPlan.HostPlan, fault.HostFault.HostFault}
 use Rattle.gb_host.specs.declared.fault.HostFault.TheVariants.{NoNode, ForeignSeat, Differs, OutOfMemory as NoMemory, Full, Behind}
 use Rattle.gb_worker.specs.Answered.{is_stopped, stops_in}
 use Rattle.gb_worker.specs.Asked.{AnswersAt, reply_at, reply_of}
@@ -33,15 +33,15 @@ told p here s t node request (Err e) calls err why answered fault = inr (ap (λ 
 
 -- Answers Stopped.
 
-stops_snoc : (es : List SeatEntry) (e : SeatEntry) → stops_in (es ++ e ∷ []) ≡ stops_in es + cond (is_stopped e.answer) 1 0
+stops_snoc : (es : List NodeStep) (e : NodeStep) → stops_in (es ++ e ∷ []) ≡ stops_in es + cond (is_stopped e.answer) 1 0
 stops_snoc [] e = omega arith
 stops_snoc (x ∷ es) e = let h = stops_snoc es e in let g : cond (is_stopped x.answer) 1 0 + stops_in (es ++ e ∷ []) ≡ (cond (is_stopped x.answer) 1 0 + stops_in es) + cond (is_stopped e.answer) 1 0 = omega arith in g
 
 -- a call that was not answered Stopped, and one that was
-pub stops_same : (old new : List SeatEntry) (node : NodeId) (event : NodeEvent) (a : NodeAnswer) → new ≡ old ++ record { node = node; event = event; answer = a } ∷ [] → is_stopped a ≡ false → stops_in new ≡ stops_in old
+pub stops_same : (old new : List NodeStep) (node : NodeId) (event : NodeEvent) (a : NodeAnswer) → new ≡ old ++ record { node = node; event = event; answer = a } ∷ [] → is_stopped a ≡ false → stops_in new ≡ stops_in old
 stops_same old new node event a is not =
     let h = ap stops_in is ∙ stops_snoc old (record { node = node; event = event; answer = a }) in let k : cond (is_stopped a) 1 0 ≡ 0 = ap {B = ℕ} (λ b. cond b 1 0) not in omega (arith, h, k)
 
-pub stops_once : (old new : List SeatEntry) (node : NodeId) (event : NodeEvent) (a : NodeAnswer) → new ≡ old ++ record { node = node; event = event; answer = a } ∷ [] → is_stopped a ≡ true → stops_in new ≡ stops_in old + 1
+pub stops_once : (old new : List NodeStep) (node : NodeId) (event : NodeEvent) (a : NodeAnswer) → new ≡ old ++ record { node = node; event = event; answer = a } ∷ [] → is_stopped a ≡ true → stops_in new ≡ stops_in old + 1
 stops_once old new node event a is stopped =
     let h = ap stops_in is ∙ stops_snoc old (record { node = node; event = event; answer = a }) in let k : cond (is_stopped a) 1 0 ≡ 1 = ap {B = ℕ} (λ b. cond b 1 0) stopped in omega (arith, h, k)

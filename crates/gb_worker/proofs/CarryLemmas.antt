@@ -2,12 +2,11 @@
 use Rattle.gb_types.specs.Common.{◌≡◌, ◌≢◌, ◌⊎◌, inl, inr, ℕ, Bool, List, [], ◌∷◌, ◌++◌, refl, sym, ap, ap₂, ◌∙◌, append_assoc, Option, Some, Result, Ok, Err, subst}
 use Rattle.std.specs.declared.{vec.Vec.Vec, alloc.Global.Global}
 use Rattle.gb_types.specs.declared.node.NodeId.{NodeId}
-use Rattle.gb_node.specs.declared.{answer.NodeAnswer.NodeAnswer, event.NodeEvent.NodeEvent}
+use Rattle.gb_node.specs.declared.{answer.NodeAnswer.NodeAnswer, event.NodeEvent.NodeEvent, step.NodeStep.NodeStep}
 use Rattle.gb_node.specs.declared.answer.NodeAnswer.TheVariants as answers
 use Rattle.gb_node.specs.declared.answer.Sent.TheVariants as sents
 use Rattle.gb_node.specs.declared.event.NodeEvent.TheVariants as events
 use Rattle.gb_port.specs.declared.port.PortFault.{PortFault}
-use Rattle.gb_host.specs.declared.entry.SeatEntry.{SeatEntry}
 use Rattle.gb_worker.specs.Answered.{destination}
 use Rattle.gb_worker.specs.Carried.{PortCall, Received, Handed, Came, Went, AreCalls, travels_in, travels, goes_to, traffic_of, traffic, GivesNothing, HasCarried}
 use Rattle.gb_worker.specs.Gained.{Gains, noted, IsStopped}
@@ -29,12 +28,12 @@ travels_append : (xs ys : List PortCall) → travels (xs ++ ys) ≡ travels xs +
 travels_append [] ys = refl
 travels_append (x ∷ xs) ys = ap (λ zs. travels_in x ++ zs) (travels_append xs ys) ∙ sym (append_assoc (travels_in x) (travels xs) (travels ys))
 
-traffic_append : (xs ys : List SeatEntry) → traffic (xs ++ ys) ≡ traffic xs ++ traffic ys
+traffic_append : (xs ys : List NodeStep) → traffic (xs ++ ys) ≡ traffic xs ++ traffic ys
 traffic_append [] ys = refl
 traffic_append (x ∷ xs) ys = ap (λ zs. traffic_of x.event x.answer ++ zs) (traffic_append xs ys) ∙ sym (append_assoc (traffic_of x.event x.answer) (traffic xs) (traffic ys))
 
 -- one part after another
-pub carried_more : {P : Type 0} (sends : Sends P) (receives : Receives P) (p q r : P) (old mid new : List SeatEntry) → HasCarried sends receives p q old mid → HasCarried sends receives q r mid new → HasCarried sends receives p r old new
+pub carried_more : {P : Type 0} (sends : Sends P) (receives : Receives P) (p q r : P) (old mid new : List NodeStep) → HasCarried sends receives p q old mid → HasCarried sends receives q r mid new → HasCarried sends receives p r old new
 carried_more sends receives p q r old mid new g h = (
   g.0 ++ h.0,
   joined old mid new g.0 h.0 g.1 h.1,
@@ -44,15 +43,15 @@ carried_more sends receives p q r old mid new g h = (
 )
 
 -- nothing was called
-pub carried_none : {P : Type 0} (sends : Sends P) (receives : Receives P) (p : P) (list : List SeatEntry) → HasCarried sends receives p p list list
+pub carried_none : {P : Type 0} (sends : Sends P) (receives : Receives P) (p : P) (list : List NodeStep) → HasCarried sends receives p p list list
 carried_none sends receives p list = ([], sym (append_nil list), [], refl, refl)
 
 -- nothing came
-pub carried_nothing : {P : Type 0} (sends : Sends P) (receives : Receives P) (p q : P) (list : List SeatEntry) → GivesNothing receives p q → HasCarried sends receives p q list list
+pub carried_nothing : {P : Type 0} (sends : Sends P) (receives : Receives P) (p q : P) (list : List NodeStep) → GivesNothing receives p q → HasCarried sends receives p q list list
 carried_nothing sends receives p q list g = ([], sym (append_nil list), Received g.0 ∷ [], (q, g.1, refl), append_nil (travels_in (Received g.0)) ∙ g.2)
 
 -- bytes came
-pub carried_in : {P : Type 0} (sends : Sends P) (receives : Receives P) (p q : P) (old new : List SeatEntry) (me : NodeId) (bytes : Vec ℕ Global) (text : List ℕ) (a : NodeAnswer) → receives p (Ok (Some bytes)) q → text ≡ bytes.items → new ≡ old ++ noted me (events.Packet text) a ∷ [] → HasCarried sends receives p q old new
+pub carried_in : {P : Type 0} (sends : Sends P) (receives : Receives P) (p q : P) (old new : List NodeStep) (me : NodeId) (bytes : Vec ℕ Global) (text : List ℕ) (a : NodeAnswer) → receives p (Ok (Some bytes)) q → text ≡ bytes.items → new ≡ old ++ noted me (events.Packet text) a ∷ [] → HasCarried sends receives p q old new
 carried_in sends receives p q old new me bytes text a r same h = (noted me (events.Packet text) a ∷ [], h, Received (Ok (Some bytes)) ∷ [], (q, r, refl), ap (λ xs. Came xs ∷ []) (sym same))
 
 -- to where an event sends
@@ -66,7 +65,7 @@ goes events.Tick to a h = absurd cc
 goes events.Stop to a h = absurd cc
 
 -- an answer gave a packet, which was sent
-pub carried_out : {P : Type 0} (sends : Sends P) (receives : Receives P) (p q : P) (old new : List SeatEntry) (me : NodeId) (e : NodeEvent) (to : NodeId) (a : NodeAnswer) (text bytes : List ℕ) (r : Result Bool PortFault)
+pub carried_out : {P : Type 0} (sends : Sends P) (receives : Receives P) (p q : P) (old new : List NodeStep) (me : NodeId) (e : NodeEvent) (to : NodeId) (a : NodeAnswer) (text bytes : List ℕ) (r : Result Bool PortFault)
     → destination e ≡ Some to → a ≡ answers.Sent (sents.Packet text) → bytes ≡ text → sends p to bytes r q → new ≡ old ++ noted me e a ∷ [] → HasCarried sends receives p q old new
 carried_out sends receives p q old new me e to a text bytes r d is same s h = (
   noted me e a ∷ [],
@@ -77,7 +76,7 @@ carried_out sends receives p q old new me e to a text bytes r d is same s h = (
 )
 
 -- bytes came, and the node had stopped
-pub carried_in_stopped : {P : Type 0} (sends : Sends P) (receives : Receives P) (p q : P) (old new : List SeatEntry) (me : NodeId) (bytes : Vec ℕ Global) (text : List ℕ) → receives p (Ok (Some bytes)) q → text ≡ bytes.items → Gains (IsStopped me (events.Packet text)) old new → HasCarried sends receives p q old new
+pub carried_in_stopped : {P : Type 0} (sends : Sends P) (receives : Receives P) (p q : P) (old new : List NodeStep) (me : NodeId) (bytes : Vec ℕ Global) (text : List ℕ) → receives p (Ok (Some bytes)) q → text ≡ bytes.items → Gains (IsStopped me (events.Packet text)) old new → HasCarried sends receives p q old new
 carried_in_stopped sends receives p q old new me bytes text r same g = carried_in sends receives p q old new me bytes text g.2.0 r same (g.1 ∙ ap (λ es. old ++ es) g.2.2)
 
 -- why a call ended a worker

@@ -2,18 +2,17 @@
 use Rattle.gb_types.specs.Common.{◌≡◌, ℕ, ◌+◌, List, [], ◌∷◌, ◌++◌, refl, sym, ap, ◌∙◌, append_assoc, add-one, nat_cmp}
 use Rattle.std.specs.FinSet as set
 use Rattle.gb_types.specs.declared.node.NodeId.{NodeId}
-use Rattle.gb_node.specs.declared.event.NodeEvent.{NodeEvent}
-use Rattle.gb_host.specs.declared.entry.SeatEntry.{SeatEntry}
+use Rattle.gb_node.specs.declared.{event.NodeEvent.NodeEvent, step.NodeStep.NodeStep}
 use Rattle.gb_worker.specs.Gained.{Gains}
 use Rattle.gb_worker.specs.Ticks.{events_of, tick_at, ticks_to, tick_turns, AreTicks, IsTick}
 use Rattle.gb_worker.proofs.GainLemmas.{joined}
 
-events_append : (xs ys : List SeatEntry) → events_of (xs ++ ys) ≡ events_of xs ++ events_of ys
+events_append : (xs ys : List NodeStep) → events_of (xs ++ ys) ≡ events_of xs ++ events_of ys
 events_append [] ys = refl
 events_append (x ∷ xs) ys = ap (λ zs. (x.node.number, x.event) ∷ zs) (events_append xs ys)
 
 -- what a node more adds
-pub ticked_more : (here : set.FinSet nat_cmp) (nodes t k : ℕ) (node : NodeId) (old now new : List SeatEntry) → node.number ≡ k → Gains (AreTicks here nodes t k) old now → Gains (IsTick here node) now new → Gains (AreTicks here nodes t (k + 1)) old new
+pub ticked_more : (here : set.FinSet nat_cmp) (nodes t k : ℕ) (node : NodeId) (old now new : List NodeStep) → node.number ≡ k → Gains (AreTicks here nodes t k) old now → Gains (IsTick here node) now new → Gains (AreTicks here nodes t (k + 1)) old new
 ticked_more here nodes t k node old now new is g h =
     let turns : List (ℕ × NodeEvent) = tick_turns here nodes t in
     let more : ticks_to here (k + 1) ≡ ticks_to here k ++ tick_at here k = rw add-one in (

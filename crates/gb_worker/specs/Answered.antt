@@ -3,8 +3,7 @@ use Rattle.std.specs.Prelude.{ℕ, ◌+◌, Bool, true, false, cond, List, [], �
 use Rattle.std.specs.FinSet as set
 use Rattle.std.specs.Ordering.{nat_cmp}
 use Rattle.gb_types.specs.declared.{refusal.Refusal.TheVariants.Stopped, node.NodeId.NodeId}
-use Rattle.gb_node.specs.declared.{event.NodeEvent.NodeEvent, answer.NodeAnswer.NodeAnswer, answer.NodeAnswer.TheVariants.Taken, answer.NodeAnswer.TheVariants.Sent, answer.PacketAnswer.TheVariants.Good as TakenGood, answer.PacketAnswer.TheVariants.Refused as TakenRefused, answer.Sent.TheVariants.Packet as SentPacket, answer.Sent.TheVariants.Refused as SentRefused, event.NodeEvent.TheVariants.Pack, event.NodeEvent.TheVariants.Again, event.NodeEvent.TheVariants.Ack}
-use Rattle.gb_host.specs.declared.entry.SeatEntry.{SeatEntry}
+use Rattle.gb_node.specs.declared.{event.NodeEvent.NodeEvent, answer.NodeAnswer.NodeAnswer, answer.NodeAnswer.TheVariants.Taken, answer.NodeAnswer.TheVariants.Sent, answer.PacketAnswer.TheVariants.Good as TakenGood, answer.PacketAnswer.TheVariants.Refused as TakenRefused, answer.Sent.TheVariants.Packet as SentPacket, answer.Sent.TheVariants.Refused as SentRefused, event.NodeEvent.TheVariants.Pack, event.NodeEvent.TheVariants.Again, event.NodeEvent.TheVariants.Ack, step.NodeStep.NodeStep}
 use Rattle.gb_worker.specs.declared.{end.Why.Why, end.Why.TheVariants.Stopped as StoppedThere}
 
 -- the answer is Stopped, to a packet that came or to a packet to be sent
@@ -14,7 +13,7 @@ is_stopped (Sent (SentRefused Stopped)) = true
 is_stopped other = false
 
 -- the number of calls that were answered Stopped
-abbrev pub stops_in : List SeatEntry → ℕ
+abbrev pub stops_in : List NodeStep → ℕ
 stops_in [] = 0
 stops_in (e ∷ es) = cond (is_stopped e.answer) 1 0 + stops_in es
 
@@ -34,7 +33,7 @@ and_heard nodes (Taken (TakenGood good)) = set.insert nodes good.from.number
 and_heard nodes other = nodes
 
 -- the nodes from which a good packet was taken
-abbrev pub heard_in : List SeatEntry → set.FinSet nat_cmp
+abbrev pub heard_in : List NodeStep → set.FinSet nat_cmp
 heard_in es = fold (λ nodes e. and_heard nodes e.answer) set.empty es
 
 -- the node to which an event sends; None if it sends to none

@@ -2,10 +2,9 @@
 use Rattle.std.specs.Prelude.{ℕ, ◌≡◌, Bool, List, [], ◌∷◌, ◌++◌, Option, Some, Result, Ok}
 use Rattle.std.specs.declared.{vec.Vec.Vec, alloc.Global.Global}
 use Rattle.gb_types.specs.declared.node.NodeId.{NodeId}
-use Rattle.gb_node.specs.declared.{answer.NodeAnswer.NodeAnswer, answer.NodeAnswer.TheVariants.Sent, answer.Sent.TheVariants.Packet as SentPacket, event.NodeEvent.NodeEvent}
+use Rattle.gb_node.specs.declared.{answer.NodeAnswer.NodeAnswer, answer.NodeAnswer.TheVariants.Sent, answer.Sent.TheVariants.Packet as SentPacket, event.NodeEvent.NodeEvent, step.NodeStep.NodeStep}
 use Rattle.gb_node.specs.declared.event.NodeEvent.TheVariants.{Packet, Pack, Again, Ack}
 use Rattle.gb_port.specs.declared.port.PortFault.{PortFault}
-use Rattle.gb_host.specs.declared.entry.SeatEntry.{SeatEntry}
 
 -- bytes that travel: they came, or they went to a node
 pub data Traffic : Type 0 where
@@ -46,7 +45,7 @@ traffic_of (Again to n) answer = goes_to to answer
 traffic_of (Ack to) answer = goes_to to answer
 traffic_of other answer = []
 
-abbrev pub traffic : List SeatEntry → List Traffic
+abbrev pub traffic : List NodeStep → List Traffic
 traffic [] = []
 traffic (e ∷ es) = traffic_of e.event e.answer ++ traffic es
 
@@ -55,6 +54,6 @@ abbrev pub GivesNothing : {P : Type 0} → (P → Result (Option (Vec ℕ Global
 GivesNothing receives before after = (result : Result (Option (Vec ℕ Global)) PortFault) × receives before result after × (travels_in (Received result) ≡ [])
 
 -- What travelled at the port is what the entries say that the list gained, in their order, each once.
-abbrev pub HasCarried : {P : Type 0} → (P → NodeId → List ℕ → Result Bool PortFault → P → Type 0) → (P → Result (Option (Vec ℕ Global)) PortFault → P → Type 0) → P → P → List SeatEntry → List SeatEntry → Type 0
+abbrev pub HasCarried : {P : Type 0} → (P → NodeId → List ℕ → Result Bool PortFault → P → Type 0) → (P → Result (Option (Vec ℕ Global)) PortFault → P → Type 0) → P → P → List NodeStep → List NodeStep → Type 0
 HasCarried sends receives before after old new =
-    (es : List SeatEntry) × (new ≡ old ++ es) × (calls : List PortCall) × AreCalls sends receives before calls after × (travels calls ≡ traffic es)
+    (es : List NodeStep) × (new ≡ old ++ es) × (calls : List PortCall) × AreCalls sends receives before calls after × (travels calls ≡ traffic es)

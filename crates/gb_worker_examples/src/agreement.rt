@@ -1,14 +1,14 @@
 // The tapes of a closed host, compared with the calls in each seat's list.
-use gb_host::{Seat, SeatEntry, Tapes};
-use gb_node::{Tape, TapeEntry};
+use gb_host::{Seat, Tapes};
+use gb_node::{NodeStep, Tape, TapeEntry};
 use gb_types::OutOfMemory;
 use std::alloc::Global;
 
 // Returns the calls of a seat, copied.
-fn copied(alloc: Global, calls: &[SeatEntry]) -> Result<Vec<SeatEntry>, OutOfMemory> {
+fn copied(alloc: Global, calls: &[NodeStep]) -> Result<Vec<NodeStep>, OutOfMemory> {
     let mut copies = Vec::new(alloc);
     for call in calls {
-        let copy = SeatEntry {
+        let copy = NodeStep {
             node: call.node,
             event: call.event.duplicate(alloc)?,
             answer: call.answer.duplicate(alloc)?,
@@ -23,7 +23,7 @@ fn copied(alloc: Global, calls: &[SeatEntry]) -> Result<Vec<SeatEntry>, OutOfMem
 pub fn copy_lists<L: Tapes>(
     alloc: Global,
     seats: &[Seat<L>],
-    lists: &mut Vec<Vec<SeatEntry>>,
+    lists: &mut Vec<Vec<NodeStep>>,
 ) -> Result<(), OutOfMemory> {
     for seat in seats {
         lists.push(copied(alloc, seat.mine())?)?;
@@ -32,7 +32,7 @@ pub fn copy_lists<L: Tapes>(
 }
 
 // Returns the index of a seat's first call at a node, from the index `from` on.
-fn next_at(calls: &[SeatEntry], from: usize, node: usize) -> Option<usize> {
+fn next_at(calls: &[NodeStep], from: usize, node: usize) -> Option<usize> {
     for place in from..calls.len() {
         if usize::from(calls[place].node.number) == node {
             return Some(place);
@@ -42,7 +42,7 @@ fn next_at(calls: &[SeatEntry], from: usize, node: usize) -> Option<usize> {
 }
 
 // Returns true if an entry is the call at an index.
-fn is_call(entry: &TapeEntry, calls: &[SeatEntry], place: Option<usize>) -> bool {
+fn is_call(entry: &TapeEntry, calls: &[NodeStep], place: Option<usize>) -> bool {
     let Some(call) = calls.get(place.unwrap_or(calls.len())) else {
         return false;
     };
@@ -50,7 +50,7 @@ fn is_call(entry: &TapeEntry, calls: &[SeatEntry], place: Option<usize>) -> bool
 }
 
 // Returns true if a seat's entries in a node's tape are its calls at the node, in turn, each once.
-fn is_told_at(tape: &[TapeEntry], seat: usize, calls: &[SeatEntry], node: usize) -> bool {
+fn is_told_at(tape: &[TapeEntry], seat: usize, calls: &[NodeStep], node: usize) -> bool {
     let mut next = next_at(calls, 0, node);
     for entry in tape {
         if entry.seat as usize == seat {
@@ -64,7 +64,7 @@ fn is_told_at(tape: &[TapeEntry], seat: usize, calls: &[SeatEntry], node: usize)
 }
 
 // Returns true if that holds at each node.
-fn is_told(tapes: &[Tape], seat: usize, calls: &[SeatEntry]) -> bool {
+fn is_told(tapes: &[Tape], seat: usize, calls: &[NodeStep]) -> bool {
     for node in 0..tapes.len() {
         if !is_told_at(tapes[node].as_slice(), seat, calls, node) {
             return false;
@@ -75,7 +75,7 @@ fn is_told(tapes: &[Tape], seat: usize, calls: &[SeatEntry]) -> bool {
 
 /// Returns true if the tapes of a closed host have, for each seat at each node, exactly the calls of the seat's list there, in order,
 /// and nothing else. `tapes` are by nodes and `lists` by seats. False at the first difference.
-pub fn agree(tapes: &[Tape], lists: &[Vec<SeatEntry>]) -> bool {
+pub fn agree(tapes: &[Tape], lists: &[Vec<NodeStep>]) -> bool {
     let mut calls: usize = 0;
     for seat in 0..lists.len() {
         if !is_told(tapes, seat, lists[seat].as_slice()) {

@@ -11,9 +11,9 @@ use crate::roles::Role;
 use gb_host::close::close;
 use gb_host::here::all_nodes;
 use gb_host::pasts::new_pasts;
-use gb_host::{Closed, Host, HostFault, HostPlan, NodePast, Seat, SeatEntry, Tapes};
+use gb_host::{Closed, Host, HostFault, HostPlan, NodePast, Seat, Tapes};
 use gb_merge::merge::merge;
-use gb_node::{NodeEvent, Tape};
+use gb_node::{NodeEvent, NodeStep, Tape};
 use gb_port::Port;
 use gb_types::Version;
 use std::alloc::Global;
@@ -102,7 +102,7 @@ fn ticks_of(tapes: &[Tape]) -> [usize; 2] {
 }
 
 // Returns the number of calls that each of the first two seats noted.
-fn calls_of(lists: &[Vec<SeatEntry>]) -> [usize; 2] {
+fn calls_of(lists: &[Vec<NodeStep>]) -> [usize; 2] {
     let mut calls = [0; 2];
     for seat in 0..2 {
         if let Some(list) = lists.get(seat) {
@@ -132,7 +132,7 @@ fn left_of(
     plan: HostPlan,
     counts: [u64; 4],
     closed: &Result<Closed, HostFault>,
-    lists: &[Vec<SeatEntry>],
+    lists: &[Vec<NodeStep>],
 ) -> Result<Left, Refused>
     requires { IsPlan plan }
 {

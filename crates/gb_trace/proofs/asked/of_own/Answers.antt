@@ -1,7 +1,7 @@
 use Rattle.gb_types.specs.Common.{◌≡◌, List, subst, OnOk, option_to_list}
 use Rattle.gb_alone.specs.declared.event.GroupStep.{GroupStep}
 use Rattle.gb_isolation.specs.Project.{is_noticed_at}
-use Rattle.gb_trace.specs.Deeds.{past_in}
+use Rattle.gb_trace.specs.NodeSteps.{past_in}
 use Rattle.gb_trace.proofs.AskedLemmas.{own_alone, own_made}
 use Rattle.gb_trace.proofs.asked.of_own.Goals as goal
 

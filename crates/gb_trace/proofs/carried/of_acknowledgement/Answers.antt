@@ -1,6 +1,6 @@
 use Rattle.gb_types.specs.Common.{◌≡◌, ◌++◌, List, subst, OnOk}
 use Rattle.gb_alone.specs.declared.event.GroupStep.{GroupStep}
-use Rattle.gb_trace.specs.Deeds.{past_in}
+use Rattle.gb_trace.specs.NodeSteps.{past_in}
 use Rattle.gb_trace.proofs.CountLemmas.{acknowledged_is}
 use Rattle.gb_trace.proofs.carried.of_acknowledgement.Goals as goal
 

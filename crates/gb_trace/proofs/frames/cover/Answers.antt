@@ -1,5 +1,4 @@
 use Rattle.gb_types.specs.Common.{◌∙◌, sym}
-use Rattle.gb_link.specs.Common.{covers}
 use Rattle.gb_trace.proofs.KeptFrameLemmas.{covers_none, covers_on, covers_not, covers_all}
 use Rattle.gb_trace.proofs.frames.cover.Goals as goal
 use Rattle.gb_trace.proofs.frames.cover.Goals.{then-covers, else-covers}

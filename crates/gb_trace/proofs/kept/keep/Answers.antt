@@ -1,6 +1,6 @@
 use Rattle.gb_types.specs.Common.{◌∷◌, ℕ, set, sym, subst, reverse}
 use Rattle.std.proofs.lemmas.Result.{on_ok_weaker}
-use Rattle.gb_cluster.specs.Common.{Did}
+use Rattle.gb_cluster.specs.Common.{NodeStep}
 use Rattle.gb_trace.specs.Kept.{Keeps}
 use Rattle.gb_trace.proofs.KeptLemmas.{nodes_go_on}
 use Rattle.gb_trace.proofs.kept.keep.Goals as goal
@@ -9,7 +9,7 @@ pub returns : goal.returns
 returns c =
     let m = c.args.moment in
     let plan = m.plan.now in
-    let d : Did = record { node = m.node; event = c.args.deed.now.event; answer = c.args.deed.now.answer } in
+    let d : NodeStep = record { node = m.node; event = c.args.node_step.now.event; answer = c.args.node_step.now.answer } in
     let run = reverse m.before.now in
     let nodes = c.args.nodes.now.items in
     let new = c.keep_at.new.node in

@@ -2,14 +2,14 @@ use Rattle.gb_types.specs.Common.{◌<◌, ◌∙◌, [], ◌∷◌, ap, sym, ar
 use Rattle.std.proofs.lemmas.Result.{on_ok_weaker}
 use Rattle.gb_detect.specs.Silence.{Tick}
 use Rattle.gb_node.specs.Common.{Happened, came}
-use Rattle.gb_trace.specs.Deeds.{past_in}
+use Rattle.gb_trace.specs.NodeSteps.{past_in}
 use Rattle.gb_trace.proofs.KeptLemmas.{links_take, links_tick}
 use Rattle.gb_trace.proofs.links.keep_links.Goals as goal
 
 pub returns-in-Some : goal.returns-in-Some
 returns-in-Some c =
     let plan = c.args.moment.plan.now in
-    let d = c.args.deed.now in
+    let d = c.args.node_step.now in
     let h : Happened = record { event = d.event; answer = d.answer } in
     let positive : 0 < plan.silence = omega (arith, c.requires.least) in
     on_ok_weaker c.take.result
@@ -21,7 +21,7 @@ returns-in-Some c =
 pub returns-then-ticks : goal.returns-then-ticks
 returns-then-ticks c =
     let plan = c.args.moment.plan.now in
-    let d = c.args.deed.now in
+    let d = c.args.node_step.now in
     let h : Happened = record { event = d.event; answer = d.answer } in
     on_ok_weaker c.tick_all.result
     (λ ticked.

@@ -1,13 +1,13 @@
 use Rattle.gb_types.specs.Common.{◌≡◌, ◌<◌, ◌∙◌, [], ◌∷◌, nat_eq, ap, sym, arith}
 use Rattle.gb_node.specs.Common.{Happened, came, packed_for}
-use Rattle.gb_trace.specs.Deeds.{past_in}
+use Rattle.gb_trace.specs.NodeSteps.{past_in}
 use Rattle.gb_trace.proofs.KeptLemmas.{links_pack, links_rest, on_ok_all, unpacked_all}
 use Rattle.gb_trace.proofs.links.keep_packed.Goals as goal
 
 pub returns-in_default : goal.returns-in_default
 returns-in_default c =
     let plan = c.args.moment.plan.now in
-    let d = c.args.deed.now in
+    let d = c.args.node_step.now in
     let h : Happened = record { event = d.event; answer = d.answer } in
     let positive : 0 < plan.silence = omega (arith, c.requires.least) in
     links_rest plan c.args.moment.addr h (past_in c.args.moment.node c.args.moment.before.now) c.args.links.now.items positive (λ b. c.in_default.ensures plan.cluster_key b) (ap (λ k. came k d.event d.answer) (sym c.requires.key) ∙ c.requires.untaken) c.requires.unticked c.requires.kept
@@ -15,7 +15,7 @@ returns-in_default c =
 pub returns-in-None : goal.returns-in-None
 returns-in-None c =
     let plan = c.args.moment.plan.now in
-    let d = c.args.deed.now in
+    let d = c.args.node_step.now in
     let h : Happened = record { event = d.event; answer = d.answer } in
     let positive : 0 < plan.silence = omega (arith, c.requires.least) in
     links_rest plan c.args.moment.addr h (past_in c.args.moment.node c.args.moment.before.now) c.args.links.now.items positive
@@ -25,7 +25,7 @@ returns-in-None c =
 pub returns-in-Some-packed : goal.returns-in-Some-packed
 returns-in-Some-packed c =
     let plan = c.args.moment.plan.now in
-    let d = c.args.deed.now in
+    let d = c.args.node_step.now in
     let h : Happened = record { event = d.event; answer = d.answer } in
     let i = c.index.result in
     let x = c.in-Some-packed.packet.items in

@@ -1,7 +1,7 @@
 use Rattle.gb_types.specs.Common.{◌≡◌, ◌∙◌, ap, arith, ◌++◌}
 use Rattle.gb_types.specs.declared.limits.TheConstants.{NODES}
 use Rattle.gb_isolation.specs.Project.{is_noticed_at}
-use Rattle.gb_trace.specs.Deeds.{past_in}
+use Rattle.gb_trace.specs.NodeSteps.{past_in}
 use Rattle.gb_trace.proofs.NoticesLemmas.{noticed_none, noticed_more, notices_below}
 use Rattle.gb_trace.proofs.noticed.add_noticed.Goals as goal
 

@@ -1,6 +1,6 @@
 use Rattle.gb_types.specs.Common.{◌≡◌, ◌++◌}
 use Rattle.gb_isolation.specs.Project.{is_noticed_at}
-use Rattle.gb_trace.specs.Deeds.{past_in}
+use Rattle.gb_trace.specs.NodeSteps.{past_in}
 use Rattle.gb_trace.proofs.NoticesLemmas.{notices_below}
 use Rattle.gb_trace.proofs.noticed.add_noticed.Given as goal
 

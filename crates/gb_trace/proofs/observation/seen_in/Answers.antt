@@ -9,7 +9,7 @@ use Rattle.gb_trace.proofs.observation.seen_in.Goals as goal
 
 pub loop-a-preserved : goal.loop-a-preserved
 loop-a-preserved c =
-    let at : NodeId → SeenAt = observed_at c.args.plan.now c.args.addr (reverse c.args.deeds.now) in
+    let at : NodeId → SeenAt = observed_at c.args.plan.now c.args.addr (reverse c.args.node_steps.now) in
     let f : ℕ → SeenAt = λ a. at (node_numbered a) in
     let n = c.loop-a.a in
     let me : c.new.result ≡ node_numbered n = sym (numbered_is c.new.result) ∙ ap node_numbered c.new.ensures in

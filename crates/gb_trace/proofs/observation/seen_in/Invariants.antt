@@ -5,4 +5,4 @@ use Rattle.gb_trace.specs.Observed.{observed_at}
 use Rattle.gb_trace.proofs.observation.seen_in.Given as goal
 
 abbrev pub invariant-loop-a : goal.invariant-loop-a
-invariant-loop-a l = l.seen.items ≡ map (λ a. observed_at l.plan l.addr (reverse l.deeds) (node_numbered a)) (numbers_below l.a)
+invariant-loop-a l = l.seen.items ≡ map (λ a. observed_at l.plan l.addr (reverse l.node_steps) (node_numbered a)) (numbers_below l.a)

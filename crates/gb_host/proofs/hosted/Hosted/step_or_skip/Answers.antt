@@ -1,7 +1,7 @@
 use Rattle.gb_types.specs.Common.{arith, ◌≡◌, true, ◌+◌, ◌<◌, ◌++◌, List, [], ◌∷◌, ◌∙◌, ap, length, refl, sym, subst, get_or, set}
 use Rattle.gb_past.specs.Story.{Known}
 use Rattle.gb_types.proofs.BoolLemmas.{and_right}
-use Rattle.gb_node.specs.declared.tape.TapeEntry.{TapeEntry}
+use Rattle.gb_node.specs.declared.{tape.TapeEntry.TapeEntry, step.NodeStep.NodeStep}
 use Rattle.gb_host.specs.Copied.{AreCopies, list_copy, tape_copy}
 use Rattle.gb_host.specs.Fits.{HostedFits}
 use Rattle.gb_host.specs.Happened.{GoesOn}
@@ -13,7 +13,7 @@ use Rattle.gb_host.specs.Pasts.{no_book, seen_at}
 use Rattle.gb_host.specs.Plans.{plan_of}
 use Rattle.gb_host.specs.Replay.{past_of}
 use Rattle.gb_host.specs.SeatValue.{SeatValue}
-use Rattle.gb_host.specs.declared.{entry.SeatEntry.SeatEntry, copies.Way.Way, plan.HostPlan.HostPlan}
+use Rattle.gb_host.specs.declared.{copies.Way.Way, plan.HostPlan.HostPlan}
 use Rattle.gb_host.proofs.KeptLemmas.{are_for, list_kept, noted, same_way, tape_kept}
 use Rattle.gb_host.proofs.ReplayLemmas.{any_default, goes_on, hosted_fits_more, seat_fits_more, NotedMore}
 use Rattle.gb_host.proofs.RingLemmas.{past_more}
@@ -77,7 +77,7 @@ invariant_of-seat-2 g c =
     let copies = c.in-Ok-answers.answers.1 in
     let told = c.in-Ok-answers.ensures in
     let x : TapeEntry = record { seat = s.number; count = count; event = c.args.event; answer = answer } in
-    let e : SeatEntry = record { node = h.me; event = c.args.event; answer = answer } in
+    let e : NodeStep = record { node = h.me; event = c.args.event; answer = answer } in
     let old : SeatValue = record { number = s.number; counts = s.counts; calls = s.calls.log; list = s.list.items; seen = s.seen.items } in
     let new : SeatValue = record { number = s.number; counts = set s.counts at (count + 1); calls = c.note.new.calls.log; list = c.keep.new.list.items; seen = set s.seen.items at c.note.new.seen } in
     let kept = c.make_room.new.kept in
@@ -121,7 +121,7 @@ returns-clause-goes_on g c =
     let copies = c.in-Ok-answers.answers.1 in
     let told = c.in-Ok-answers.ensures in
     let x : TapeEntry = record { seat = s.number; count = count; event = c.args.event; answer = answer } in
-    let e : SeatEntry = record { node = h.me; event = c.args.event; answer = answer } in
+    let e : NodeStep = record { node = h.me; event = c.args.event; answer = answer } in
     let old : SeatValue = record { number = s.number; counts = s.counts; calls = s.calls.log; list = s.list.items; seen = s.seen.items } in
     let new : SeatValue = record { number = s.number; counts = set s.counts at (count + 1); calls = c.note.new.calls.log; list = c.keep.new.list.items; seen = set s.seen.items at c.note.new.seen } in
     let kept = c.make_room.new.kept in

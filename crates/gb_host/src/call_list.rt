@@ -1,31 +1,22 @@
-//! What a seat notes of its calls.
+//! The calls of a seat, as memory holds them.
 ghost use Rattle.std.specs.Prelude.{◌≡◌, []};
 
-use gb_node::{NodeAnswer, NodeEvent};
-use gb_types::NodeId;
+use gb_node::NodeStep;
 use std::alloc::Global;
 use std::marker::Model;
-
-/// A call of a seat: the node, the event and the answer.
-#[derive(Drop)]
-pub struct SeatEntry {
-    pub node: NodeId,
-    pub event: NodeEvent,
-    pub answer: NodeAnswer,
-}
 
 /// A seat's calls. Contracts see the list, the oldest first.
 #[derive(Drop)]
 pub struct CallList {
-    entries: Vec<SeatEntry>,
+    entries: Vec<NodeStep>,
 }
 
 impl Model for CallList {
     ghost use Rattle.std.specs.{Coded.codes, Coded.coded_ℕ, Ordering.nat_cmp, Prelude.List};
     ghost use Rattle.std.specs.FinSet as set;
-    ghost use Rattle.gb_host.specs.declared.entry.SeatEntry.{SeatEntry};
+    ghost use Rattle.gb_node.specs.declared.step.NodeStep.{NodeStep};
 
-    ghost Value = { List SeatEntry };
+    ghost Value = { List NodeStep };
 
     ghost coded = { Prim.hlevel (codes, set.code {R = nat_cmp} coded_ℕ) };
 
@@ -43,17 +34,17 @@ impl CallList {
     }
 
     /// Returns the entries, in order.
-    pub fn as_slice(&self) -> &[SeatEntry]
+    pub fn as_slice(&self) -> &[NodeStep]
         ensures { result.now ≡ self.now }
     {
         self.entries.as_slice()
     }
 }
 
-impl From<Vec<SeatEntry>> for CallList {
+impl From<Vec<NodeStep>> for CallList {
     ghost from_gives = { λ v t. t ≡ v.items };
 
-    fn from(entries: Vec<SeatEntry>) -> CallList {
+    fn from(entries: Vec<NodeStep>) -> CallList {
         CallList { entries }
     }
 }

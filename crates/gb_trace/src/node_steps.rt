@@ -4,56 +4,15 @@ ghost use Rattle.gb_cluster.specs.Common.{packet_numbered};
 ghost use Rattle.gb_trace.specs.Trace.{sent_as, own_answer, did_with, did_in, all_did};
 
 use gb_cluster::{Answer, Event, Posted, Sending};
-use gb_node::{NodeAnswer, NodeEvent, PacketText, Sent, Ticked};
+use gb_node::{NodeAnswer, NodeEvent, NodeStep, PacketText, Sent, Ticked};
 use gb_types::{NodeId, OutOfMemory};
 use std::alloc::Global;
-use std::marker::Model;
 
-/// Something that happened at a node: the node, the event and the node's answer. Contracts see these three.
-#[derive(Drop)]
-pub(crate) struct Deed {
-    node: NodeId,
-    event: NodeEvent,
-    answer: NodeAnswer,
-}
-
-impl Model for Deed {
-    ghost use Rattle.std.specs.{Coded.codes, Coded.coded_ℕ, Ordering.nat_cmp};
-    ghost use Rattle.std.specs.FinSet as set;
-    ghost use Rattle.gb_cluster.specs.Common.{Did};
-
-    ghost Value = { Did };
-
-    ghost coded = { Prim.hlevel (codes, set.code {R = nat_cmp} coded_ℕ) };
-
-    ghost view = { λ d. record { node = d.node; event = d.event; answer = d.answer } };
-}
-
-impl Deed {
-    pub(crate) fn node(&self) -> NodeId
-        ensures { result ≡ self.now.node }
-    {
-        self.node
-    }
-
-    pub(crate) fn event(&self) -> &NodeEvent
-        ensures { result.now ≡ self.now.event }
-    {
-        &self.event
-    }
-
-    pub(crate) fn answer(&self) -> &NodeAnswer
-        ensures { result.now ≡ self.now.answer }
-    {
-        &self.answer
-    }
-
-    /// Returns true if it happened at `node`.
-    pub(crate) fn is_at(&self, node: NodeId) -> bool
-        ensures { result ≡ nat_eq self.now.node.number node.number }
-    {
-        self.node.number == node.number
-    }
+/// Returns true if the step is one of `node`.
+pub(crate) fn is_at(step: &NodeStep, node: NodeId) -> bool
+    ensures { result ≡ nat_eq step.now.node.number node.number }
+{
+    step.node.number == node.number
 }
 
 /// Returns the packet with this number, or `None` if there is none.
@@ -134,12 +93,12 @@ fn add(
     node: NodeId,
     event: NodeEvent,
     answer: &Answer,
-    deeds: &mut Vec<Deed>,
+    node_steps: &mut Vec<NodeStep>,
 ) -> Result<(), OutOfMemory>
-    ensures { OnOk result (deeds.new.items ≡ deeds.old.items ++ did_with node event (own_answer packets.now answer.now)) }
+    ensures { OnOk result (node_steps.new.items ≡ node_steps.old.items ++ did_with node event (own_answer packets.now answer.now)) }
 {
     if let Some(answer) = answer_of(alloc, packets, answer)? {
-        deeds.push(Deed {
+        node_steps.push(NodeStep {
             node,
             event,
             answer,
@@ -149,25 +108,25 @@ fn add(
 }
 
 /// Adds what happened at a node by the event with its answer, if anything did.
-fn add_deed(
+fn add_node_step(
     alloc: Global,
     packets: &[Posted],
     event: &Event,
     answer: &Answer,
-    deeds: &mut Vec<Deed>,
+    node_steps: &mut Vec<NodeStep>,
 ) -> Result<(), OutOfMemory>
-    ensures { OnOk result (deeds.new.items ≡ deeds.old.items ++ did_in packets.now event.now answer.now) }
+    ensures { OnOk result (node_steps.new.items ≡ node_steps.old.items ++ did_in packets.now event.now answer.now) }
 {
     match event {
         Event::At(node, event) => {
             let event = event.duplicate(alloc)?;
-            add(alloc, packets, *node, event, answer, deeds)
+            add(alloc, packets, *node, event, answer, node_steps)
         }
         Event::Arrive(number) => match packet_of(packets, *number) {
             None => Ok(()),
             Some(packet) => {
                 let event = NodeEvent::Packet(copied(alloc, &packet.text)?);
-                add(alloc, packets, packet.to, event, answer, deeds)
+                add(alloc, packets, packet.to, event, answer, node_steps)
             }
         },
     }
@@ -175,19 +134,19 @@ fn add_deed(
 
 /// Returns all that happened at nodes, in order. If there are more events than answers, or more answers than events, the surplus
 /// is ignored.
-#[tactic(auto, using(crate::proofs::DeedLemmas::all_deeds, crate::proofs::DeedLemmas::no_deeds))]
-pub(crate) fn deeds_of(
+#[tactic(auto, using(crate::proofs::NodeStepLemmas::all_node_steps, crate::proofs::NodeStepLemmas::no_node_steps))]
+pub(crate) fn node_steps_of(
     alloc: Global,
     events: &[Event],
     answers: &[Answer],
     packets: &[Posted],
-) -> Result<Vec<Deed>, OutOfMemory>
+) -> Result<Vec<NodeStep>, OutOfMemory>
     ensures { IfOk result (λ v. v.items ≡ all_did packets.now events.now answers.now) }
 {
     let count = events.len().min(answers.len());
-    let mut deeds = Vec::new(alloc);
+    let mut node_steps = Vec::new(alloc);
     for i in 0..count {
-        add_deed(alloc, packets, &events[i], &answers[i], &mut deeds)?;
+        add_node_step(alloc, packets, &events[i], &answers[i], &mut node_steps)?;
     }
-    Ok(deeds)
+    Ok(node_steps)
 }
