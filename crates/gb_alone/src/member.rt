@@ -16,7 +16,7 @@ use gb_rules::call::{calls_of, said_in};
 use gb_rules::group::{check_open, check_say, check_shut, is_bad_place, is_too_long};
 use gb_rules::log::{bytes_in, falls_after, log_of};
 use gb_rules::tenant::answer_make;
-use gb_rules::{GroupCall, Phase, Reserve, Usage};
+use gb_rules::{GroupCall, Maker, Phase, Reserve, RoomUse, Usage};
 use gb_types::limits::NODES;
 use gb_types::{
     Addr, Bounds, Entries, Entry, NewMessage, NodeId, OutOfMemory, Payload, Refusal, Reply, Spec,
@@ -325,16 +325,13 @@ impl Member {
     {
         match &self.reserve {
             None => Reply::Refused(Refusal::Denied),
-            Some(reserve) => answer_make(
-                bounds.version_of(me),
-                usize::from(bounds.nodes),
-                me,
-                address,
-                self.spec.is_some() || self.passed,
-                self.others,
-                spec,
-                reserve,
-            ),
+            Some(reserve) => {
+                let room = RoomUse {
+                    made: self.spec.is_some() || self.passed,
+                    living: self.others,
+                };
+                answer_make(Maker::of(bounds, me), address, room, spec, reserve)
+            }
         }
     }
 

@@ -9,9 +9,9 @@ ghost use Rattle.gb_group_run.specs.SlotMember.{carried_to, waits, on_slot};
 use crate::answers;
 use crate::answers::mark_all;
 use gb_alone::{GroupEvent, NodeSeen};
-use gb_rules::Reserve;
 use gb_rules::group::is_too_long;
 use gb_rules::tenant::answer_make;
+use gb_rules::{Maker, Reserve, RoomUse};
 use gb_slot::Slot;
 use gb_types::limits::{BYTES, MESSAGES, NODES, WINDOW};
 use gb_types::{
@@ -181,16 +181,13 @@ impl Member {
     {
         match &self.reserve {
             None => Reply::Refused(Refusal::Denied),
-            Some(reserve) => answer_make(
-                bounds.version_of(me),
-                usize::from(bounds.nodes),
-                me,
-                address,
-                self.made || self.passed,
-                self.others,
-                spec,
-                reserve,
-            ),
+            Some(reserve) => {
+                let room = RoomUse {
+                    made: self.made || self.passed,
+                    living: self.others,
+                };
+                answer_make(Maker::of(bounds, me), address, room, spec, reserve)
+            }
         }
     }
 

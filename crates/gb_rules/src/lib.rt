@@ -16,6 +16,7 @@ pub mod call;
 pub mod group;
 pub mod let_fall;
 pub mod log;
+pub mod maker;
 pub mod messages;
 pub mod phase;
 pub mod reserve;
@@ -24,6 +25,9 @@ pub mod tenant;
 pub mod usage;
 
 pub use call::GroupCall;
+pub use let_fall::Knowledge;
+pub use maker::Maker;
 pub use phase::Phase;
 pub use reserve::Reserve;
+pub use room::RoomUse;
 pub use usage::Usage;

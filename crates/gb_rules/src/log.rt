@@ -5,7 +5,7 @@ ghost use Rattle.gb_layer.specs.Machine as machine;
 ghost use Rattle.gb_rules.specs.History as history;
 
 use crate::call::{GroupCall, calls_of};
-use crate::let_fall::is_let_fall;
+use crate::let_fall::{Knowledge, is_let_fall};
 use crate::messages::{bytes_of, entries_in, known};
 use gb_kinds::plain;
 use gb_layer::plain::{came_from, is_mentioned};
@@ -88,9 +88,11 @@ pub fn falls_after(
 {
     let calls = calls_of(alloc, told)?;
     let m = x.message();
-    let before = came_from(me, &calls, from, m);
-    let known = is_mentioned(&calls, m);
-    let seen = bytes_in(alloc, told, x.origin)?;
+    let knowledge = Knowledge {
+        before: came_from(me, &calls, from, m),
+        known: is_mentioned(&calls, m),
+        seen: bytes_in(alloc, told, x.origin)?,
+    };
     let payload = x.payload.as_slice();
-    Ok(is_let_fall(spec, me, from, m, payload, before, known, seen))
+    Ok(is_let_fall(spec, me, from, m, payload, knowledge))
 }

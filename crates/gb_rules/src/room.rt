@@ -15,6 +15,15 @@ pub const ROOMS: u16 = 1_024;
 // Definitions cite this value.
 const _: () = prove!(ROOMS == 1_024 && ROOMS as usize * GENERATIONS == PLACES as usize);
 
+/// The use of a group's room at a node.
+#[derive(Clone, Copy)]
+pub struct RoomUse {
+    /// Whether the group, or a later generation of its room, was made there.
+    pub made: bool,
+    /// The number of other generations of its room that live there.
+    pub living: usize,
+}
+
 /// Returns the name of a group's room: the address of the room's first generation.
 pub fn name_of(addr: Addr) -> Addr
     ensures { result ≡ name_of addr }

@@ -2,10 +2,11 @@
 ghost use Rattle.std.specs.Prelude.{◌≡◌};
 ghost use Rattle.gb_rules.specs.Tenant.{is_over_limits, tenant_answer, is_bad, is_over, make_answer};
 
+use crate::maker::Maker;
 use crate::reserve::Reserve;
-use crate::room::{GENERATIONS, can_name};
+use crate::room::{GENERATIONS, RoomUse, can_name};
 use gb_types::limits::{BYTES, GROUPS, MESSAGES, WINDOW};
-use gb_types::{Addr, NodeId, Refusal, Reply, Spec, TenantRow, Version};
+use gb_types::{Addr, Refusal, Reply, Spec, TenantRow};
 
 /// Returns true if a tenant's row asks for more than the service allows, or has a 0 as tenant, groups, messages or window.
 pub fn is_over_limits(row: &TenantRow) -> bool
@@ -39,11 +40,11 @@ pub fn answer_tenant(places: u32, before: u32, there: bool, row: &TenantRow) -> 
     Reply::Done
 }
 
-/// Returns true if the set of members lacks this node, or names a node beyond a cluster of `nodes` nodes.
-fn is_bad_members(nodes: usize, me: NodeId, spec: &Spec) -> bool
-    ensures { result ≡ is_bad nodes me.number spec.now }
+/// Returns true if the set of members lacks this node, or names a node beyond its cluster.
+fn is_bad_members(maker: Maker, spec: &Spec) -> bool
+    ensures { result ≡ is_bad maker.nodes maker.me.number spec.now }
 {
-    !spec.members.contains(me) || !spec.members.is_below(nodes)
+    !spec.members.contains(maker.me) || !spec.members.is_below(usize::from(maker.nodes))
 }
 
 /// Returns true if a spec asks for more than its tenant has.
@@ -56,36 +57,26 @@ fn is_over_reserve(reserve: &Reserve, spec: &Spec) -> bool
     spec.window == 0 || spec.window > reserve.window
 }
 
-/// Returns the reply to a request that makes the group `addr`, at the node `me` of `nodes` nodes, which sends this version of the
-/// packet text. `made` says that the group, or a later generation of its room, was made here before. `living` is the number of other
-/// generations of its room that live here. Refusals, in this order: `NoGroup` if its tenant has no such number, `Spent` if `made`,
-/// `NoRoom` if `living` is 4 or more, `BadMembers` if the members lack this node or name one that is not there, `OverReserve` if
-/// packets of the version cannot name the generation or `spec` exceeds `reserve`. Otherwise the reply is `Done`.
-pub fn answer_make(
-    version: Version,
-    nodes: usize,
-    me: NodeId,
-    addr: Addr,
-    made: bool,
-    living: usize,
-    spec: &Spec,
-    reserve: &Reserve,
-) -> Reply
-    ensures { result ≡ make_answer version nodes me.number addr made living spec.now reserve.now }
+/// Returns the reply to a request that makes the group `addr` at the node `maker`. `room` is the use of the group's room there.
+/// Refusals, in this order: `NoGroup` if its tenant has no such number, `Spent` if the group or a later generation was made, `NoRoom`
+/// if 4 or more other generations live, `BadMembers` if the members lack this node or name one that is not there, `OverReserve` if
+/// packets of the node's version cannot name the generation or `spec` exceeds `reserve`. Otherwise the reply is `Done`.
+pub fn answer_make(maker: Maker, addr: Addr, room: RoomUse, spec: &Spec, reserve: &Reserve) -> Reply
+    ensures { result ≡ make_answer maker.version maker.nodes maker.me.number addr room.made room.living spec.now reserve.now }
 {
     if u32::from(addr.group) >= reserve.groups {
         return Reply::Refused(Refusal::NoGroup);
     }
-    if made {
+    if room.made {
         return Reply::Refused(Refusal::Spent);
     }
-    if living >= GENERATIONS {
+    if room.living >= GENERATIONS {
         return Reply::Refused(Refusal::NoRoom);
     }
-    if is_bad_members(nodes, me, spec) {
+    if is_bad_members(maker, spec) {
         return Reply::Refused(Refusal::BadMembers);
     }
-    if !can_name(version, addr) || is_over_reserve(reserve, spec) {
+    if !can_name(maker.version, addr) || is_over_reserve(reserve, spec) {
         return Reply::Refused(Refusal::OverReserve);
     }
     Reply::Done

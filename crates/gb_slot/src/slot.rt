@@ -13,7 +13,7 @@ use crate::window::{acknowledge, add_said, count_unfinished};
 use gb_layer::{Layer, PlacedCall};
 use gb_rules::group::{check_open, check_say, check_shut, is_bad_place};
 use gb_rules::let_fall::is_let_fall;
-use gb_rules::{Phase, Usage};
+use gb_rules::{Knowledge, Phase, Usage};
 use gb_stack::Stack;
 use gb_types::limits::NODES;
 use gb_types::{Entry, MsgId, NodeId, NodeSet, OutOfMemory, Refusal, Spec, Version};
@@ -233,11 +233,12 @@ impl Slot {
         }
         let m = MsgId { origin, seq };
         let (known, before) = self.store.known_from(m, from);
-        let seen = self.store.bytes_of(origin);
-        let is_known = known.is_some();
-        if is_let_fall(
-            &self.spec, self.me, from, m, payload, before, is_known, seen,
-        ) {
+        let knowledge = Knowledge {
+            before,
+            known: known.is_some(),
+            seen: self.store.bytes_of(origin),
+        };
+        if is_let_fall(&self.spec, self.me, from, m, payload, knowledge) {
             return false;
         }
         let count = self.outgoing.len();

@@ -23,10 +23,10 @@ admitted request t reply h r = subst (λ (b : Bool). IsReplyTo request.what (if 
 abbrev pub make_reply : Addr → Spec → TableValue → Reply
 make_reply addr spec t = by_tenant (make_answer t.version t.nodes t.me.number addr (is_some (group_in addr t.groups)) (others_living addr t.groups.rows) spec) (reserve_for addr.tenant t)
 
-pub make_should : (t now : TableValue) (addr : Addr) (spec : Spec) (row : TenantRow) (nodes : ℕ) (made : Bool) (living : ℕ) (reserve : Reserve) (r : Reply) → t ≡ now → Some row ≡ row_of addr.tenant t.tenants → nodes ≡ t.nodes
-    → made ≡ is_some (group_in addr t.groups) → living ≡ others_living addr t.groups.rows → reserve ≡ reserve_of row → r ≡ make_answer t.version nodes t.me.number addr made living spec reserve → r ≡ make_reply addr spec now
-make_should t now addr spec row nodes made living reserve r same found n m l own e =
-    e ∙ ap (λ k. make_answer t.version k t.me.number addr made living spec reserve) n
+pub make_should : (t now : TableValue) (addr : Addr) (spec : Spec) (row : TenantRow) (made : Bool) (living : ℕ) (reserve : Reserve) (r : Reply) → t ≡ now → Some row ≡ row_of addr.tenant t.tenants
+    → made ≡ is_some (group_in addr t.groups) → living ≡ others_living addr t.groups.rows → reserve ≡ reserve_of row → r ≡ make_answer t.version t.nodes t.me.number addr made living spec reserve → r ≡ make_reply addr spec now
+make_should t now addr spec row made living reserve r same found m l own e =
+    e
     ∙ ap (λ b. make_answer t.version t.nodes t.me.number addr b living spec reserve) m
     ∙ ap (λ k. make_answer t.version t.nodes t.me.number addr (is_some (group_in addr t.groups)) k spec reserve) l
     ∙ ap (λ o. by_tenant (make_answer t.version t.nodes t.me.number addr (is_some (group_in addr t.groups)) (others_living addr t.groups.rows) spec) (Some o)) own

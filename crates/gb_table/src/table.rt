@@ -28,9 +28,9 @@ use crate::tenants::Tenants;
 use gb_cap::compare::count_differences;
 use gb_cap::{HmacKey, Key, Need, Token};
 use gb_frame::ItemView;
-use gb_rules::Reserve;
 use gb_rules::room::{GENERATIONS, name_of};
 use gb_rules::tenant::{answer_make, answer_tenant};
+use gb_rules::{Maker, Reserve, RoomUse};
 use gb_types::{
     Action, Addr, GroupCommand, MsgId, NewMessage, NodeId, NodeSet, Refusal, Reply, Request, Spec,
     TenantRow, Version,
@@ -264,19 +264,16 @@ impl Table {
             return Reply::Refused(Refusal::Denied);
         };
         let reserve = Reserve::of(row);
-        let made = self.groups.was_made(addr);
-        let living = self.groups.others_living(addr);
-        let nodes = usize::from(self.nodes);
-        match answer_make(
-            self.version,
-            nodes,
-            self.me,
-            addr,
-            made,
-            living,
-            spec,
-            &reserve,
-        ) {
+        let maker = Maker {
+            me: self.me,
+            nodes: self.nodes,
+            version: self.version,
+        };
+        let room = RoomUse {
+            made: self.groups.was_made(addr),
+            living: self.groups.others_living(addr),
+        };
+        match answer_make(maker, addr, room, spec, &reserve) {
             Reply::Done => {}
             refused => return refused,
         }

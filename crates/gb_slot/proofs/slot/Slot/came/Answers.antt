@@ -21,7 +21,7 @@ pub take_call-requires-clause-known : goal.take_call-requires-clause-known
 take_call-requires-clause-known c =
     let s = c.self.inside in
     let x : Entry = record { origin = c.args.origin; seq = c.args.seq; payload = c.args.payload.now } in
-    let stay = item_stays s c.args.from x c.is_let_fall.result c.known_from-known.result.1 c.is_some-is_known.result c.bytes_of-seen.result c.is_let_fall.ensures.test c.if-is_let_fall.false c.known_from-known.ensures.taken (c.is_some-is_known.ensures ∙ c.known_from-known.ensures.entries) c.bytes_of-seen.ensures in
+    let stay = item_stays s c.args.from x c.is_let_fall.result c.known_from-known.result.1 c.is_some.result c.bytes_of.result c.is_let_fall.ensures.test c.if-is_let_fall.false c.known_from-known.ensures.taken (c.is_some.ensures ∙ c.known_from-known.ensures.entries) c.bytes_of.ensures in
     let next = reached_came (held s) c.args.from x stay c.self.invariant.5 in
     let later = c.take_in-place.new.self.entries in
     let new = grown_new s.store.entries x in
@@ -38,7 +38,7 @@ pub take_call-requires-clause-log : goal.take_call-requires-clause-log
 take_call-requires-clause-log c =
     let s = c.self.inside in
     let x : Entry = record { origin = c.args.origin; seq = c.args.seq; payload = c.args.payload.now } in
-    let stay = item_stays s c.args.from x c.is_let_fall.result c.known_from-known.result.1 c.is_some-is_known.result c.bytes_of-seen.result c.is_let_fall.ensures.test c.if-is_let_fall.false c.known_from-known.ensures.taken (c.is_some-is_known.ensures ∙ c.known_from-known.ensures.entries) c.bytes_of-seen.ensures in
+    let stay = item_stays s c.args.from x c.is_let_fall.result c.known_from-known.result.1 c.is_some.result c.bytes_of.result c.is_let_fall.ensures.test c.if-is_let_fall.false c.known_from-known.ensures.taken (c.is_some.ensures ∙ c.known_from-known.ensures.entries) c.bytes_of.ensures in
     let next = reached_came (held s) c.args.from x stay c.self.invariant.5 in
     let later = c.take_in-place.new.self.entries in
     let new = grown_new s.store.entries x in
@@ -51,7 +51,7 @@ pub take_call-requires-clause-outgoing : goal.take_call-requires-clause-outgoing
 take_call-requires-clause-outgoing c =
     let s = c.self.inside in
     let x : Entry = record { origin = c.args.origin; seq = c.args.seq; payload = c.args.payload.now } in
-    let stay = item_stays s c.args.from x c.is_let_fall.result c.known_from-known.result.1 c.is_some-is_known.result c.bytes_of-seen.result c.is_let_fall.ensures.test c.if-is_let_fall.false c.known_from-known.ensures.taken (c.is_some-is_known.ensures ∙ c.known_from-known.ensures.entries) c.bytes_of-seen.ensures in
+    let stay = item_stays s c.args.from x c.is_let_fall.result c.known_from-known.result.1 c.is_some.result c.bytes_of.result c.is_let_fall.ensures.test c.if-is_let_fall.false c.known_from-known.ensures.taken (c.is_some.ensures ∙ c.known_from-known.ensures.entries) c.bytes_of.ensures in
     let next = reached_came (held s) c.args.from x stay c.self.invariant.5 in
     let later = c.take_in-place.new.self.entries in
     let new = grown_new s.store.entries x in
@@ -64,7 +64,7 @@ pub returns-clause-state : goal.returns-clause-state
 returns-clause-state c =
     let s = c.self.inside in
     let x : Entry = record { origin = c.args.origin; seq = c.args.seq; payload = c.args.payload.now } in
-    let stay = item_stays s c.args.from x c.is_let_fall.result c.known_from-known.result.1 c.is_some-is_known.result c.bytes_of-seen.result c.is_let_fall.ensures.test c.if-is_let_fall.false c.known_from-known.ensures.taken (c.is_some-is_known.ensures ∙ c.known_from-known.ensures.entries) c.bytes_of-seen.ensures in
+    let stay = item_stays s c.args.from x c.is_let_fall.result c.known_from-known.result.1 c.is_some.result c.bytes_of.result c.is_let_fall.ensures.test c.if-is_let_fall.false c.known_from-known.ensures.taken (c.is_some.ensures ∙ c.known_from-known.ensures.entries) c.bytes_of.ensures in
     let later = c.take_in-place.new.self.entries in
     let new = grown_new s.store.entries x in
     let is_grown = c.take_in-place.ensures.entries ∙ new.1 in
@@ -110,7 +110,7 @@ pub take_in-place-requires-clause-place : goal.take_in-place-requires-clause-pla
 take_in-place-requires-clause-place c = λ new.
     let s = c.self.inside in
     let x : Entry = record { origin = c.args.origin; seq = c.args.seq; payload = c.args.payload.now } in
-    let stay = item_stays s c.args.from x c.is_let_fall.result c.known_from-known.result.1 c.is_some-is_known.result c.bytes_of-seen.result c.is_let_fall.ensures.test c.if-is_let_fall.false c.known_from-known.ensures.taken (c.is_some-is_known.ensures ∙ c.known_from-known.ensures.entries) c.bytes_of-seen.ensures in
+    let stay = item_stays s c.args.from x c.is_let_fall.result c.known_from-known.result.1 c.is_some.result c.bytes_of.result c.is_let_fall.ensures.test c.if-is_let_fall.false c.known_from-known.ensures.taken (c.is_some.ensures ∙ c.known_from-known.ensures.entries) c.bytes_of.ensures in
     let next = reached_came (held s) c.args.from x stay c.self.invariant.5 in
     place_in_store s (slot_called (Came c.args.from (message_of x)) (with_new s.store.entries x) (held s)) x c.self.invariant.6 next refl (new_known s.store.entries x new)
 
@@ -118,7 +118,7 @@ pub take_in-place-requires-clause-bytes : goal.take_in-place-requires-clause-byt
 take_in-place-requires-clause-bytes c = λ new.
     let s = c.self.inside in
     let x : Entry = record { origin = c.args.origin; seq = c.args.seq; payload = c.args.payload.now } in
-    let stay = item_stays s c.args.from x c.is_let_fall.result c.known_from-known.result.1 c.is_some-is_known.result c.bytes_of-seen.result c.is_let_fall.ensures.test c.if-is_let_fall.false c.known_from-known.ensures.taken (c.is_some-is_known.ensures ∙ c.known_from-known.ensures.entries) c.bytes_of-seen.ensures in
+    let stay = item_stays s c.args.from x c.is_let_fall.result c.known_from-known.result.1 c.is_some.result c.bytes_of.result c.is_let_fall.ensures.test c.if-is_let_fall.false c.known_from-known.ensures.taken (c.is_some.ensures ∙ c.known_from-known.ensures.entries) c.bytes_of.ensures in
     let next = reached_came (held s) c.args.from x stay c.self.invariant.5 in
     bytes_in_store s (slot_called (Came c.args.from (message_of x)) (with_new s.store.entries x) (held s)) x c.self.invariant.6 next refl (new_known s.store.entries x new)
 
@@ -127,17 +127,17 @@ take_in-place-requires-clause-limit c = λ new.
     let s = c.self.inside in
     let x : Entry = record { origin = c.args.origin; seq = c.args.seq; payload = c.args.payload.now } in
     let test = sym c.is_let_fall.ensures.test in
-    let facts = kept_item s.spec s.me.number c.args.from.number x c.known_from-known.result.1 c.is_some-is_known.result c.bytes_of-seen.result (test ∙ c.if-is_let_fall.false) in
-    let enough = facts.2 ((c.is_some-is_known.ensures ∙ c.known_from-known.ensures.entries) ∙ new) in
+    let facts = kept_item s.spec s.me.number c.args.from.number x c.known_from-known.result.1 c.is_some.result c.bytes_of.result (test ∙ c.if-is_let_fall.false) in
+    let enough = facts.2 ((c.is_some.ensures ∙ c.known_from-known.ensures.entries) ∙ new) in
     let most = c.self.invariant.2 in
-    let seen = c.bytes_of-seen.ensures in
+    let seen = c.bytes_of.ensures in
     omega (arith, enough, most, seen)
 
 pub invariant_of-self : goal.invariant_of-self
 invariant_of-self c =
     let s = c.self.inside in
     let x : Entry = record { origin = c.args.origin; seq = c.args.seq; payload = c.args.payload.now } in
-    let stay = item_stays s c.args.from x c.is_let_fall.result c.known_from-known.result.1 c.is_some-is_known.result c.bytes_of-seen.result c.is_let_fall.ensures.test c.if-is_let_fall.false c.known_from-known.ensures.taken (c.is_some-is_known.ensures ∙ c.known_from-known.ensures.entries) c.bytes_of-seen.ensures in
+    let stay = item_stays s c.args.from x c.is_let_fall.result c.known_from-known.result.1 c.is_some.result c.bytes_of.result c.is_let_fall.ensures.test c.if-is_let_fall.false c.known_from-known.ensures.taken (c.is_some.ensures ∙ c.known_from-known.ensures.entries) c.bytes_of.ensures in
     let next = reached_came (held s) c.args.from x stay c.self.invariant.5 in
     let later = c.take_in-place.new.self.entries in
     let new = grown_new s.store.entries x in

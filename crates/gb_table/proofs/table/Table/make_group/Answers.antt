@@ -21,22 +21,22 @@ pub returns-in_default-answer_make : goal.returns-in_default-answer_make
 returns-in_default-answer_make c =
     let T : TableValue = record { me = c.self.inside.me; nodes = c.self.inside.nodes; version = c.self.inside.version; places = c.self.inside.places; admin_key = c.self.inside.admin_key; tenants = c.self.inside.tenants; groups = c.self.inside.groups } in
     record {
-      reply = inr (make_should T c.args.self.now c.args.addr c.args.spec.now c.in-Some.row.now c.from-nodes.result c.was_made-made.result c.others_living-living.result c.of-reserve.result c.answer_make.result c.self.view_is c.in-Some.ensures c.from-nodes.ensures c.was_made-made.ensures c.others_living-living.ensures c.of-reserve.ensures c.answer_make.ensures);
+      reply = inr (make_should T c.args.self.now c.args.addr c.args.spec.now c.in-Some.row.now c.was_made.result c.others_living.result c.of-reserve.result c.answer_make.result c.self.view_is c.in-Some.ensures c.was_made.ensures c.others_living.ensures c.of-reserve.ensures c.answer_make.ensures);
       state = not_made c.args.noticed.now c.args.addr c.args.spec.now c.answer_make.result c.args.self.now c.in_default-answer_make.not-Done;
     }
 
 pub make-requires : goal.make-requires
 make-requires c =
     let row = c.in-Some.row.now in
-    let d = make_done c.self.inside.version c.from-nodes.result c.self.inside.me.number c.args.addr c.was_made-made.result c.others_living-living.result c.args.spec.now c.of-reserve.result c.in-Done.ensures in
+    let d = make_done c.self.inside.version c.self.inside.nodes c.self.inside.me.number c.args.addr c.was_made.result c.others_living.result c.args.spec.now c.of-reserve.result c.in-Done.ensures in
     let below = subst (λ (r : Reserve). c.args.addr.group < r.groups) c.of-reserve.ensures d.below in
     record {
       limits = within_limits row c.args.spec.now (found_within (λ (r : TenantRow). is_over_limits r ≡ false) c.args.addr.tenant c.self.inside.tenants row c.self.invariant.0.limits (sym c.in-Some.ensures)) (subst (λ (r : Reserve). is_over r c.args.spec.now ≡ false) c.of-reserve.ensures d.within);
       member = d.member;
       can = record {
         tenant = tenant_above c.self.inside.tenants c.args.addr.tenant row c.self.invariant.0.limits (sym c.in-Some.ensures);
-        fresh = not_some (group_in c.args.addr c.self.inside.groups) (sym c.was_made-made.ensures ∙ d.fresh);
-        free = subst (λ n. n < _) c.others_living-living.ensures d.few;
+        fresh = not_some (group_in c.args.addr c.self.inside.groups) (sym c.was_made.ensures ∙ d.fresh);
+        free = subst (λ n. n < _) c.others_living.ensures d.few;
       };
       few = few_made c.self.inside.places c.self.inside.tenants _ (within_made c.self.inside.places c.self.inside.tenants c.self.inside.groups.rooms c.args.addr row c.self.invariant.0 c.in-Some.ensures below);
     }
@@ -44,7 +44,7 @@ make-requires c =
 pub invariant_of-self : goal.invariant_of-self
 invariant_of-self c =
     let row = c.in-Some.row.now in
-    let d = make_done c.self.inside.version c.from-nodes.result c.self.inside.me.number c.args.addr c.was_made-made.result c.others_living-living.result c.args.spec.now c.of-reserve.result c.in-Done.ensures in
+    let d = make_done c.self.inside.version c.self.inside.nodes c.self.inside.me.number c.args.addr c.was_made.result c.others_living.result c.args.spec.now c.of-reserve.result c.in-Done.ensures in
     let below = subst (λ (r : Reserve). c.args.addr.group < r.groups) c.of-reserve.ensures d.below in
     let groups = c.self.inside.groups in
     elim c.match-make.branch [
@@ -65,7 +65,7 @@ invariant_of-self c =
 pub returns-clause-reply : goal.returns-clause-reply
 returns-clause-reply c =
     let T : TableValue = record { me = c.self.inside.me; nodes = c.self.inside.nodes; version = c.self.inside.version; places = c.self.inside.places; admin_key = c.self.inside.admin_key; tenants = c.self.inside.tenants; groups = c.self.inside.groups } in
-    let e : Done ≡ make_reply c.args.addr c.args.spec.now c.args.self.now = make_should T c.args.self.now c.args.addr c.args.spec.now c.in-Some.row.now c.from-nodes.result c.was_made-made.result c.others_living-living.result c.of-reserve.result Done c.self.view_is c.in-Some.ensures c.from-nodes.ensures c.was_made-made.ensures c.others_living-living.ensures c.of-reserve.ensures c.in-Done.ensures in
+    let e : Done ≡ make_reply c.args.addr c.args.spec.now c.args.self.now = make_should T c.args.self.now c.args.addr c.args.spec.now c.in-Some.row.now c.was_made.result c.others_living.result c.of-reserve.result Done c.self.view_is c.in-Some.ensures c.was_made.ensures c.others_living.ensures c.of-reserve.ensures c.in-Done.ensures in
     elim c.match-make.branch [
       | in-Ok w ↦ inr (w.result-is ∙ e)
       | in-Err w ↦ inl (w.result-is, ap takes_memory (sym e))
