@@ -105,10 +105,16 @@ fn new_links(alloc: Global, nodes: u8) -> Result<Vec<Link>, OutOfMemory> {
     Ok(links)
 }
 
-/// What a loop stands on besides its node: the number of its port at the system, and who listens for clients.
+/// The sockets of a node, as its loop takes them.
 #[derive(Drop)]
-pub struct LoopSockets {
+pub struct LoopSockets<P> {
+    /// The node whose sockets they are.
+    pub node: NodeId,
+    /// For packets.
+    pub port: P,
+    /// The number that the system has for the port.
     pub fd: RawFd,
+    /// For clients.
     pub listener: TcpListener,
 }
 
@@ -323,27 +329,30 @@ impl<'a, L: Tapes, H: Wait + Clock, P: Port, S: Settle + Copy> NodeLoop<'a, L, H
     }
 }
 
-/// Runs the loop of a node until its end is told: carries the packets of its port, answers the clients of its listener, and makes its time
-/// tick. Each call of the seat is one at the node; what travelled at the port is what these calls say. What happened is settled before a
-/// reply is written, after the turn of each client, and once a round. Returns the seat and the port.
+/// Runs the loop of the node of `sockets` until its end is told: carries the packets of its port, answers the clients of its listener, and
+/// makes its time tick. Each call of the seat is one at the node; what travelled at the port is what these calls say. What happened is
+/// settled before a reply is written, after the turn of each client, and once a round. Returns the seat and the port.
 pub fn run_loop<L: Tapes, H: Wait + Clock, N: Net, P: Port, S: Settle + Copy, E: Ending>(
     rt: &H,
     net: &N,
     alloc: Global,
     host: &Host<L>,
     seat: Seat<L>,
-    node: NodeId,
-    port: P,
-    sockets: LoopSockets,
+    sockets: LoopSockets<P>,
     options: LoopOptions,
     settle: S,
     ending: &E,
 ) -> Parts<L, P>
-    ensures node { result.node ≡ node }
-    ensures here { ∥ HasCalled node seat.calls result.seat.calls ∥₁ }
-    ensures mailed { ∥ HasMailed P.sends P.receives result.lost port result.port seat.calls result.seat.calls ∥₁ }
+    ensures node { result.node ≡ sockets.node }
+    ensures here { ∥ HasCalled sockets.node seat.calls result.seat.calls ∥₁ }
+    ensures mailed { ∥ HasMailed P.sends P.receives result.lost sockets.port result.port seat.calls result.seat.calls ∥₁ }
 {
-    let LoopSockets { fd, listener } = sockets;
+    let LoopSockets {
+        node,
+        port,
+        fd,
+        listener,
+    } = sockets;
     let nodes = host.plan().cluster.nodes;
     let mail = Mail::new(rt, host, alloc, node, seat, port);
     match NodeLoop::new(rt, settle, alloc, mail, nodes, options, listener) {

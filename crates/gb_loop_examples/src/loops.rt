@@ -163,19 +163,24 @@ fn listen<N: Net<Listener = TcpListener, Stream = TcpStream>>(
     Some(mio::net::TcpListener::from_std(listener))
 }
 
-// Returns a port for packets and a listener for clients.
+// Returns the sockets of the node.
 fn open_sockets<N: Net<Listener = TcpListener, Stream = TcpStream>>(
     net: &N,
     alloc: Global,
     alone: Alone,
-) -> Option<(UdpPort, LoopSockets)>
+) -> Option<LoopSockets<UdpPort>>
     requires nodes { (1 ≤ alone.nodes) × (alone.nodes ≤ 16) }
     requires port { (1024 ≤ alone.port) × (alone.port ≤ 32000) }
 {
     let port = UdpPort::bind_loopback(net, alloc, ME, alone.nodes, alone.port).ok()?;
     let listener = listen(net, alone.port + 64)?;
     let fd = port.raw_fd();
-    Some((port, LoopSockets { fd, listener }))
+    Some(LoopSockets {
+        node: ME,
+        port,
+        fd,
+        listener,
+    })
 }
 
 // Runs the loop of a host's node, and closes the host. Returns true if the seat that the loop hands back is one of this host.
@@ -191,7 +196,7 @@ fn run_host<
     alone: Alone,
     plan: HostPlan,
     pasts: Vec<NodePast>,
-    sockets: (UdpPort, LoopSockets),
+    sockets: LoopSockets<UdpPort>,
     ending: &E,
 ) -> Option<bool>
     requires plan { plan ≡ L.plan }
@@ -200,12 +205,11 @@ fn run_host<
     requires pasts { (vec_len pasts ≡ plan.cluster.nodes) × AreBlank pasts.items }
     requires books { books_of pasts.items ≡ L.books }
 {
-    let (port, sockets) = sockets;
     let (host, mut seats, _) = Host::<L>::open(alloc, plan, only(ME), 1, pasts).ok()?;
     let seat = seats.pop()?;
     let options = options_of(alone);
     let Parts { seat, .. } = run_loop(
-        rt, net, alloc, &host, seat, ME, port, sockets, options, &Unsettled, ending,
+        rt, net, alloc, &host, seat, sockets, options, &Unsettled, ending,
     );
     seats.push(seat).ok()?;
     Some(close(host, seats).is_ok())

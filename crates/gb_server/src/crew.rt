@@ -1,12 +1,12 @@
 //! The threads of a server: they are made, and waited for until they have ended.
 use crate::beside::{Lent, Task, take_back};
-use crate::recorded::{LeftLog, NodeLog, take_log};
+use crate::given::{Given, Server};
+use crate::recorded::{LeftLog, take_log};
 use crate::signals::Signals;
-use crate::sockets::Sockets;
 use crate::watch::{Attending, attend};
 use crate::work::{LeftNode, run_node};
-use gb_host::{Host, Seat, Tapes};
-use gb_loop::{Ending, LoopOptions};
+use gb_host::{Seat, Tapes};
+use gb_loop::Ending;
 use gb_types::OutOfMemory;
 use std::alloc::Global;
 use std::io::Write;
@@ -72,20 +72,16 @@ fn hold<
 >(
     rt: &H,
     alloc: Global,
-    host: &Host<L>,
-    seats: Vec<Seat<L>>,
-    sockets: Vec<Sockets>,
-    logs: Vec<NodeLog<L>>,
-    options: LoopOptions,
-    signals: &Signals,
+    server: &Server<'_, L>,
+    given: Given<L>,
     attending: Attending<'_, E>,
     task: T,
 ) -> (Result<Held<L>, OutOfMemory>, B)
     requires { T.can_run task }
     ensures { T.run_gives task result.1 }
 {
-    let shared = signals;
-    let plan = host.plan();
+    let shared = &server.signals;
+    let plan = server.host.plan();
     let are_recorded = plan.ring && !plan.tape;
     thread::scope(
         thread::scope_env(),
@@ -94,11 +90,15 @@ fn hold<
             requires { T.can_run task }
             ensures { T.run_gives task result.1 }
         {
+            let Given {
+                seats,
+                sockets,
+                mut logs,
+            } = given;
             let mut held = Held {
                 seats,
                 logs: Vec::new(alloc),
             };
-            let mut logs = logs;
             let mut loops = Vec::new(alloc);
             for own in sockets {
                 let Some(seat) = held.seats.pop() else {
@@ -110,9 +110,7 @@ fn hold<
                     shared.fail();
                     break;
                 }
-                let made = scope.spawn(move || run_node(
-                    rt, alloc, host, seat, own, log, options, shared,
-                ));
+                let made = scope.spawn(move || run_node(rt, alloc, server, seat, own, log));
                 keep(&mut loops, made, shared);
             }
             let mut desks = Vec::new(alloc);
@@ -147,30 +145,15 @@ pub fn hold_beside<
 >(
     rt: &H,
     alloc: Global,
-    host: &Host<L>,
-    seats: Vec<Seat<L>>,
-    sockets: Vec<Sockets>,
-    logs: Vec<NodeLog<L>>,
-    options: LoopOptions,
-    signals: &Signals,
+    server: &Server<'_, L>,
+    given: Given<L>,
     attending: Attending<'_, E>,
     beside: &mut G,
 ) -> (Result<Held<L>, OutOfMemory>, B)
     requires { G.pre beside.old }
     ensures { G.step beside.old result.1 beside.new }
 {
-    let (held, (lent, done)) = hold(
-        rt,
-        alloc,
-        host,
-        seats,
-        sockets,
-        logs,
-        options,
-        signals,
-        attending,
-        Lent { f: beside },
-    );
+    let (held, (lent, done)) = hold(rt, alloc, server, given, attending, Lent { f: beside });
     take_back(lent);
     (held, done)
 }

@@ -4,14 +4,13 @@ ghost use Rattle.std.specs.Io.KnownBytes.{Appends, Consumes};
 
 use crate::crew::{Held, hold_beside};
 use crate::desk::Desk;
+use crate::given::{Given, Server};
 use crate::input::Input;
-use crate::recorded::NodeLog;
 use crate::server_log::{ServerLog, first_line};
 use crate::signals::Signals;
-use crate::sockets::Sockets;
 use crate::status::StatusServer;
 use crate::watch::{Attending, watch};
-use gb_host::{Host, Seat, Tapes};
+use gb_host::{Host, Tapes};
 use gb_loop::LoopOptions;
 use gb_types::{NodeId, OutOfMemory};
 use std::alloc::Global;
@@ -41,14 +40,6 @@ impl From<OutOfMemory> for RunFault {
     fn from(_fault: OutOfMemory) -> RunFault {
         RunFault::OutOfMemory
     }
-}
-
-/// What a server is given: for each node a seat and its sockets, and what it records by, if it does.
-#[derive(Drop)]
-pub struct Given<L: Tapes> {
-    pub seats: Vec<Seat<L>>,
-    pub sockets: Vec<Sockets>,
-    pub logs: Vec<NodeLog<L>>,
 }
 
 /// What a server of some nodes is told, beside how its loops behave.
@@ -123,23 +114,19 @@ pub fn run<
     let signals = Signals::new(alloc, service.first, service.nodes)?;
     let desk = desk_of(rt, alloc, service, listener)?;
     let attending = Attending { desk, errors };
-    let shared = &signals;
+    let server = Server {
+        host,
+        options,
+        signals,
+    };
+    let shared = &server.signals;
     let text = service.line.as_slice();
     let stops_at_end = service.stops_at_end;
-    let Given {
-        seats,
-        sockets,
-        logs,
-    } = given;
     let (held, is_told) = hold_beside(
         rt,
         alloc,
-        host,
-        seats,
-        sockets,
-        logs,
-        options,
-        shared,
+        &server,
+        given,
         attending,
         &mut || watch(rt, shared, text, stops_at_end, reader, writer),
     );

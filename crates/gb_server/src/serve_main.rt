@@ -12,12 +12,13 @@ use crate::crew::Held;
 use crate::descriptors::{connections_of, descriptor_limit};
 use crate::ending::{Ended, end, end_recorded};
 use crate::fault::ServeFault;
+use crate::given::{Given, Opened};
 use crate::input::Input;
-use crate::record_file::{RecordFile, RecordPlace, open_records};
+use crate::record_file::{RecordPlace, open_records};
 use crate::recorded::logs_of;
-use crate::run::{Given, Service, run};
+use crate::run::{Service, run};
 use crate::server_log::begin_front;
-use crate::sockets::{Sockets, open_sockets, open_status};
+use crate::sockets::{open_sockets, open_status};
 use crate::told::{serving_line, status_of, tell_end};
 use gb_host::here::all_nodes;
 use gb_host::pasts::new_pasts;
@@ -146,13 +147,11 @@ fn serve_host<
     alloc: Global,
     plan: HostPlan,
     serve: ServePlan,
-    sockets: Vec<Sockets>,
-    files: Vec<RecordFile>,
-    listener: Option<TcpListener>,
+    opened: Opened,
+    pasts: Vec<NodePast>,
     reader: &mut R,
     writer: &mut W,
     errors: &mut E,
-    pasts: Vec<NodePast>,
 ) -> Result<Ended, ServeFault>
     requires plan { plan ≡ L.plan }
     requires limits { IsPlan plan }
@@ -165,6 +164,11 @@ fn serve_host<
     ensures ends { has_closed result ≡ true → (seats : List SeatValue) × EndsSo plan seats result }
     ensures taken { result ≢ Err ServeFault.RefusedWords }
 {
+    let Opened {
+        sockets,
+        files,
+        listener,
+    } = opened;
     let seats = u32::from(plan.cluster.nodes);
     let here = all_nodes(plan.cluster.nodes);
     let (host, seats, recorders) = Host::<L>::open(alloc, plan, here, seats, pasts)?;
@@ -231,9 +235,14 @@ fn serve_plan<
     let listener = open_status(rt, serve.status)?;
     let place = place_of(words, run);
     let files = open_records(rt, alloc, place, &plan, NodeId::new(0), serve.nodes)?;
+    let opened = Opened {
+        sockets,
+        files,
+        listener,
+    };
     let pasts = new_pasts(alloc, serve.nodes)?;
     serve_host::<Brand, H, R, W, E>(
-        rt, alloc, plan, serve, sockets, files, listener, reader, writer, errors, pasts,
+        rt, alloc, plan, serve, opened, pasts, reader, writer, errors,
     )
 }
 

@@ -2,13 +2,14 @@
 ghost use Rattle.std.specs.Prelude.{◌≡◌, []};
 
 use crate::gates::wait_to_begin;
+use crate::given::Server;
 use crate::recorded::{LeftLog, NodeLog, Settling};
-use crate::signals::Signals;
 use crate::sockets::Sockets;
-use gb_host::{Host, NodePast, Seat, Tapes};
+use gb_host::{NodePast, Seat, Tapes};
 use gb_loop::node_loop::run_loop;
-use gb_loop::{LoopOptions, LoopSockets, Parts, Unsettled};
+use gb_loop::{LoopSockets, Parts, Unsettled};
 use gb_past::Past;
+use gb_port::UdpPort;
 use gb_record::{RecordName, Recording, SharedRecording, WrittenFirst};
 use std::alloc::Global;
 use std::marker::Brand;
@@ -23,27 +24,39 @@ pub struct LeftNode<L: Tapes> {
     pub log: Option<LeftLog<L>>,
 }
 
-// Runs the loop of a node that keeps no record.
-fn run_unrecorded<L: Tapes, H: Net<Listener = TcpListener, Stream = TcpStream> + Wait + Clock>(
-    rt: &H,
-    alloc: Global,
-    host: &Host<L>,
-    seat: Seat<L>,
-    sockets: Sockets,
-    options: LoopOptions,
-    signals: &Signals,
-) -> LeftNode<L> {
+// Returns the sockets of a node as its loop takes them.
+fn loop_sockets(sockets: Sockets) -> LoopSockets<UdpPort> {
     let Sockets {
         node,
         port,
         listener,
     } = sockets;
-    let fd = port.raw_fd();
-    let listener = mio::net::TcpListener::from_std(listener);
-    let sockets = LoopSockets { fd, listener };
-    let settle = Unsettled;
+    LoopSockets {
+        node,
+        fd: port.raw_fd(),
+        port,
+        listener: mio::net::TcpListener::from_std(listener),
+    }
+}
+
+// Runs the loop of a node that keeps no record.
+fn run_unrecorded<L: Tapes, H: Net<Listener = TcpListener, Stream = TcpStream> + Wait + Clock>(
+    rt: &H,
+    alloc: Global,
+    server: &Server<'_, L>,
+    seat: Seat<L>,
+    sockets: LoopSockets<UdpPort>,
+) -> LeftNode<L> {
     let Parts { seat, .. } = run_loop(
-        rt, rt, alloc, host, seat, node, port, sockets, options, &settle, signals,
+        rt,
+        rt,
+        alloc,
+        server.host,
+        seat,
+        sockets,
+        server.options,
+        &Unsettled,
+        &server.signals,
     );
     LeftNode { seat, log: None }
 }
@@ -56,35 +69,44 @@ fn run_recorded<
 >(
     rt: &H,
     alloc: Global,
-    host: &Host<L>,
+    server: &Server<'_, L>,
     seat: Seat<L>,
-    sockets: Sockets,
+    sockets: LoopSockets<UdpPort>,
     log: NodeLog<L>,
     written: NodePast,
-    options: LoopOptions,
-    signals: &Signals,
 ) -> LeftNode<L>
     requires { (written.log ≡ []) × (written.book ≡ R.book) }
 {
-    let Sockets {
+    let LoopSockets {
         node,
         port,
+        fd,
         listener,
     } = sockets;
-    let fd = port.raw_fd();
-    let listener = mio::net::TcpListener::from_std(listener);
-    let sockets = LoopSockets { fd, listener };
     let (recorder, file) = log.into_parts();
     let seen = written.seen();
     let recording = Recording::<R, L, _>::new(alloc, recorder, file, written);
     let shared = SharedRecording::new(recording);
     let settle = Settling {
         record: &shared,
-        signals,
+        signals: &server.signals,
     };
-    let port = WrittenFirst::new(port, &shared, seen);
+    let sockets = LoopSockets {
+        node,
+        port: WrittenFirst::new(port, &shared, seen),
+        fd,
+        listener,
+    };
     let Parts { seat, port, .. } = run_loop(
-        rt, rt, alloc, host, seat, node, port, sockets, options, &settle, signals,
+        rt,
+        rt,
+        alloc,
+        server.host,
+        seat,
+        sockets,
+        server.options,
+        &settle,
+        &server.signals,
     );
     drop(port.into_port());
     let (recorder, file) = shared.into_inner().into_parts();
@@ -97,26 +119,17 @@ fn run_recorded<
 pub fn run_node<L: Tapes, H: Net<Listener = TcpListener, Stream = TcpStream> + Wait + Clock>(
     rt: &H,
     alloc: Global,
-    host: &Host<L>,
+    server: &Server<'_, L>,
     seat: Seat<L>,
     sockets: Sockets,
     log: Option<NodeLog<L>>,
-    options: LoopOptions,
-    signals: &Signals,
 ) -> LeftNode<L> {
-    wait_to_begin(rt, signals);
+    wait_to_begin(rt, &server.signals);
+    let sockets = loop_sockets(sockets);
     match log {
-        None => run_unrecorded(rt, alloc, host, seat, sockets, options, signals),
-        Some(log) => run_recorded::<Brand, L, H>(
-            rt,
-            alloc,
-            host,
-            seat,
-            sockets,
-            log,
-            Past::new(),
-            options,
-            signals,
-        ),
+        None => run_unrecorded(rt, alloc, server, seat, sockets),
+        Some(log) => {
+            run_recorded::<Brand, L, H>(rt, alloc, server, seat, sockets, log, Past::new())
+        }
     }
 }
