@@ -33,7 +33,7 @@ use gb_server::recorded::logs_of;
 use gb_server::run::run;
 use gb_server::server_log::put_address;
 use gb_server::sockets::open_status;
-use gb_server::{Given, Held, Input, Keys, RecordFile, RecordPlace, ServeFault, Service, Sockets};
+use gb_server::{Given, Held, Input, Keys, Opened, RecordFile, RecordPlace, ServeFault, Service};
 use gb_spelling::number::put_number;
 use gb_types::memory::put_bytes;
 use gb_types::{NodeId, OutOfMemory};
@@ -172,13 +172,11 @@ fn serve_host<
     me: NodeId,
     service: &Service,
     options: LoopOptions,
-    sockets: Sockets,
-    files: Vec<RecordFile>,
-    listener: Option<TcpListener>,
+    opened: Opened,
+    pasts: Vec<NodePast>,
     reader: &mut R,
     writer: &mut W,
     errors: &mut E,
-    pasts: Vec<NodePast>,
 ) -> Result<(), PeerFault>
     requires plan { plan ≡ L.plan }
     requires limits { IsPlan plan }
@@ -189,18 +187,19 @@ fn serve_host<
     ensures read { OnOk result ((bytes : List ℕ) × Consumes (R.remaining reader.old) (R.remaining reader.new) bytes) }
     ensures fault { IfErr result (λ fault. fault_status fault ≡ 1) }
 {
+    let Opened {
+        sockets,
+        files,
+        listener,
+    } = opened;
     let (host, seats, recorders) = match Host::<L>::open(alloc, plan, only(me), 1, pasts) {
         Ok(opened) => opened,
         Err(fault) => return Err(PeerFault::Serve(ServeFault::from(fault))),
     };
     let logs = logs_of(alloc, &plan, host.here(), recorders, files)?;
-    let mut all = Vec::new(alloc);
-    let Ok(()) = all.push(sockets) else {
-        return Err(PeerFault::from(OutOfMemory));
-    };
     let given = Given {
         seats,
-        sockets: all,
+        sockets,
         logs,
     };
     let Held { seats, logs } = run(
@@ -295,10 +294,14 @@ fn serve_node<
     let descriptors = descriptor_limit().saturating_sub(files.len() as u64);
     let connections = connections_of(u64::from(plan.connections), 1, descriptors);
     let options = options_of(file, plan, connections);
+    let opened = Opened {
+        sockets,
+        files,
+        listener,
+    };
     let pasts = new_pasts(alloc, node_count(file))?;
     serve_host::<Brand, H, R, W, E>(
-        rt, alloc, host, me, &service, options, sockets, files, listener, reader, writer, errors,
-        pasts,
+        rt, alloc, host, me, &service, options, opened, pasts, reader, writer, errors,
     )
 }
 

@@ -11,18 +11,22 @@ use gb_types::NodeId;
 use std::alloc::Global;
 use std::net::{Net, TcpListener, TcpStream};
 
-/// Binds and returns the sockets of node `me`: UDP for packets at its own place in `places`, and TCP for sessions. `Err` with
-/// `Packets` or `Sessions` and the address if that one cannot be bound, and with `OutOfMemory`, as a server's fault, if memory is
-/// refused. Then no socket is left open.
+/// Binds the sockets of node `me`, and returns them alone in a list: UDP for packets at its own place in `places`, and TCP for
+/// sessions. `Err` with `Packets` or `Sessions` and the address if that one cannot be bound, and with `OutOfMemory`, as a server's
+/// fault, if memory is refused. Then no socket is left open.
 pub fn open_sockets<H: Net<Listener = TcpListener, Stream = TcpStream>>(
     rt: &H,
     alloc: Global,
     me: NodeId,
     places: Places,
-) -> Result<Sockets, PeerFault>
+) -> Result<Vec<Sockets>, PeerFault>
     requires { me.number < vec_len places.packets }
     ensures fault { IfErr result (λ fault. fault_status fault ≡ 1) }
 {
+    let mut sockets = Vec::new(alloc);
+    let Ok(()) = sockets.reserve(1) else {
+        return Err(PeerFault::Serve(ServeFault::OutOfMemory));
+    };
     let Places { packets, sessions } = places;
     let own = packets[me.index()];
     let port = match UdpPort::bind(rt, alloc, me, packets) {
@@ -30,12 +34,13 @@ pub fn open_sockets<H: Net<Listener = TcpListener, Stream = TcpStream>>(
         Err(BindFault::Port) => return Err(PeerFault::Packets(own)),
         Err(BindFault::OutOfMemory) => return Err(PeerFault::Serve(ServeFault::OutOfMemory)),
     };
-    match listen(rt, sessions) {
-        Some(listener) => Ok(Sockets {
-            node: me,
-            port,
-            listener,
-        }),
-        None => Err(PeerFault::Sessions(sessions)),
-    }
+    let Some(listener) = listen(rt, sessions) else {
+        return Err(PeerFault::Sessions(sessions));
+    };
+    sockets.push_reserved(Sockets {
+        node: me,
+        port,
+        listener,
+    });
+    Ok(sockets)
 }
