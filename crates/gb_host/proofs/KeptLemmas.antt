@@ -92,7 +92,7 @@ module _ {L : Type 0} where
   noted p books b (Ring o) past seat count event answer No known k is h told = absurd h
   noted p books b (Ring o) past seat count event answer (ForMemory c) known k is h told = absurd h
   noted p books b (Ring o) past seat count event answer (ForRing c) known k is h told =
-      let all : o.entries ≡ past = is ∙ ap (λ x. cond x past []) (ringed p.tape p.ring k.0 k.1).0 in
+      let all : o.before ++ o.entries ≡ past = is ∙ ap (λ x. cond x past []) (ringed p.tape p.ring k.0 k.1).0 in
       rw (k.2, all, h) told
 
   -- why a call is not kept
@@ -121,15 +121,15 @@ module _ {L : Type 0} where
   pub tape_held : (p : HostPlan) (b : NodeId) (kept : Kept L) → IsKeptAt p b kept → tape_in kept ≡ cond p.tape (kept_entries kept) []
   tape_held p b Nothing k = none_held p.tape
   tape_held p b (Memory t) k = ap (λ x. cond x t.items []) (sym k)
-  tape_held p b (Ring o) k = ap (λ x. cond x o.entries []) (sym k.0)
+  tape_held p b (Ring o) k = ap (λ x. cond x (o.before ++ o.entries) []) (sym k.0)
 
   pub replayed : (p : HostPlan) (b : NodeId) (node : NodeValue) (kept : Kept L) (past tape : List TapeEntry) → IsKeptAt p b kept → kept_entries kept ≡ cond (is_kept p) past [] → ComesTo (plan_of p b) (past_of past) node → tape ≡ tape_in kept → IsReplay p b node tape
   replayed p b node kept past tape k is comes held = λ on.
       subst (λ es. ComesTo (plan_of p b) (past_of es) node) (sym (held ∙ (tape_held p b kept k ∙ (ap (λ x. cond x (kept_entries kept) []) on ∙ (is ∙ ap (λ x. cond x past []) (taped p.tape p.ring on)))))) comes
 
   pub ended : (p : HostPlan) (books : List BookName) (b : NodeId) (node : NodeValue) (kept : Kept L) (o : OutletValue) (known : Known TapeEntry) → kept ≡ Ring o → IsKeptAt p b kept → kept_entries kept ≡ cond (is_kept p) known.log []
-      → b.number < p.cluster.nodes → known.book ≡ book_at books b.number → ComesTo (plan_of p b) (past_of known.log) node → IsPast p books o.node o.entries known
+      → b.number < p.cluster.nodes → known.book ≡ book_at books b.number → ComesTo (plan_of p b) (past_of known.log) node → IsPast p books o.node (o.before ++ o.entries) known
   ended p books b node kept o known is k all member book comes =
       let placed : IsKeptAt {L = L} p b (Ring o) = subst (λ (x : Kept L). IsKeptAt {L = L} p b x) is k in
-      let entries : o.entries ≡ known.log = ap (λ (x : Kept L). kept_entries {L = L} x) (sym is) ∙ (all ∙ ap (λ x. cond x known.log []) (ringed p.tape p.ring placed.0 placed.1).0) in
+      let entries : o.before ++ o.entries ≡ known.log = ap (λ (x : Kept L). kept_entries {L = L} x) (sym is) ∙ (all ∙ ap (λ x. cond x known.log []) (ringed p.tape p.ring placed.0 placed.1).0) in
       rw (placed.2, entries) (record { member = member; book = book; log = refl; state = node; comes = comes })

@@ -8,3 +8,4 @@ pub mod KeptLemmas
 pub mod NothingLemmas
 pub mod RingLemmas
 pub mod OpenLemmas
+pub mod BegunLemmas

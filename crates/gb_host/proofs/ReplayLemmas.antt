@@ -6,8 +6,8 @@ use Rattle.gb_types.specs.declared.{limits.TheConstants.NODES, node.NodeId.NodeI
 use Rattle.gb_node.specs.Common.{NodeValue, new_node, IsNodePlan, IsTurn, IsSpelt, Happened, ComesTo}
 use Rattle.gb_node.specs.declared.{plan.NodePlan.NodePlan, tape.TapeEntry.TapeEntry, step.NodeStep.NodeStep}
 use Rattle.gb_host.specs.Calls.{Call, calls_at}
-use Rattle.gb_host.specs.Happened.{AreAmong, GoesOn, HasHappened, HaveHappened}
-use Rattle.gb_host.specs.Pasts.{BookName, no_book, book_at, books_of, past_at, seen_at, AreOfBooks, AreUnseen}
+use Rattle.gb_host.specs.Happened.{AreAmong, ArePasts, GoesOn, HasHappened, HaveHappened}
+use Rattle.gb_host.specs.Pasts.{BookName, no_book, book_at, books_of, past_at, seen_at, AreOfBooks}
 use Rattle.gb_host.proofs.CallLemmas.{at_hit, at_miss, calls_at_append}
 use Rattle.gb_host.specs.Fits.{HostedFits, SeatFits}
 use Rattle.gb_host.specs.HostedValue.{HostedValue}
@@ -44,14 +44,6 @@ none_kept false = refl
 kept_more : {X : Type 0} (b : Bool) (all some : List X) (x : X) → some ≡ cond b all [] → some ++ cond b (x ∷ []) [] ≡ cond b (all ++ x ∷ []) []
 kept_more true all some x h = ap (λ xs. xs ++ x ∷ []) h
 kept_more false all some x h = ap (λ xs. xs ++ []) h
-
-pub hosted_fits_new : (p : HostPlan) (books : List BookName) (h : HostedValue) → h.node ≡ new_node (plan_of p h.me) → h.past ≡ [] → h.tape ≡ [] → h.book ≡ book_at books h.me.number → IsPlan p → h.me.number < p.cluster.nodes → HostedFits p books h
-hosted_fits_new p books h node past tape book right member = record {
-  member = member;
-  comes = subst (λ es. ComesTo (plan_of p h.me) (past_of es) h.node) (sym past) (comes_new (plan_of p h.me) h.node (node_plan_right p h.me right member) node);
-  kept = tape ∙ (none_kept (is_kept p) ∙ ap (λ es. cond (is_kept p) es []) (sym past));
-  booked = book;
-}
 
 pub hosted_fits_more : (p : HostPlan) (books : List BookName) (old new : HostedValue) (e : TapeEntry) → HostedFits p books old → new.me ≡ old.me → IsTurn old.node e.event e.answer new.node → IsSpelt old.node e.event e.answer
     → new.past ≡ old.past ++ e ∷ [] → new.tape ≡ old.tape ++ cond (is_kept p) (e ∷ []) [] → new.book ≡ old.book → HostedFits p books new
@@ -126,27 +118,21 @@ any_default (x ∷ xs) (suc k) d e h = any_default xs k d e (omega arith)
 seen_other : (seen : List (Known TapeEntry)) (i k : ℕ) (x d : Known TapeEntry) → k ≢ i → get_or (set seen i x) k d ≡ get_or seen k d
 seen_other seen i k x d ne = get_or-set_other seen i k x d ne
 
-pub seat_fits_new : (p : HostPlan) (books : List BookName) (s : SeatValue) → s.counts ≡ replicate NODES 0 → s.calls ≡ [] → s.list ≡ [] → length s.seen ≡ p.cluster.nodes → AreUnseen s.seen → AreOfBooks books s.seen → IsPlan p → SeatFits p books s
-seat_fits_new p books s counts calls list seen unseen booked right = record {
+pub seat_fits_new : (p : HostPlan) (books : List BookName) (s : SeatValue) → s.counts ≡ replicate NODES 0 → s.calls ≡ [] → s.list ≡ [] → length s.seen ≡ p.cluster.nodes → ArePasts p s.seen → AreOfBooks books s.seen → SeatFits p books s
+seat_fits_new p books s counts calls list seen pasts booked = record {
   counts = λ k under. ap (λ (xs : List ℕ). get_or xs k 0) counts ∙ (get_or-replicate NODES k 0 0 under ∙ ap (λ (xs : List NodeStep). length (calls_at k xs)) (sym calls));
   one_each = ap length counts;
   kept = list ∙ (none_kept p.tape ∙ ap (λ es. cond p.tape es []) (sym calls));
   seen = seen;
   booked = booked;
-  happened = λ b member. record {
-    state = new_node (plan_of p b);
-    comes = subst (λ es. ComesTo (plan_of p b) (past_of es) (new_node (plan_of p b))) (sym (unseen b.number)) (comes_new (plan_of p b) (new_node (plan_of p b)) (node_plan_right p b right member) refl);
+  happened = λ b member. let past = pasts b member in record {
+    state = past.0;
+    comes = past.1;
     among = subst (λ (xs : List NodeStep). AreAmong (calls_at b.number xs) (past_at s.seen b.number)) (sym calls) tt;
   };
 }
 
 -- One more that is seen.
-
-pub unseen_more : (seen : List (Known TapeEntry)) (x : Known TapeEntry) → AreUnseen seen → x.log ≡ [] → AreUnseen (seen ++ x ∷ [])
-unseen_more [] x h none zero = none
-unseen_more [] x h none (suc k) = refl
-unseen_more (s ∷ ss) x h none zero = h zero
-unseen_more (s ∷ ss) x h none (suc k) = unseen_more ss x (λ j. h (suc j)) none k
 
 pub books_push : (books : List BookName) (seen : List (Known TapeEntry)) (x : Known TapeEntry) → AreOfBooks books seen → x.book ≡ book_at books (length seen) → AreOfBooks books (seen ++ x ∷ [])
 books_push books seen x h e k under =

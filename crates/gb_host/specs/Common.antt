@@ -1,4 +1,5 @@
 -- The names that files of crates above cite, passed on from one place. Declares nothing.
+pub use Rattle.gb_host.specs.Begun.{AreBegun, BegunValue, IsAgain, books_begun, pasts_begun}
 pub use Rattle.gb_host.specs.Closing.{AreFresh, AreReplays, AreSame, IsOther, list_of, seat_entries, tape_entries}
 pub use Rattle.gb_host.specs.HostValue.{AreHere, AreOpened, IsOpened, IsRefused}
 pub use Rattle.gb_host.specs.Nothing.{GaveNothing}

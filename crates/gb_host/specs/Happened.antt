@@ -3,6 +3,7 @@ use Rattle.std.specs.Prelude.{ℕ, ◌≡◌, ◌≢◌, ◌⊎◌, ◌<◌, Lis
 use Rattle.gb_types.specs.declared.node.NodeId.{NodeId}
 use Rattle.gb_node.specs.Common.{IsTurn, IsSpelt, NodeValue, ComesTo}
 use Rattle.gb_node.specs.declared.{answer.NodeAnswer.NodeAnswer, event.NodeEvent.NodeEvent, tape.TapeEntry.TapeEntry}
+use Rattle.gb_past.specs.Story.{Known}
 use Rattle.gb_host.specs.Calls.{Call, calls_at}
 use Rattle.gb_host.specs.Pasts.{past_at}
 use Rattle.gb_host.specs.Plans.{plan_of}
@@ -41,3 +42,11 @@ pub record HasHappened (p : HostPlan) (s : SeatValue) (b : NodeId) : Type 0 wher
 -- each call of the seat has happened, at each node
 abbrev pub HaveHappened : HostPlan → SeatValue → Type 0
 HaveHappened p s = (b : NodeId) → b.number < p.cluster.nodes → HasHappened p s b
+
+-- by each of these pasts a node with a number below n comes to some state
+abbrev pub ArePastsTo : HostPlan → ℕ → List (Known TapeEntry) → Type 0
+ArePastsTo p n seen = (b : NodeId) → b.number < n → (state : NodeValue) × ComesTo (plan_of p b) (past_of (past_at seen b.number)) state
+
+-- by each of these pasts a node of the plan comes to some state
+abbrev pub ArePasts : HostPlan → List (Known TapeEntry) → Type 0
+ArePasts p seen = ArePastsTo p p.cluster.nodes seen

@@ -14,7 +14,7 @@ module _ {L : Type 0} where
   abbrev pub kept_entries : Kept L → List TapeEntry
   kept_entries Nothing = []
   kept_entries (Memory tape) = tape.items
-  kept_entries (Ring out) = out.entries
+  kept_entries (Ring out) = out.before ++ out.entries
 
   -- the entries that memory holds
   abbrev pub tape_in : Kept L → List TapeEntry
@@ -61,5 +61,5 @@ module _ {L : Type 0} where
 
   -- what goes into a ring is what happened next, as the past has it
   abbrev pub IsNoted : HostPlan → List BookName → Kept L → ℕ → ℕ → NodeEvent → Copies → Known TapeEntry → Type 0
-  IsNoted p books (Ring out) seat count event (ForRing a) past = IsPast p books out.node (out.entries ++ record { seat = seat; count = count; event = event; answer = a } ∷ []) past
+  IsNoted p books (Ring out) seat count event (ForRing a) past = IsPast p books out.node ((out.before ++ out.entries) ++ record { seat = seat; count = count; event = event; answer = a } ∷ []) past
   IsNoted p books kept seat count event copies past = Unit {0}

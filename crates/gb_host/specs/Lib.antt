@@ -17,3 +17,4 @@ pub mod Rings
 pub mod RingValues
 pub mod KeptPast
 pub mod Common
+pub mod Begun

@@ -6,6 +6,8 @@ use Rattle.gb_host.specs.declared.{recorder.Taken.Taken, recorder.Taken.TheVaria
 
 pub record OutletValue : Type 0 where
   pub node : NodeId
+  -- what had happened at the node before, the oldest first
+  pub before : List TapeEntry
   -- all that went in, the oldest first
   pub entries : List TapeEntry
   -- at least this number of further values have room
@@ -13,6 +15,8 @@ pub record OutletValue : Type 0 where
 
 pub record RecorderValue : Type 0 where
   pub node : NodeId
+  -- what had happened at the node before, the oldest first
+  pub before : List TapeEntry
   -- all that was taken, the oldest first
   pub entries : List TapeEntry
   -- nothing more comes after the entries
@@ -20,5 +24,5 @@ pub record RecorderValue : Type 0 where
 
 -- what a recorder has after it took this
 abbrev pub IsTaken : Taken → RecorderValue → RecorderValue → Type 0
-IsTaken (Entry e) old new = (old.is_whole ≡ false) × (new.is_whole ≡ false) × (new.entries ≡ old.entries ++ e ∷ [])
-IsTaken End old new = (old.is_whole ≡ false) × (new.is_whole ≡ true) × (new.entries ≡ old.entries)
+IsTaken (Entry e) old new = (new.before ≡ old.before) × (old.is_whole ≡ false) × (new.is_whole ≡ false) × (new.entries ≡ old.entries ++ e ∷ [])
+IsTaken End old new = (new.before ≡ old.before) × (old.is_whole ≡ false) × (new.is_whole ≡ true) × (new.entries ≡ old.entries)

@@ -1,14 +1,16 @@
 //! The host.
-ghost use Rattle.std.specs.Prelude.{◌≡◌, ◌+◌, ◌<◌, ◌≤◌, ◌++◌, ◌∷◌, [], true, false, None, IfNone, IfSome, IfOk, IfErr, OnOk, OnErr, length, vec_len};
+ghost use Rattle.std.specs.Prelude.{◌≡◌, ◌+◌, ◌^◌, ◌<◌, ◌≤◌, ◌++◌, ◌∷◌, [], true, false, None, IfNone, IfSome, IfOk, IfErr, OnOk, OnErr, length, vec_len};
 ghost use Rattle.std.specs.FinSet as set;
 ghost use Rattle.gb_types.specs.declared.limits.TheConstants.{NODES};
-ghost use Rattle.gb_host.specs.Happened.{GoesOn};
+ghost use Rattle.gb_host.specs.Happened.{ArePastsTo, GoesOn};
 ghost use Rattle.gb_host.specs.HostValue.{AreHere, AreNew, AreOpened, IsOpened, IsRefused};
 ghost use Rattle.gb_host.specs.Listed.{IsListed};
 ghost use Rattle.gb_host.specs.Nothing.{gives_nothing, GaveNothing};
-ghost use Rattle.gb_host.specs.Pasts.{AreBlank, AreOfBooks, AreUnseen, book_at, books_of};
+ghost use Rattle.gb_host.specs.Begun.{AreBegun, pasts_begun};
+ghost use Rattle.gb_host.specs.Pasts.{AreBlank, book_at, books_of};
 ghost use Rattle.gb_host.specs.Plans.{IsPlan};
 
+use crate::begun::Begun;
 use crate::fault::HostFault;
 use crate::gate::{Gate, Open};
 use crate::hosted::Hosted;
@@ -69,15 +71,45 @@ impl<L: Tapes> Host<L> {
         requires pasts { (vec_len pasts ≡ plan.cluster.nodes) × AreBlank pasts.items }
         requires books { books_of pasts.items ≡ L.books }
         ensures host { IfOk result (λ r. (r.0.plan ≡ plan) × (r.0.here ≡ here) × (r.0.seats ≡ seats)) }
-        ensures seats { IfOk result (λ r. (vec_len r.1 ≡ seats) × AreNew seats r.1.items) }
-        ensures recorders { IfOk result (λ r. (vec_len r.2 ≡ plan.cluster.nodes) × AreOpened plan here plan.cluster.nodes r.2.items) }
+        ensures seats { IfOk result (λ r. (vec_len r.1 ≡ seats) × AreNew 0 seats pasts.items r.1.items) }
+        ensures recorders { IfOk result (λ r. (vec_len r.2 ≡ plan.cluster.nodes) × AreOpened plan here plan.cluster.nodes pasts.items r.2.items) }
         ensures fault { IfErr result (λ why. why ≡ HostFault.OutOfMemory) }
     {
-        let given = match open_seats(alloc, seats, &pasts) {
+        let begun = match begin_all(alloc, plan, pasts) {
+            Ok(begun) => begun,
+            Err(fault) => return Err(fault),
+        };
+        Host::open_begun(alloc, plan, here, 0, seats, begun)
+    }
+
+    /// Opens a host of the nodes `here` of the plan, as `open` does, with nodes that have a past: `begun` has all nodes of the plan, by
+    /// number. The seats are numbered from `first` on; they have seen what happened, and made no call. Memory cannot hold the tapes of
+    /// nodes that have a past.
+    pub fn open_begun(
+        alloc: Global,
+        plan: HostPlan,
+        here: NodeSet,
+        first: u32,
+        seats: u32,
+        begun: Vec<Begun>,
+    ) -> Result<(Host<L>, Vec<Seat<L>>, Vec<Option<Recorder<L>>>), HostFault>
+        requires plan { plan ≡ L.plan }
+        requires limits { IsPlan plan }
+        requires here { AreHere plan here }
+        requires begun { (vec_len begun ≡ plan.cluster.nodes) × AreBegun plan begun.items }
+        requires books { books_of (pasts_begun begun.items) ≡ L.books }
+        requires blank { plan.tape ≡ true → AreBlank (pasts_begun begun.items) }
+        requires numbers { first + seats < 2 ^ 32 }
+        ensures host { IfOk result (λ r. (r.0.plan ≡ plan) × (r.0.here ≡ here) × (r.0.seats ≡ seats)) }
+        ensures seats { IfOk result (λ r. (vec_len r.1 ≡ seats) × AreNew first seats (pasts_begun begun.items) r.1.items) }
+        ensures recorders { IfOk result (λ r. (vec_len r.2 ≡ plan.cluster.nodes) × AreOpened plan here plan.cluster.nodes (pasts_begun begun.items) r.2.items) }
+        ensures fault { IfErr result (λ why. why ≡ HostFault.OutOfMemory) }
+    {
+        let given = match open_seats(alloc, &plan, first, seats, &begun) {
             Ok(given) => given,
             Err(fault) => return Err(fault),
         };
-        let (nodes, recorders) = match open_nodes(alloc, plan, &here, pasts) {
+        let (nodes, recorders) = match open_nodes(alloc, plan, &here, begun) {
             Ok(opened) => opened,
             Err(fault) => return Err(fault),
         };
@@ -272,101 +304,121 @@ fn never<R: Wait>(rt: &R) -> ! {
     unreachable!()
 }
 
-// Returns a node with its past under its lock, and its recorder, if the node is here.
+// Returns the nodes of a plan at which nothing has happened, by number, with these pasts.
+fn begin_all(alloc: Global, plan: HostPlan, pasts: Vec<NodePast>) -> Result<Vec<Begun>, HostFault>
+    requires limits { IsPlan plan }
+    requires pasts { (vec_len pasts ≡ plan.cluster.nodes) × AreBlank pasts.items }
+    ensures begun { IfOk result (λ begun. (vec_len begun ≡ plan.cluster.nodes) × AreBegun plan begun.items) }
+    ensures pasts { IfOk result (λ begun. pasts_begun begun.items ≡ pasts.items) }
+    ensures fault { IfErr result (λ why. why ≡ HostFault.OutOfMemory) }
+{
+    let mut begun = Vec::with_capacity(alloc, usize::from(plan.cluster.nodes))?;
+    let mut number = 0u8;
+    for past in pasts {
+        begun.push_reserved(Begun::new(alloc, plan, NodeId::new(number), past));
+        number += 1;
+    }
+    Ok(begun)
+}
+
+// Returns a node under its lock, and its recorder, if the node is here.
 #[tactic(auto, using(crate::proofs::OpenLemmas::opened_here, crate::proofs::OpenLemmas::opened_away))]
 fn open_node<L: Tapes>(
     alloc: Global,
     plan: HostPlan,
     is_here: bool,
-    me: NodeId,
-    past: NodePast,
+    begun: Begun,
 ) -> Result<(Option<Mutex<Hosted<L>>>, Option<Recorder<L>>), HostFault>
-    requires plan { plan ≡ L.plan }
-    requires limits { IsPlan plan }
-    requires member { me.number < plan.cluster.nodes }
-    requires past { (past.log ≡ []) × (past.book ≡ book_at L.books me.number) }
-    ensures recorder { IfOk result (λ r. IsOpened plan is_here me.number r.1) }
+    requires plan { (plan ≡ L.plan) × (begun.plan ≡ plan) }
+    requires book { begun.past.book ≡ book_at L.books begun.me.number }
+    requires blank { plan.tape ≡ true → begun.past.log ≡ [] }
+    ensures recorder { IfOk result (λ r. IsOpened plan is_here begun.me.number begun.past.log r.1) }
     ensures fault { IfErr result (λ why. why ≡ HostFault.OutOfMemory) }
 {
     if !is_here {
-        drop(past);
+        drop(begun);
         return Ok((None, None));
     }
-    let (kept, recorder) = match kept_at::<L>(alloc, &plan, me, &past) {
+    begun.comes();
+    let (kept, recorder) = match kept_at::<L>(alloc, &plan, begun.me(), begun.past()) {
         Ok(opened) => opened,
         Err(fault) => {
-            drop(past);
+            drop(begun);
             return Err(fault);
         }
     };
-    let hosted = Hosted::new(alloc, plan, me, past, kept);
+    let hosted = Hosted::new(alloc, begun, kept);
     Ok((Some(Mutex::new(hosted)), recorder))
 }
 
 /// The nodes of a plan under their locks, and their recorders, each at the place of its number.
 type Opened<L> = (Vec<Option<Mutex<Hosted<L>>>>, Vec<Option<Recorder<L>>>);
 
-// Returns the nodes of a plan that are here, each with its past, and their recorders.
+// Returns the nodes of a plan that are here, and their recorders.
 fn open_nodes<L: Tapes>(
     alloc: Global,
     plan: HostPlan,
     here: &NodeSet,
-    pasts: Vec<NodePast>,
+    begun: Vec<Begun>,
 ) -> Result<Opened<L>, HostFault>
     requires plan { plan ≡ L.plan }
     requires limits { IsPlan plan }
-    requires pasts { (vec_len pasts ≡ plan.cluster.nodes) × AreBlank pasts.items }
-    requires books { books_of pasts.items ≡ L.books }
-    ensures recorders { IfOk result (λ r. (vec_len r.1 ≡ plan.cluster.nodes) × AreOpened plan here.now plan.cluster.nodes r.1.items) }
+    requires begun { (vec_len begun ≡ plan.cluster.nodes) × AreBegun plan begun.items }
+    requires books { books_of (pasts_begun begun.items) ≡ L.books }
+    requires blank { plan.tape ≡ true → AreBlank (pasts_begun begun.items) }
+    ensures recorders { IfOk result (λ r. (vec_len r.1 ≡ plan.cluster.nodes) × AreOpened plan here.now plan.cluster.nodes (pasts_begun begun.items) r.1.items) }
     ensures fault { IfErr result (λ why. why ≡ HostFault.OutOfMemory) }
 {
     let mut nodes = Vec::with_capacity(alloc, usize::from(plan.cluster.nodes))?;
     let mut recorders = Vec::with_capacity(alloc, usize::from(plan.cluster.nodes))?;
-    let mut number = 0u8;
-    for past in pasts {
-        let me = NodeId::new(number);
-        let (node, recorder) = match open_node::<L>(alloc, plan, here.contains(me), me, past) {
+    for one in begun {
+        let is_here = here.contains(one.me());
+        let (node, recorder) = match open_node::<L>(alloc, plan, is_here, one) {
             Ok(opened) => opened,
             Err(fault) => return Err(fault),
         };
         nodes.push_reserved(node);
         recorders.push_reserved(recorder);
-        number += 1;
     }
     Ok((nodes, recorders))
 }
 
-// Returns what is seen of pasts in which nothing has happened: nothing yet.
-fn seen_of(alloc: Global, pasts: &[NodePast]) -> Result<Vec<NodeSeen>, HostFault>
-    requires { AreBlank pasts.now }
-    ensures len { IfOk result (λ seen. vec_len seen ≡ length pasts.now) }
-    ensures unseen { IfOk result (λ seen. AreUnseen seen.items) }
-    ensures books { IfOk result (λ seen. AreOfBooks (books_of pasts.now) seen.items) }
+// Returns what is seen of the pasts of a plan's nodes: all that happened.
+fn seen_of(alloc: Global, plan: &HostPlan, begun: &[Begun]) -> Result<Vec<NodeSeen>, HostFault>
+    requires { AreBegun plan.now begun.now }
+    ensures len { IfOk result (λ seen. vec_len seen ≡ length begun.now) }
+    ensures seen { IfOk result (λ seen. seen.items ≡ pasts_begun begun.now) }
+    ensures pasts { IfOk result (λ seen. ArePastsTo plan.now (length begun.now) seen.items) }
     ensures fault { IfErr result (λ why. why ≡ HostFault.OutOfMemory) }
 {
-    let mut seen = Vec::with_capacity(alloc, pasts.len())?;
-    for past in pasts {
-        seen.push_reserved(past.seen());
+    let mut seen = Vec::with_capacity(alloc, begun.len())?;
+    for one in begun {
+        one.comes();
+        seen.push_reserved(one.past().seen());
     }
     Ok(seen)
 }
 
-// Returns `seats` seats that have seen nothing of these pasts.
+// Returns `seats` seats, numbered from `first` on, that have seen these pasts.
 fn open_seats<L: Tapes>(
     alloc: Global,
+    plan: &HostPlan,
+    first: u32,
     seats: u32,
-    pasts: &[NodePast],
+    begun: &[Begun],
 ) -> Result<Vec<Seat<L>>, HostFault>
-    requires limits { IsPlan L.plan }
-    requires pasts { (length pasts.now ≡ L.plan.cluster.nodes) × AreBlank pasts.now }
-    requires books { books_of pasts.now ≡ L.books }
-    ensures seats { IfOk result (λ given. (vec_len given ≡ seats) × AreNew seats given.items) }
+    requires plan { plan.now ≡ L.plan }
+    requires limits { IsPlan plan.now }
+    requires begun { (length begun.now ≡ plan.now.cluster.nodes) × AreBegun plan.now begun.now }
+    requires books { books_of (pasts_begun begun.now) ≡ L.books }
+    requires numbers { first + seats < 2 ^ 32 }
+    ensures seats { IfOk result (λ given. (vec_len given ≡ seats) × AreNew first seats (pasts_begun begun.now) given.items) }
     ensures fault { IfErr result (λ why. why ≡ HostFault.OutOfMemory) }
 {
     let mut given = Vec::with_capacity(alloc, seats as usize)?;
     for number in 0..seats {
-        let seen = seen_of(alloc, pasts)?;
-        given.push_reserved(Seat::new(alloc, number, seen));
+        let seen = seen_of(alloc, plan, begun)?;
+        given.push_reserved(Seat::new(alloc, first + number, seen));
     }
     Ok(given)
 }

@@ -1,15 +1,16 @@
 //! A node under its lock.
 ghost use Rattle.std.specs.Prelude.{◌≡◌, ◌&&◌, ◌+◌, ◌-◌, ◌<◌, ◌≤◌, ◌^◌, ◌++◌, ◌∷◌, [], List, true, false, length, vec_len, IfOk, IfErr, IfNone, IfSome, OnOk, OnErr, OnSome, IsSome, Option, cond, slice_index, slice_set, vec_capacity};
-ghost use Rattle.gb_node.specs.Common.{IsTurn, IsSpelt, new_node};
+ghost use Rattle.gb_node.specs.Common.{IsTurn, IsSpelt};
 ghost use Rattle.gb_host.specs.Happened.{GoesOn};
 ghost use Rattle.gb_host.specs.HostValue.{IsUnkept};
 ghost use Rattle.gb_host.specs.KeptPast.{kept_entries, IsKeptAt};
 ghost use Rattle.gb_host.specs.Listed.{IsListed};
 ghost use Rattle.gb_host.specs.Nothing.{is_nothing, gives_nothing, GaveNothing, GivesNothing};
 ghost use Rattle.gb_host.specs.Pasts.{book_at};
-ghost use Rattle.gb_host.specs.Plans.{plan_of, IsPlan};
+ghost use Rattle.gb_host.specs.Plans.{is_kept};
 ghost use Rattle.gb_host.specs.Replay.{IsReplay};
 
+use crate::begun::Begun;
 use crate::copies::answers;
 use crate::fault::HostFault;
 use crate::kept::{Kept, KeptCall, into_tape, keep, make_room};
@@ -20,7 +21,7 @@ use crate::plan::HostPlan;
 use crate::seat::Seat;
 use gb_cap::Token;
 use gb_node::past::pasts_say;
-use gb_node::{Node, NodeAnswer, NodeEvent, NodePlan, Sent, Tape};
+use gb_node::{Node, NodeAnswer, NodeEvent, Sent, Tape};
 use gb_table::Listing;
 use gb_types::{NodeId, Refusal};
 use std::alloc::Global;
@@ -56,35 +57,15 @@ impl<L: Tapes> Model for Hosted<L> {
 }
 
 impl<L: Tapes> Hosted<L> {
-    /// Returns a node at which nothing has happened.
-    pub fn new(
-        alloc: Global,
-        plan: HostPlan,
-        me: NodeId,
-        past: NodePast,
-        kept: Kept<L>,
-    ) -> Hosted<L>
-        requires plan { plan ≡ L.plan }
-        requires limits { IsPlan plan }
-        requires member { me.number < plan.cluster.nodes }
-        requires past { (past.log ≡ []) × (past.book ≡ book_at L.books me.number) }
-        requires kept { IsKeptAt plan me kept × (kept_entries kept ≡ []) }
-        ensures { (result.me ≡ me) × (result.node ≡ new_node (plan_of L.plan me)) × (result.past ≡ []) }
+    /// Returns a node that was begun, with how its past is kept. Memory holds no tape of a node that has a past.
+    #[tactic(auto, using(crate::proofs::BegunLemmas::hosted_begun))]
+    pub fn new(alloc: Global, begun: Begun, kept: Kept<L>) -> Hosted<L>
+        requires plan { begun.plan ≡ L.plan }
+        requires book { begun.past.book ≡ book_at L.books begun.me.number }
+        requires kept { IsKeptAt begun.plan begun.me kept × (kept_entries kept ≡ cond (is_kept begun.plan) begun.past.log []) }
+        ensures { (result.me ≡ begun.me) × (result.node ≡ begun.node) × (result.past ≡ begun.past.log) }
     {
-        let cluster_key = plan.cluster.cluster_key;
-        let admin_key = plan.cluster.admin_key;
-        let node_plan = NodePlan {
-            me,
-            nodes: plan.cluster.nodes,
-            version: plan.cluster.bounds().version_of(me),
-            silence: plan.cluster.silence,
-            places: plan.cluster.places,
-            room: plan.cluster.room,
-            cluster_key,
-            admin_key,
-            tape: plan.tape,
-        };
-        let node = Node::start(alloc, &node_plan);
+        let (plan, me, node, past) = begun.into_parts();
         Hosted {
             alloc,
             plan,

@@ -1,8 +1,9 @@
 //! How the past of a node is kept.
-ghost use Rattle.std.specs.Prelude.{◌≡◌, ◌++◌, ◌∷◌, [], IfOk, IfErr, OnOk};
+ghost use Rattle.std.specs.Prelude.{◌≡◌, ◌++◌, ◌∷◌, [], true, cond, IfOk, IfErr, OnOk};
 ghost use Rattle.gb_host.specs.Copied.{list_copy, tape_copy};
 ghost use Rattle.gb_host.specs.HostValue.{IsOpenedAt};
 ghost use Rattle.gb_host.specs.KeptPast.{kept_entries, tape_in, way_of, AreFor, HasRoom, IsKeptAt, IsNoted, IsRoomless, IsSameWay};
+ghost use Rattle.gb_host.specs.Plans.{is_kept};
 ghost use Rattle.gb_host.specs.Rings.{IsPast};
 
 use crate::copies::{Copies, MemoryCopies, Way};
@@ -53,7 +54,8 @@ pub(crate) fn into_tape<L: Tapes>(alloc: Global, kept: Kept<L>) -> Vec<TapeEntry
     }
 }
 
-/// Returns how the past is kept of a node at which nothing has happened, with the node's recorder if it goes through a ring.
+/// Returns how the past is kept of a node, with the node's recorder if it goes through a ring. If memory holds it, nothing has happened
+/// at the node.
 #[tactic(auto, using(crate::proofs::OpenLemmas::ringed_taped, crate::proofs::OpenLemmas::ringed_off, crate::proofs::OpenLemmas::ringed_on, crate::proofs::OpenLemmas::kept_off))]
 pub fn kept_at<L: Tapes>(
     alloc: Global,
@@ -62,9 +64,10 @@ pub fn kept_at<L: Tapes>(
     past: &NodePast,
 ) -> Result<(Kept<L>, Option<Recorder<L>>), HostFault>
     requires plan { plan.now ≡ L.plan }
-    requires past { IsPast L.plan L.books node [] past.now }
-    ensures kept { IfOk result (λ r. IsKeptAt plan.now node r.0 × (kept_entries r.0 ≡ [])) }
-    ensures recorder { IfOk result (λ r. IsOpenedAt plan.now node.number r.1) }
+    requires past { IsPast L.plan L.books node past.now.log past.now }
+    requires blank { plan.now.tape ≡ true → past.now.log ≡ [] }
+    ensures kept { IfOk result (λ r. IsKeptAt plan.now node r.0 × (kept_entries r.0 ≡ cond (is_kept plan.now) past.now.log [])) }
+    ensures recorder { IfOk result (λ r. IsOpenedAt plan.now node.number past.now.log r.1) }
     ensures fault { IfErr result (λ why. why ≡ HostFault.OutOfMemory) }
 {
     if plan.tape {

@@ -3,6 +3,7 @@
 //! `hosted::Hosted::step` first, then `host::Host` and `close::close`.
 #![tactic(auto)]
 
+pub mod begun;
 pub mod call_list;
 pub mod close;
 pub mod closed;
@@ -23,6 +24,7 @@ pub mod plan;
 pub mod recorder;
 pub mod seat;
 
+pub use begun::Begun;
 pub use closed::Closed;
 pub use fault::HostFault;
 pub use gate::{Gate, Open};

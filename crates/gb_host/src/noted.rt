@@ -9,8 +9,8 @@ use std::marker::PhantomData;
 /// What goes through the ring from a node to its recorder.
 #[derive(Drop)]
 pub enum Noted {
-    /// The first value of the ring: which node it is of.
-    Begin(NodeId),
+    /// The first value of the ring: which node it is of, and a witness of the past that the node had before.
+    Begin(NodeId, NodeSeen),
     /// What happened next at the node, and a witness of the node's past with this entry.
     Entry(TapeEntry, NodeSeen),
     /// Nothing more happens at the node. The value hands over its past, to which no entry is added any more.

@@ -37,10 +37,10 @@ impl<L: Tapes> Model for Outlet<L> {
 
     ghost coded = { Prim.hlevel (codes, set.code {R = nat_cmp} coded_ℕ) };
 
-    ghost use Rattle.gb_host.specs.Rings.{HasBegun, entries_of};
+    ghost use Rattle.gb_host.specs.Rings.{HasBegun, before_of, entries_of};
     ghost use Rattle.rtrb.specs.Ring.{sent, known_free};
 
-    ghost view = { λ o. record { node = o.node; entries = entries_of (sent o.out); free = known_free o.out } };
+    ghost view = { λ o. record { node = o.node; before = before_of (sent o.out); entries = entries_of (sent o.out); free = known_free o.out } };
 
     ghost invariant = { λ o. HasBegun o.node (sent o.out) };
 }
@@ -48,7 +48,7 @@ impl<L: Tapes> Model for Outlet<L> {
 impl<L: Tapes> Outlet<L> {
     /// Returns true if there is room for one more entry.
     pub fn has_room(&mut self) -> bool
-        ensures same { (self.new.node ≡ self.old.node) × (self.new.entries ≡ self.old.entries) }
+        ensures same { (self.new.node ≡ self.old.node) × (self.new.before ≡ self.old.before) × (self.new.entries ≡ self.old.entries) }
         ensures room { result ≡ true → 0 < self.new.free }
     {
         !self.out.is_full()
@@ -58,8 +58,9 @@ impl<L: Tapes> Outlet<L> {
     #[tactic(auto, using(crate::proofs::RingLemmas::follows_entry, crate::proofs::RingLemmas::begun_more, crate::proofs::RingLemmas::entries_more))]
     pub fn push(&mut self, entry: TapeEntry, past: &NodePast)
         requires room { 0 < self.old.free }
-        requires is { IsPast L.plan L.books self.old.node (self.old.entries ++ entry ∷ []) past.now }
+        requires is { IsPast L.plan L.books self.old.node ((self.old.before ++ self.old.entries) ++ entry ∷ []) past.now }
         ensures node { self.new.node ≡ self.old.node }
+        ensures before { self.new.before ≡ self.old.before }
         ensures entries { self.new.entries ≡ self.old.entries ++ entry ∷ [] }
     {
         let seen = past.seen();
@@ -68,14 +69,14 @@ impl<L: Tapes> Outlet<L> {
 
     // Returns true if the recorder is gone.
     fn is_gone(&mut self) -> bool
-        ensures { (self.new.node ≡ self.old.node) × (self.new.entries ≡ self.old.entries) }
+        ensures { (self.new.node ≡ self.old.node) × (self.new.before ≡ self.old.before) × (self.new.entries ≡ self.old.entries) }
     {
         self.out.is_abandoned()
     }
 
     // Waits until there is room. Returns false if the recorder is gone.
     fn wait_for_room<R: Wait>(&mut self, rt: &R) -> bool
-        ensures same { (self.new.node ≡ self.old.node) × (self.new.entries ≡ self.old.entries) }
+        ensures same { (self.new.node ≡ self.old.node) × (self.new.before ≡ self.old.before) × (self.new.entries ≡ self.old.entries) }
         ensures room { result ≡ true → 0 < self.new.free }
     {
         for _ in rt.forever() {
@@ -93,7 +94,7 @@ impl<L: Tapes> Outlet<L> {
     /// Hands the node's past to the recorder, once there is room for it. Hands over nothing if the recorder is gone.
     #[tactic(auto, using(crate::proofs::RingLemmas::follows_end))]
     pub fn end<R: Wait>(self, rt: &R, past: NodePast)
-        requires { IsPast L.plan L.books self.node self.entries past }
+        requires { IsPast L.plan L.books self.node (self.before ++ self.entries) past }
     {
         let mut outlet = self;
         if outlet.wait_for_room(rt) {
@@ -103,20 +104,20 @@ impl<L: Tapes> Outlet<L> {
     }
 }
 
-/// Returns the two ends of a ring from a node to its recorder. `past` is the node's past, in which nothing has happened.
+/// Returns the two ends of a ring from a node to its recorder. `past` is the node's past.
 #[tactic(auto, using(crate::proofs::RingLemmas::begun_new))]
 pub fn ring_of<L: Tapes>(
     alloc: Global,
     node: NodeId,
     past: &NodePast,
 ) -> Result<(Outlet<L>, Recorder<L>), HostFault>
-    requires { IsPast L.plan L.books node [] past.now }
-    ensures outlet { IfOk result (λ r. (r.0.node ≡ node) × (r.0.entries ≡ [])) }
-    ensures recorder { IfOk result (λ r. (r.1.node ≡ node) × (r.1.entries ≡ []) × (r.1.is_whole ≡ false)) }
+    requires { IsPast L.plan L.books node past.now.log past.now }
+    ensures outlet { IfOk result (λ r. (r.0.node ≡ node) × (r.0.before ≡ past.now.log) × (r.0.entries ≡ [])) }
+    ensures recorder { IfOk result (λ r. (r.1.node ≡ node) × (r.1.before ≡ past.now.log) × (r.1.entries ≡ []) × (r.1.is_whole ≡ false)) }
     ensures fault { IfErr result (λ why. why ≡ HostFault.OutOfMemory) }
 {
     let (mut out, mut inlet) = RingBuffer::with_protocol::<Global, InOrder<L>>(alloc, WAITING)?;
-    out.push_reserved(Noted::Begin(node));
+    out.push_reserved(Noted::Begin(node, past.seen()));
     inlet.slots_beside(&mut out);
     let _begin = inlet.pop_known();
     Ok((

@@ -1,5 +1,5 @@
 //! The end of a node's ring from which its recorder takes what happened.
-ghost use Rattle.std.specs.Prelude.{◌≡◌, [], ◌∷◌, false, true, IfSome, IsSome, None};
+ghost use Rattle.std.specs.Prelude.{◌≡◌, [], ◌∷◌, ◌++◌, false, true, IfSome, IsSome, None};
 ghost use Rattle.rtrb.specs.Ring.{received};
 ghost use Rattle.gb_host.specs.Rings.{IsPast};
 ghost use Rattle.gb_host.specs.RingValues.{IsTaken};
@@ -23,8 +23,8 @@ pub enum Taken {
     End,
 }
 
-/// Takes what happened at a node, in order. Contracts see the node and all entries that were taken: at any moment a beginning of
-/// the node's past, and after the end the whole of it. A recorder that is dropped takes no more; once its ring is full, the node
+/// Takes what happened at a node, in order. Contracts see the node, what had happened there before, and all entries that were taken:
+/// together at any moment a beginning of the node's past, and after the end the whole of it. A recorder that is dropped takes no more; once its ring is full, the node
 /// refuses each call.
 #[derive(Drop)]
 pub struct Recorder<L: Tapes> {
@@ -43,25 +43,25 @@ impl<L: Tapes> Model for Recorder<L> {
 
     ghost coded = { Prim.hlevel (codes, set.code {R = nat_cmp} coded_ℕ) };
 
-    ghost use Rattle.gb_host.specs.Rings.{HasTaken, entries_of, is_handed};
+    ghost use Rattle.gb_host.specs.Rings.{HasTaken, before_of, entries_of, is_handed};
     ghost use Rattle.rtrb.specs.Ring.{received};
 
-    ghost view = { λ r. record { node = r.node; entries = entries_of (received r.inlet); is_whole = is_handed r.past } };
+    ghost view = { λ r. record { node = r.node; before = before_of (received r.inlet); entries = entries_of (received r.inlet); is_whole = is_handed r.past } };
 
     ghost invariant = { λ r. HasTaken L.plan L.books r.node (received r.inlet) r.seen r.past };
 }
 
 impl<L: Tapes> Recorder<L> {
-    // Returns a recorder that has taken nothing yet. `seen` is what is seen of the node's past, in which nothing has happened.
+    // Returns a recorder that has taken nothing yet. `seen` is what is seen of the node's past.
     #[tactic(auto, using(crate::proofs::RingLemmas::taken_new))]
     pub(crate) fn new(
         node: NodeId,
         seen: NodeSeen,
         inlet: Consumer<Noted, Global, InOrder<L>>,
     ) -> Recorder<L>
-        requires seen { IsPast L.plan L.books node [] seen }
-        requires begun { received inlet ≡ Begin node ∷ [] }
-        ensures { (result.node ≡ node) × (result.entries ≡ []) × (result.is_whole ≡ false) }
+        requires seen { IsPast L.plan L.books node seen.log seen }
+        requires begun { received inlet ≡ Begin node seen ∷ [] }
+        ensures { (result.node ≡ node) × (result.before ≡ seen.log) × (result.entries ≡ []) × (result.is_whole ≡ false) }
     {
         Recorder {
             node,
@@ -97,7 +97,7 @@ impl<L: Tapes> Recorder<L> {
                 self.past = Some(past);
                 Some(Taken::End)
             }
-            Ok(Noted::Begin(_)) => unreachable!(),
+            Ok(Noted::Begin(_, _)) => unreachable!(),
             Err(_) => None,
         }
     }
@@ -105,7 +105,7 @@ impl<L: Tapes> Recorder<L> {
     /// Returns a witness of the node's past that knows exactly the entries that were taken. So these are a beginning of the
     /// node's past.
     pub fn seen(&self) -> NodeSeen
-        ensures { IsPast L.plan L.books self.now.node self.now.entries result }
+        ensures { IsPast L.plan L.books self.now.node (self.now.before ++ self.now.entries) result }
     {
         self.seen.again()
     }
@@ -113,7 +113,7 @@ impl<L: Tapes> Recorder<L> {
     /// Gives up the recorder and returns the node's past if it has ended, otherwise `None`. The entries that were taken are then
     /// the whole past, and nobody else can add to it.
     pub fn into_past(self) -> Option<NodePast>
-        ensures whole { IfSome result (IsPast L.plan L.books self.node self.entries) }
+        ensures whole { IfSome result (IsPast L.plan L.books self.node (self.before ++ self.entries)) }
         ensures some { self.is_whole ≡ true → IsSome result }
     {
         let Recorder {

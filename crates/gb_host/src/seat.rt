@@ -1,7 +1,7 @@
 //! Callers.
 ghost use Rattle.std.specs.Prelude.{◌≡◌, ◌<◌, [], vec_len};
-ghost use Rattle.gb_host.specs.Happened.{HaveHappened};
-ghost use Rattle.gb_host.specs.Pasts.{AreUnseen, AreOfBooks};
+ghost use Rattle.gb_host.specs.Happened.{ArePasts, HaveHappened};
+ghost use Rattle.gb_host.specs.Pasts.{AreOfBooks};
 ghost use Rattle.gb_host.specs.Plans.{IsPlan};
 
 use crate::call_list::CallList;
@@ -42,10 +42,10 @@ impl<L: Tapes> Model for Seat<L> {
 }
 
 impl<L: Tapes> Seat<L> {
-    // Returns a seat that made no call and has seen nothing of any node's past.
+    // Returns a seat that made no call and has seen pasts by which the nodes come to states.
     pub(crate) fn new(alloc: Global, number: u32, seen: Vec<NodeSeen>) -> Seat<L>
         requires limits { IsPlan L.plan }
-        requires seen { (vec_len seen ≡ L.plan.cluster.nodes) × AreUnseen seen.items × AreOfBooks L.books seen.items }
+        requires seen { (vec_len seen ≡ L.plan.cluster.nodes) × ArePasts L.plan seen.items × AreOfBooks L.books seen.items }
         ensures { (result.number ≡ number) × (result.calls ≡ []) × (result.list ≡ []) × (result.seen ≡ seen.items) }
     {
         Seat {

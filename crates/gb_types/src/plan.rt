@@ -15,10 +15,10 @@ pub struct Plan {
     pub versions: [Version; NODES],
     /// After how many ticks without a good packet a node is noticed: 2 to 1,000.
     pub silence: u16,
-    /// How many groups the tenants of a node may make in all: 4,096 at most.
+    /// How many rooms the tenants of a node may reserve in all: 1,024 at most.
     pub places: u16,
-    /// The most bytes of the items of a packet; no more than a packet of the sender's version has room for. An item that is longer than
-    /// this is sent all the same.
+    /// The most bytes of the items of a packet; no more than a packet of the sender's version has room for. Where the first item that
+    /// waits is longer than this, the packet may hold as many bytes of items as the longest message takes.
     pub room: u16,
     /// The key of the packets between the nodes.
     pub cluster_key: [u8; 32],
