@@ -15,19 +15,19 @@ use Rattle.gb_duties.proofs.ExampleLemmas.{in_0, in_1, in_2, most_of, majority_o
 
 -- Node 0 stops, and the others notice that.
 
-abbrev zero_stopped : Kind → Member
+abbrev pub zero_stopped : Kind → Member
 zero_stopped kind = record (carries 1 (zero_said kind)) { stopped = true }
 
-abbrev loss_stopped : Kind → Group
+abbrev pub loss_stopped : Kind → Group
 loss_stopped kind = with_at (group_one kind) 0 (zero_stopped kind)
 
-abbrev loss_one_noticed : Kind → Group
+abbrev pub loss_one_noticed : Kind → Group
 loss_one_noticed kind = with_at (loss_stopped kind) 1 (notices 1 first (one_took kind))
 
-abbrev group_lost : Kind → Group
+abbrev pub group_lost : Kind → Group
 group_lost kind = with_at (loss_one_noticed kind) 2 (notices 2 first (ready kind))
 
-lead_loss : (kind : Kind) → Leads (group_open kind) loss (group_lost kind)
+pub lead_loss : (kind : Kind) → Leads (group_open kind) loss (group_lost kind)
 lead_loss kind =
     join (group_open kind) (group_one kind) (group_lost kind) to_one (at first Stop ∷ at second (Notice first) ∷ at third (Notice first) ∷ []) (lead_one kind)
     (and_then (group_one kind) (at first Stop) (zero_stopped kind) (at second (Notice first) ∷ at third (Notice first) ∷ []) (group_lost kind) tt refl
@@ -36,16 +36,16 @@ lead_loss kind =
 
 -- With a kind that relays both relay the message.
 
-abbrev one_relayed : Kind → Member
+abbrev pub one_relayed : Kind → Member
 one_relayed kind = carries 2 (notices 1 first (one_took kind))
 
-abbrev crash_one_relayed : Kind → Group
+abbrev pub crash_one_relayed : Kind → Group
 crash_one_relayed kind = with_at (group_lost kind) 1 (one_relayed kind)
 
-abbrev two_relayed : Kind → Member
+abbrev pub two_relayed : Kind → Member
 two_relayed kind = has_come 1 (called 2 (Other second message) (notices 2 first (ready kind)))
 
-abbrev crash_two_took : Kind → Group
+abbrev pub crash_two_took : Kind → Group
 crash_two_took kind = with_at (crash_one_relayed kind) 2 (two_relayed kind)
 
 abbrev crash_two_relayed : Kind → Group
@@ -58,12 +58,12 @@ abbrev group_crashed : Kind → Group
 group_crashed kind = with_at (crash_two_relayed kind) 1 (one_heard kind)
 
 -- both have put the message out to the other
-record BothRelay (kind : Kind) : Type 0 where
+pub record BothRelay (kind : Kind) : Type 0 where
   pub one : (one_relayed kind).put 2 ≡ message ∷ []
   pub two : (two_relayed kind).put 1 ≡ message ∷ []
   pub later : (one_heard kind).put 2 ≡ message ∷ []
 
-lazy_relays : BothRelay (fifo Lazy)
+pub lazy_relays : BothRelay (fifo Lazy)
 unfolding calls_of known
 lazy_relays = record { one = simp in_2 refl; two = simp in_1 refl; later = simp in_2 refl }
 
@@ -105,13 +105,13 @@ nothing : (g : Group) (s : ℕ) → accepted_from bounds address g [] s ≡ []
 unfolding accepted_from
 nothing g s = refl
 
-silent : (kind : Kind) (s : ℕ) → accepted bounds address (opened kind) s ≡ []
+pub silent : (kind : Kind) (s : ℕ) → accepted bounds address (opened kind) s ≡ []
 silent kind s =
     unaccepted _ _ s _ (λ r. refl) (unaccepted _ _ s _ (λ r. refl) (unaccepted _ _ s _ (λ r. refl)
     (unaccepted _ _ s _ (λ r. refl) (unaccepted _ _ s _ (λ r. refl) (unaccepted _ _ s _ (λ r. refl)
     (unaccepted _ _ s _ (λ r. refl) (unaccepted _ _ s _ (λ r. refl) (unaccepted _ _ s _ (λ r. refl) (nothing _ s)))))))))
 
-made : (kind : Kind) (a : ℕ) → set.contains members a ≡ true → (alone bounds address (opened kind) a).spec ≡ Some (spec_of kind)
+pub made : (kind : Kind) (a : ℕ) → set.contains members a ≡ true → (alone bounds address (opened kind) a).spec ≡ Some (spec_of kind)
 made kind a inside = ap (λ (g : Group). (g a).spec) (all_open kind) ∙ by (member a inside)
   where
     by : One a → (group_open kind a).spec ≡ Some (spec_of kind)
@@ -120,13 +120,13 @@ made kind a inside = ap (λ (g : Group). (g a).spec) (all_open kind) ∙ by (mem
     by (is_2 e) = ap (λ z. (group_open kind z).spec) e
 
 -- all send version 1
-one_version : (a : ℕ) → One a → version_at bounds.versions a ≡ texts.One
+pub one_version : (a : ℕ) → One a → version_at bounds.versions a ≡ texts.One
 one_version a (is_0 e) = ap (version_at bounds.versions) e
 one_version a (is_1 e) = ap (version_at bounds.versions) e
 one_version a (is_2 e) = ap (version_at bounds.versions) e
 
 -- a running member is node 1 or node 2, a stopped one node 0
-running : (kind : Kind) (a : ℕ) → IsRunning runs (spec_of kind) a → (a ≡ 1) ⊎ (a ≡ 2)
+pub running : (kind : Kind) (a : ℕ) → IsRunning runs (spec_of kind) a → (a ≡ 1) ⊎ (a ≡ 2)
 running kind a run = by (member a run.0)
   where
     by : One a → (a ≡ 1) ⊎ (a ≡ 2)
@@ -134,14 +134,14 @@ running kind a run = by (member a run.0)
     by (is_1 e) = inl e
     by (is_2 e) = inr e
 
-stopped : (a : ℕ) → runs a ≡ false → a ≡ 0
+pub stopped : (a : ℕ) → runs a ≡ false → a ≡ 0
 stopped a h = go (nat_eq a 0) refl h
   where
     go : (t : Bool) → nat_eq a 0 ≡ t → not t ≡ false → a ≡ 0
     go true e h = eqb-true a 0 e
     go false e h = absurd (cc)
 
-for_pair : (kind : Kind) (p : ℕ → ℕ → Type 0) → p 1 2 → p 2 1 → (a b : ℕ) → IsRunning runs (spec_of kind) a → IsRunning runs (spec_of kind) b → a ≢ b → p a b
+pub for_pair : (kind : Kind) (p : ℕ → ℕ → Type 0) → p 1 2 → p 2 1 → (a b : ℕ) → IsRunning runs (spec_of kind) a → IsRunning runs (spec_of kind) b → a ≢ b → p a b
 for_pair kind p one two a b run_a run_b other = by (running kind a run_a) (running kind b run_b)
   where
     by : ((a ≡ 1) ⊎ (a ≡ 2)) → ((b ≡ 1) ⊎ (b ≡ 2)) → p a b
@@ -192,7 +192,7 @@ settle kind steps g is here_one here_two carried_one carried_two came_one came_t
 -- The examples.
 
 -- the first place is the only one
-only_one : (p : ℕ → Type 0) (count : ℕ) → count ≡ 1 → p 1 → (place : ℕ) → 0 < place → place ≤ count → p place
+pub only_one : (p : ℕ → Type 0) (count : ℕ) → count ≡ 1 → p 1 → (place : ℕ) → 0 < place → place ≤ count → p place
 only_one p count is h place low high = let e : 1 ≡ place = omega (arith, is, low, high) in subst p e h
 
 crash_settles : (kind : Kind) → BothRelay kind → IsSettled bounds address (opened kind ++ crash) runs (spec_of kind)

@@ -23,7 +23,7 @@ pub record Flow (group : Group) : Type 0 where
   pub come : (a b place : ℕ) → is_marked place ((group b).come a) ≡ true → (0 < place) × (place ≤ (group a).taken b)
 
 -- every node goes on
-all_goes : (bounds : Bounds) (addr : Addr) (group : Group) (step : GroupStep) → MayHappen step.node step.event group → ((a : ℕ) → Bounded (group a)) → (x : ℕ) → Goes x (group x) (after bounds addr group step x)
+pub all_goes : (bounds : Bounds) (addr : Addr) (group : Group) (step : GroupStep) → MayHappen step.node step.event group → ((a : ℕ) → Bounded (group a)) → (x : ℕ) → Goes x (group x) (after bounds addr group step x)
 unfolding after
 all_goes bounds addr group step may bounded x = go (nat_eq x step.node.number) refl
   where

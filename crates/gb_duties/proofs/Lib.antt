@@ -13,5 +13,8 @@ mod OrderLemmas
 pub mod NoticeLemmas
 pub mod SeenLemmas
 pub mod AgreementLemmas
+pub mod GrowLemmas
+pub mod DeliveryLemmas
 mod ExampleLemmas
 mod CrashLemmas
+mod PhaseLemmas

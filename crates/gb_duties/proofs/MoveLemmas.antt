@@ -28,7 +28,7 @@ pub record Goes (a : ℕ) (m n : Member) : Type 0 where
 stays : (a : ℕ) (m : Member) → Bounded m → Goes a m m
 stays a m bounded = record { spec = λ s is. is; here = λ h. h; from = λ p x h. h; stable = λ b i lt. refl; taken = λ b. omega arith; bounded = bounded }
 
-get-append : (xs ys : List Entry) (i : ℕ) → i < length xs → slice_get (xs ++ ys) i ≡ slice_get xs i
+pub get-append : (xs ys : List Entry) (i : ℕ) → i < length xs → slice_get (xs ++ ys) i ≡ slice_get xs i
 get-append [] ys i lt = absurd (omega (arith, lt))
 get-append (x ∷ xs) ys zero lt = refl
 get-append (x ∷ xs) ys (suc i) lt = get-append xs ys i (omega (arith, lt))

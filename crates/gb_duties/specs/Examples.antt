@@ -77,6 +77,10 @@ loss = to_one ++ (at first Stop ∷ at second (Notice first) ∷ at third (Notic
 abbrev pub crash : List GroupStep
 crash = loss ++ (at second (Took third 1) ∷ at third (Came second 1) ∷ at third (Took second 1) ∷ at second (Came third 1) ∷ [])
 
+-- a phase after that: what node 1 relayed is carried to node 2 and comes
+abbrev pub relay : List GroupStep
+relay = at second (Took third 1) ∷ at third (Came second 1) ∷ []
+
 -- node 0 says the message, the others stop before it goes to them, and node 0 notices them
 abbrev pub left_alone : List GroupStep
 left_alone = at first (Say one_byte) ∷ at second Stop ∷ at third Stop ∷ at first (Notice second) ∷ at first (Notice third) ∷ []

@@ -1,3 +1,4 @@
 pub mod Duties
 pub mod Agreement
+pub mod Delivery
 pub mod Examples

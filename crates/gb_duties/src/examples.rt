@@ -4,11 +4,12 @@ ghost use Rattle.std.specs.Prelude.{◌≡◌, false, ◌++◌, [], ◌∷◌};
 ghost use Rattle.gb_types.specs.Common.{message_of, has_majority};
 ghost use Rattle.gb_types.specs.declared.kind.Module.TheVariants.{BestEffort, Lazy, Eager, AllAck, Majority};
 ghost use Rattle.gb_rules.specs.Common.{is_member};
-ghost use Rattle.gb_alone.specs.Common.{alone, IsLegal};
+ghost use Rattle.gb_alone.specs.Common.{alone, log_of_member, IsLegal};
 ghost use Rattle.gb_alone.specs.declared.event.GroupEvent.TheVariants.{Notice};
 ghost use Rattle.gb_duties.specs.Agreement.{AreEnough, IsSettled};
+ghost use Rattle.gb_duties.specs.Delivery.{ArePhases, IsUp};
 ghost use Rattle.gb_duties.specs.Duties.{HasHad, noticed_at};
-ghost use Rattle.gb_duties.specs.Examples.{address, bounds, first, second, third, plain, fifo, spec_of, message, at, opened, to_one, to_all, third_drops, loss, crash, runs, left_alone, only_first, log_in, put_in};
+ghost use Rattle.gb_duties.specs.Examples.{address, bounds, first, second, third, plain, fifo, spec_of, message, at, opened, to_one, to_all, third_drops, loss, crash, relay, runs, left_alone, only_first, log_in, put_in};
 
 /// A worked example of best effort in a group of nodes 0, 1 and 2, with nothing to run: node 0 has queued the message that it said for
 /// node 2. Node 1, which delivered the message, has queued nothing for node 2, even once it holds node 0 for crashed.
@@ -101,4 +102,15 @@ pub fn best_effort_does_not_agree()
     ensures settled { IsSettled bounds address (opened (plain BestEffort) ++ loss) runs (spec_of (plain BestEffort)) }
     ensures one { log_in (plain BestEffort) loss 1 ≡ message ∷ [] }
     ensures two { log_in (plain BestEffort) loss 2 ≡ [] }
+{}
+
+/// A worked example of first-in first-out lazy broadcast in a group of nodes 0, 1 and 2, with nothing to run: node 0 stopped before its
+/// message was carried to node 2, and nodes 1 and 2 hold it for crashed. The log of node 2 is empty. Then comes a phase, in which what
+/// node 1 relayed comes to node 2. After it the log of node 2 has the message.
+pub fn a_message_is_delivered_after_a_phase()
+    ensures legal { IsLegal bounds address ((opened (fifo Lazy) ++ loss) ++ relay) }
+    ensures up { IsUp bounds address (opened (fifo Lazy) ++ loss) relay runs (spec_of (fifo Lazy)) }
+    ensures phase { ArePhases 1 bounds address (opened (fifo Lazy) ++ loss) relay runs (spec_of (fifo Lazy)) }
+    ensures before { log_in (fifo Lazy) loss 2 ≡ [] }
+    ensures later { log_of_member 2 (alone bounds address ((opened (fifo Lazy) ++ loss) ++ relay) 2) ≡ message ∷ [] }
 {}

@@ -1,6 +1,7 @@
 //! Laws of a group by itself, without other tenants, links or frames: what its nodes have done for each other, and what their logs have
 //! in common. The functions have nothing to run.
 ghost use Rattle.gb_duties.specs.Agreement.{IsAgreed};
+ghost use Rattle.gb_duties.specs.Delivery.{IsDelivered};
 ghost use Rattle.gb_duties.specs.Duties.{DeliveredAreOfMembers, IsDutiful, LoggedAreDelivered};
 
 use gb_fifo::order::{gives_up_whole_runs, top_is_the_greatest};
@@ -29,6 +30,20 @@ pub fn duties()
 /// for its own.
 pub fn agreement()
     ensures { IsAgreed }
+{
+    module_logs();
+    gives_up_whole_runs();
+    top_is_the_greatest();
+}
+
+/// A law, with nothing to run, of delivery in a group whose members all made it alike before the first message, and of which no running
+/// member is held for crashed. In a phase all comes that one running member had queued for another before it. After one phase the logs
+/// of the running members hold each message that had been accepted at a running member before it, with all-ack and majority-ack after
+/// two. Except with best effort they then hold each message that had been in the log of a running member, and with all-ack and
+/// majority-ack each that had been in the log of any member. Members may say more meanwhile. Lazy and all-ack need the stopped members to
+/// be held for crashed before, and majority-ack needs more than half of the members to run.
+pub fn delivery()
+    ensures { IsDelivered }
 {
     module_logs();
     gives_up_whole_runs();

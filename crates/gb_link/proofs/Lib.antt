@@ -6,3 +6,4 @@ pub mod TestLemmas
 pub mod BaseLemmas
 pub mod ArrivalLemmas
 pub mod LinkLemmas
+pub mod ProgressLemmas

@@ -4,4 +4,5 @@ pub mod Spaced
 pub mod Received
 pub mod Words
 pub mod Link
+pub mod Progress
 pub mod Common

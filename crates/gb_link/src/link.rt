@@ -1,12 +1,20 @@
 //! Laws of the two ends of one link, a sender and a receiver, together.
 ghost use Rattle.std.specs.Prelude.{List};
 ghost use Rattle.gb_link.specs.Link.{LinkEvent, run, IsSound};
+ghost use Rattle.gb_link.specs.Progress.{RoundsMoveOn};
 
 /// A law of every link whose network may lose, delay, repeat and reorder frames and acknowledgements. Each frame that arrives and
 /// was pushed is within the receiver's window. Each number is received for the first time once. Each frame that is acknowledged was
 /// received. The function does nothing when it runs; its contract is the law.
 pub fn soundness<F>()
     ensures { (events : List (LinkEvent F)) → IsSound (run events) }
+{}
+
+/// A law of every link, whatever else its network does. If in a round each frame arrives that was not acknowledged when the round
+/// began, and then an acknowledgement made after that comes back, then all frames that were pushed before the round are
+/// acknowledged, and there is room until 64 frames were pushed since. The function does nothing when it runs; its contract is the law.
+pub fn progress<F>()
+    ensures { RoundsMoveOn F }
 {}
 
 #[cfg(test)]
