@@ -12,8 +12,8 @@ alone. Definitions of the library do not count; how many words of it are used is
 in the order in which the walk meets the files. The last three lines are the words of the library, how much of the sum are types, and the
 sum, once without lines that hold a closing bracket alone and then whole.
 With --mark the files of the definitions are marked in .gitattributes, so that `git ls-files ':(attr:believed)'` lists them, and a
-reviewer sees which changes touch them. With --compare nothing is printed unless these marks are others, or docs/THEOREM.md does not list each file
-with its lines and definitions, or not their sum; then the status is 1."""
+reviewer sees which changes touch them. With --compare nothing is printed unless these marks are others, or docs/THEOREM.md lacks one of the last four
+lines, the sum of another law that it names by this script's command, or a file with its lines and definitions; then the status is 1."""
 import os
 import re
 import sys
@@ -271,38 +271,60 @@ def compare(files, wanted):
     if read(MARKS) != marks(files):
         sys.exit(".gitattributes marks other files than are to be believed: run bench/believed.py --mark")
     page = " ".join(read(THEOREM).split()) + " "
-    missing = [row for row in wanted if f"{row} " not in page]
+    missing = [row for row in wanted if re.search(re.escape(row) + r"\W", page) is None]
     if missing:
         sys.exit("\n".join(f"docs/THEOREM.md does not say: {row}" for row in missing))
 
 
-def main():
-    laws = [word for word in sys.argv[1:] if not word.startswith("--")] or SENTENCE
+def walked(laws):
+    """Returns the walk from these laws, and the files of its definitions in the order in which it meets them."""
     walk = Walk()
     for law in laws:
         walk.law(law)
-    files = []
-    for found in walk.order:
-        if found.file not in files:
-            files.append(found.file)
+    return walk, list(dict.fromkeys(found.file for found in walk.order))
+
+
+def sum_of(walk, files):
+    """Returns how much there is to believe."""
     lines = [line for found in walk.order for line in found.text()]
+    return f"{len(walk.order)} definitions, {len(lines)} lines, {len(files)} files"
+
+
+def figures(walk, files):
+    """Returns the last four lines."""
+    lines = [line for found in walk.order for line in found.text()]
+    types = [found for found in walk.order if not found.file.endswith(".antt")]
+    return [
+        f"words of the library: {len(walk.library)}",
+        f"types among them: {len(types)}, {sum(len(found.text()) for found in types)} lines, {len({found.file for found in types})} files",
+        f"without closing brackets alone: {len([line for line in lines if not BRACKET.match(line)])} lines",
+        sum_of(walk, files),
+    ]
+
+
+def of_other_laws():
+    """Returns what docs/THEOREM.md has to say behind each command that counts other laws."""
+    page = " ".join(read(THEOREM).split())
+    commands = re.findall(r"`python3 bench/believed\.py ((?:gb_\S+ ?)+)`", page)
+    return [f"`python3 bench/believed.py {laws}`: {sum_of(*walked(laws.split()))}" for laws in commands]
+
+
+def main():
+    laws = [word for word in sys.argv[1:] if not word.startswith("--")] or SENTENCE
+    walk, files = walked(laws)
     if "--mark" in sys.argv:
         with open(MARKS, "w") as file:
             file.write(marks(files))
         return
     if "--compare" in sys.argv:
         rows = [row_of(file, [found for found in walk.order if found.file == file]) for file in files]
-        compare(files, [*rows, f"{len(walk.order)} definitions, {len(lines)} lines, {len(files)} files"])
+        compare(files, rows + figures(walk, files) + of_other_laws())
         return
     if "--list" in sys.argv:
         for file in files:
             mine = [found for found in walk.order if found.file == file]
             print(f"{file[len(ROOT) + 1:]}: {sum(len(found.text()) for found in mine)} lines: {', '.join(found.name for found in mine)}")
-    types = [found for found in walk.order if not found.file.endswith(".antt")]
-    print(f"words of the library: {len(walk.library)}")
-    print(f"types among them: {len(types)}, {sum(len(found.text()) for found in types)} lines, {len({found.file for found in types})} files")
-    print(f"without closing brackets alone: {len([line for line in lines if not BRACKET.match(line)])} lines")
-    print(f"{len(walk.order)} definitions, {len(lines)} lines, {len(files)} files")
+    print("\n".join(figures(walk, files)))
 
 
 main()
