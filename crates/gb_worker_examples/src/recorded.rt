@@ -78,9 +78,9 @@ fn sends<L: Tapes, R: Wait>(
     seat: &mut Seat<L>,
     event: NodeEvent,
 ) -> Option<bool> {
-    match host.call_to_send(rt, seat, SECOND, event, &mut Open) {
-        Ok(Some(NodeAnswer::Sent(Sent::Packet(_)))) => Some(true),
-        Ok(None) => Some(false),
+    match host.call_or_skip(rt, seat, SECOND, event, &mut Open) {
+        Ok(NodeAnswer::Sent(Sent::Packet(_))) => Some(true),
+        Ok(NodeAnswer::Sent(Sent::Nothing)) => Some(false),
         _ => None,
     }
 }
