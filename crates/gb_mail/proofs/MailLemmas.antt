@@ -23,7 +23,7 @@ Sends P = P → NodeId → List ℕ → Result Bool PortFault → P → Type 0
 abbrev Receives : Type 0 → Type 1
 Receives P = P → Result (Option (Vec ℕ Global)) PortFault → P → Type 0
 
-by_bool : (b : Bool) {X : Type 0} → (b ≡ true → X) → (b ≡ false → X) → X
+by_bool : {X : Type 0} (b : Bool) → (b ≡ true → X) → (b ≡ false → X) → X
 by_bool true yes no = yes refl
 by_bool false yes no = no refl
 
@@ -50,8 +50,8 @@ called_more me old mid new before next =
 
 travelled_more : (is_packet : List ℕ → Bool) (m n : ℕ) (xs ys ts us : List Traffic) → IsTravelled is_packet m xs ts → IsTravelled is_packet n ys us → IsTravelled is_packet (m + n) (xs ++ ys) (ts ++ us)
 travelled_more is_packet m n [] ys ts us none then =
-    let zero : m ≡ 0 = none.1 in
-    let sum : n ≡ m + n = omega (arith, zero) in
+    let no_more : m ≡ 0 = none.1 in
+    let sum : n ≡ m + n = omega (arith, no_more) in
     subst (λ vs. IsTravelled is_packet (m + n) ys (vs ++ us)) (sym none.0) (subst (λ k. IsTravelled is_packet k ys us) sum then)
 travelled_more is_packet m n (Went to bytes ∷ xs) ys ts us (rest, is, more) then = (rest ++ us, ap (λ vs. vs ++ us) is, travelled_more is_packet m n xs ys rest us more then)
 travelled_more is_packet m n (Came bytes ∷ xs) ys ts us (inl (rest, is, more)) then = inl (rest ++ us, ap (λ vs. vs ++ us) is, travelled_more is_packet m n xs ys rest us more then)
@@ -94,15 +94,15 @@ pub mailed_more : {P : Type 0} (plan : HostPlan) (me : NodeId) (sends : Sends P)
 mailed_more plan me sends receives lost lost' p q r old mid new before next =
     ∥∥₁_map before (λ had. (had.0 + next.0, counted_to (2 ^ 64 - 1) 0 had.0 lost next.0 lost' had.1 next.1, moved_more plan me sends receives had.0 next.0 p q r old mid new had.2 next.2))
 
+-- nothing is lost
+pub nothing_lost : {P : Type 0} (plan : HostPlan) (me : NodeId) (sends : Sends P) (receives : Receives P) (lost : ℕ) (p q : P) (old new : List NodeStep) → HasMoved plan me sends receives 0 p q old new → HasMailed plan me sends receives lost lost p q old new
+nothing_lost plan me sends receives lost p q old new moved = let same : lost ≡ lost + 0 = omega arith in (0, inl same, moved)
+
 -- so where no more is lost
 pub moved_then : {P : Type 0} (plan : HostPlan) (me : NodeId) (sends : Sends P) (receives : Receives P) (lost : ℕ) (p q r : P) (old mid new : List NodeStep)
     → ∥ HasMailed plan me sends receives 0 lost p q old mid ∥₁ → HasMoved plan me sends receives 0 q r mid new → ∥ HasMailed plan me sends receives 0 lost p r old new ∥₁
 moved_then plan me sends receives lost p q r old mid new before next =
     mailed_more plan me sends receives lost lost p q r old mid new before (nothing_lost plan me sends receives lost q r mid new next)
-
--- nothing is lost
-pub nothing_lost : {P : Type 0} (plan : HostPlan) (me : NodeId) (sends : Sends P) (receives : Receives P) (lost : ℕ) (p q : P) (old new : List NodeStep) → HasMoved plan me sends receives 0 p q old new → HasMailed plan me sends receives lost lost p q old new
-nothing_lost plan me sends receives lost p q old new moved = let same : lost ≡ lost + 0 = omega arith in (0, inl same, moved)
 
 -- an entry by which nothing travels
 quiet : {P : Type 0} (plan : HostPlan) (me : NodeId) (sends : Sends P) (receives : Receives P) (p : P) (old new : List NodeStep) (e : NodeEvent) (a : NodeAnswer)

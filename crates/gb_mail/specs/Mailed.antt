@@ -44,16 +44,16 @@ IsTravelled is_packet lost (Came bytes ∷ more) told =
     ⊎ ((others : ℕ) × (lost ≡ suc others) × IsTravelled is_packet others more told)
 
 -- What travelled at the port of this node is what the calls say that a list gained, in their order, each once. Besides it bytes came that are no packet for the node, and this number of others.
-abbrev pub HasMoved : HostPlan → NodeId → {P : Type 0} → (P → NodeId → List ℕ → Result Bool PortFault → P → Type 0) → (P → Result (Option (Vec ℕ Global)) PortFault → P → Type 0) → ℕ → P → P → List NodeStep → List NodeStep → Type 0
+abbrev pub HasMoved : {P : Type 0} → HostPlan → NodeId → (P → NodeId → List ℕ → Result Bool PortFault → P → Type 0) → (P → Result (Option (Vec ℕ Global)) PortFault → P → Type 0) → ℕ → P → P → List NodeStep → List NodeStep → Type 0
 HasMoved plan me sends receives lost before after old new =
     (es : List NodeStep) × (new ≡ old ++ es) × (calls : List PortCall) × AreCalls sends receives before calls after × IsTravelled (is_packet_at plan me) lost (travels calls) (traffic es)
 
 -- a number of 64 bits that counted this number more, up to its greatest value
 abbrev pub HasCounted : ℕ → ℕ → ℕ → Type 0
-HasCounted old more new = ((new ≡ old + more) × (new ≤ 2 ^ 64 - 1)) ⊎ ((new ≡ 2 ^ 64 - 1) × (2 ^ 64 - 1 ≤ old + more))
+HasCounted old more new = (new ≡ old + more) ⊎ ((2 ^ 64 - 1 ≤ new) × (2 ^ 64 - 1 ≤ old + more))
 
 -- so where the number of the others is the one that was counted, up to 2^64 - 1
-abbrev pub HasMailed : HostPlan → NodeId → {P : Type 0} → (P → NodeId → List ℕ → Result Bool PortFault → P → Type 0) → (P → Result (Option (Vec ℕ Global)) PortFault → P → Type 0) → ℕ → ℕ → P → P → List NodeStep → List NodeStep → Type 0
+abbrev pub HasMailed : {P : Type 0} → HostPlan → NodeId → (P → NodeId → List ℕ → Result Bool PortFault → P → Type 0) → (P → Result (Option (Vec ℕ Global)) PortFault → P → Type 0) → ℕ → ℕ → P → P → List NodeStep → List NodeStep → Type 0
 HasMailed plan me sends receives lost lost' before after old new = (count : ℕ) × HasCounted lost count lost' × HasMoved plan me sends receives count before after old new
 
 -- Bytes that came to a node. They are an event; or they are no packet for the node, and no event; or the host refused the call, and one more is counted as lost.

@@ -193,3 +193,18 @@ returns-then-is_left_out-clause-no_event g c = λ _.
     } in
     subst (λ (v : SeatValue). WasNoEvent p c.args.self.now.me v c.args.event answer) c.seat.view_is
     (subst (λ (v : HostedValue). WasNoEvent p v.me old c.args.event answer) c.self.view_is left_out)
+
+pub returns-then-is_left_out-clause-same : goal.returns-then-is_left_out-clause-same
+returns-then-is_left_out-clause-same g c = λ _.
+    let h = c.self.inside in
+    let s = c.seat.inside in
+    let answer = c.in-Ok-answers.answers.0 in
+    let none : is_no_event answer ≡ true = and_right c.args.skips (is_no_event answer) (sym c.is_left_out.ensures ∙ c.if-is_left_out.true) in
+    let same : c.answers.new.node ≡ h.node = c.nothing_changes.ensures h.node c.answers.new.node c.args.event answer c.in-Ok-answers.ensures.turn none in
+    let old : HostedValue = record { me = h.me; node = h.node; book = h.past.book; past = h.past.log; tape = kept_entries h.kept } in
+    let new : HostedValue = record { me = h.me; node = c.answers.new.node; book = c.show.new.past.book; past = c.show.new.past.log; tape = kept_entries c.make_room.new.kept } in
+    let is : new ≡ old = λ i. record { me = h.me; node = same i; book = (c.show.ensures.past i).book; past = (c.show.ensures.past i).log; tape = c.make_room.ensures.kept.0 i } in
+    let before : SeatValue = record { number = s.number; counts = s.counts; calls = s.calls.log; list = s.list.items; seen = s.seen.items } in
+    let after : SeatValue = record { number = s.number; counts = s.counts; calls = s.calls.log; list = c.make_room.new.list.items; seen = s.seen.items } in
+    let stays : after ≡ before = λ i. record { number = s.number; counts = s.counts; calls = s.calls.log; list = c.make_room.ensures.list i; seen = s.seen.items } in
+    (is ∙ c.self.view_is, stays ∙ c.seat.view_is)
