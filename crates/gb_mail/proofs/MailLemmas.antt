@@ -1,5 +1,5 @@
 -- What a node's port carried since its loop began.
-use Rattle.gb_types.specs.Common.{arith, ◌≡◌, ◌≤◌, ◌⊎◌, ◌+◌, ◌-◌, ◌^◌, inl, inr, ℕ, suc, ◌==◌, Bool, false, true, List, [], ◌∷◌, ◌++◌, refl, sym, ap, ap₂, ◌∙◌, subst, Option, Some, None, Result, Ok, Err, IfOk, IfErr, OnErr, Decides-eqb, list_all-append, nat_cmp}
+use Rattle.gb_types.specs.Common.{arith, ◌≡◌, ◌≤◌, ◌⊎◌, ◌+◌, ◌-◌, ◌^◌, inl, inr, ℕ, suc, ◌==◌, Bool, false, true, List, [], ◌∷◌, ◌++◌, refl, sym, ap, ◌∙◌, subst, Option, Some, Result, Ok, Err, IfOk, IfErr, OnErr, Decides-eqb, list_all-append, nat_cmp}
 use Rattle.std.proofs.Math.Logic.{∥∥₁_map}
 use Rattle.std.specs.FinSet as set
 use Rattle.std.specs.declared.{vec.Vec.Vec, alloc.Global.Global}
@@ -12,9 +12,9 @@ use Rattle.gb_node.specs.declared.event.NodeEvent.TheVariants as events
 use Rattle.gb_port.specs.declared.port.PortFault.{PortFault}
 use Rattle.gb_host.specs.Common.{IsRefused, SeatValue, WasNoEvent, is_no_event}
 use Rattle.gb_host.specs.declared.{fault.HostFault.HostFault, plan.HostPlan.HostPlan}
-use Rattle.gb_worker.specs.{Answered.destination, Answered.gives_packet, Asked.reply_at, Asked.reply_of, Carried.AreCalls, Carried.Came, Carried.GivesNothing, Carried.HasCarried, Carried.Received, Carried.Traffic, Carried.Went, Carried.goes_to, Carried.traffic, Carried.traffic_of, Carried.travels, Carried.travels_in, Gained.noted}
+use Rattle.gb_worker.specs.{Answered.destination, Answered.gives_packet, Asked.reply_at, Asked.reply_of, Carried.Came, Carried.GivesNothing, Carried.HasCarried, Carried.Received, Carried.Traffic, Carried.Went, Carried.goes_to, Carried.traffic, Carried.traffic_of, Carried.travels, Carried.travels_in, Gained.noted}
 use Rattle.gb_worker.proofs.{CarryLemmas.calls_append, CarryLemmas.carried_out, CarryLemmas.traffic_append, CarryLemmas.travels_append, GainLemmas.append_nil, GainLemmas.joined}
-use Rattle.gb_mail.specs.Mailed.{HasAnswer, HasCalled, HasCounted, HasMailed, HasMoved, IsTakenOrNot, IsTravelled, WasAskedToSend, is_packet_at}
+use Rattle.gb_mail.specs.Mailed.{HasAnswer, HasCalled, HasMailed, HasMoved, IsTakenOrNot, IsTravelled, WasAskedToSend, is_packet_at}
 use Rattle.gb_mail.specs.Replied.{HasReplied}
 
 abbrev Sends : Type 0 → Type 1
@@ -24,14 +24,14 @@ abbrev Receives : Type 0 → Type 1
 Receives P = P → Result (Option (Vec ℕ Global)) PortFault → P → Type 0
 
 by_bool : {X : Type 0} (b : Bool) → (b ≡ true → X) → (b ≡ false → X) → X
-by_bool true yes no = yes refl
-by_bool false yes no = no refl
+by_bool true so otherwise = so refl
+by_bool false so otherwise = otherwise refl
 
 -- what the host says of a call
 pub answered : (plan : HostPlan) (here : set.FinSet nat_cmp) (me : NodeId) (event : NodeEvent) (s t : SeatValue) (outcome : Result NodeAnswer HostFault)
     → IfOk outcome (λ a. is_no_event a ≡ false → t.calls ≡ s.calls ++ noted me event a ∷ []) → IfOk outcome (λ a. is_no_event a ≡ true → WasNoEvent plan me s event a) → IfOk outcome (λ a. is_no_event a ≡ true → t ≡ s)
     → IfErr outcome (IsRefused plan here s me) → OnErr outcome (t ≡ s) → HasAnswer plan here me event s t outcome
-answered plan here me event s t (Ok a) made was same fault err = by_bool (is_no_event a) (λ yes. inr (yes, was yes, same yes)) (λ no. inl (no, made no))
+answered plan here me event s t (Ok a) made was same fault err = by_bool (is_no_event a) (λ none. inr (none, was none, same none)) (λ isnt. inl (isnt, made isnt))
 answered plan here me event s t (Err why) made was same fault err = (fault, err)
 
 -- one more call at the node, or none
@@ -40,6 +40,10 @@ pub called_one : (plan : HostPlan) (here : set.FinSet nat_cmp) (me : NodeId) (ev
 called_one plan here me event s t (Ok a) (inl made) = (noted me event a ∷ [], made.1, and_both ((Decides-eqb me.number me.number).1 refl) refl)
 called_one plan here me event s t (Ok a) (inr none) = ([], ap (λ (x : SeatValue). x.calls) none.2 ∙ sym (append_nil s.calls), refl)
 called_one plan here me event s t (Err why) none = ([], ap (λ (x : SeatValue). x.calls) none.1 ∙ sym (append_nil s.calls), refl)
+
+-- nothing was called yet
+pub called_none : (me : NodeId) (list : List NodeStep) → ∥ HasCalled me list list ∥₁
+called_none me list = ∣ ([], sym (append_nil list), refl) ∣₁
 
 -- what was called, and what is called then
 pub called_more : (me : NodeId) (old mid new : List NodeStep) → ∥ HasCalled me old mid ∥₁ → HasCalled me mid new → ∥ HasCalled me old new ∥₁
@@ -55,7 +59,7 @@ travelled_more is_packet m n [] ys ts us none then =
     subst (λ vs. IsTravelled is_packet (m + n) ys (vs ++ us)) (sym none.0) (subst (λ k. IsTravelled is_packet k ys us) sum then)
 travelled_more is_packet m n (Went to bytes ∷ xs) ys ts us (rest, is, more) then = (rest ++ us, ap (λ vs. vs ++ us) is, travelled_more is_packet m n xs ys rest us more then)
 travelled_more is_packet m n (Came bytes ∷ xs) ys ts us (inl (rest, is, more)) then = inl (rest ++ us, ap (λ vs. vs ++ us) is, travelled_more is_packet m n xs ys rest us more then)
-travelled_more is_packet m n (Came bytes ∷ xs) ys ts us (inr (inl (no, more))) then = inr (inl (no, travelled_more is_packet m n xs ys ts us more then))
+travelled_more is_packet m n (Came bytes ∷ xs) ys ts us (inr (inl (isnt, more))) then = inr (inl (isnt, travelled_more is_packet m n xs ys ts us more then))
 travelled_more is_packet m n (Came bytes ∷ xs) ys ts us (inr (inr (others, is, more))) then =
     let sum : m + n ≡ suc (others + n) = omega (arith, is) in
     inr (inr (others + n, sum, travelled_more is_packet others n xs ys ts us more then))
@@ -80,6 +84,10 @@ moved_more plan me sends receives m n p q r old mid new g h = (
       (subst (λ ts. IsTravelled (is_packet_at plan me) (m + n) (travels g.2 ++ travels h.2) ts) (sym (traffic_append g.0 h.0))
       (travelled_more (is_packet_at plan me) m n (travels g.2) (travels h.2) (traffic g.0) (traffic h.0) g.4 h.4)),
 )
+
+-- nothing was carried yet
+pub mailed_none : {P : Type 0} (plan : HostPlan) (me : NodeId) (sends : Sends P) (receives : Receives P) (p : P) (list : List NodeStep) → ∥ HasMailed plan me sends receives 0 0 p p list list ∥₁
+mailed_none plan me sends receives p list = ∣ (0, inl refl, ([], sym (append_nil list), [], refl, (refl, refl))) ∣₁
 
 -- counts, one after the other
 counted_to : (most a m b n c : ℕ) → (b ≡ a + m) ⊎ ((most ≤ b) × (most ≤ a + m)) → (c ≡ b + n) ⊎ ((most ≤ c) × (most ≤ b + n)) → (c ≡ a + (m + n)) ⊎ ((most ≤ c) × (most ≤ a + (m + n)))
@@ -114,11 +122,11 @@ still : {P : Type 0} (plan : HostPlan) (me : NodeId) (sends : Sends P) (receives
 still plan me sends receives p s t is = ([], ap (λ (x : SeatValue). x.calls) is ∙ sym (append_nil s.calls), [], refl, (refl, refl))
 
 -- what was asked, if nothing travels by it where it is an event
-pub quiet_answer : {P : Type 0} (plan : HostPlan) (here : set.FinSet nat_cmp) (me : NodeId) (sends : Sends P) (receives : Receives P) (p : P) (event : NodeEvent) (s t : SeatValue) (outcome : Result NodeAnswer HostFault)
-    → IfOk outcome (λ a. traffic_of event a ≡ []) → HasAnswer plan here me event s t outcome → HasMoved plan me sends receives 0 p p s.calls t.calls
-quiet_answer plan here me sends receives p event s t (Ok a) none (inl made) = quiet plan me sends receives p s.calls t.calls event a none made.1
-quiet_answer plan here me sends receives p event s t (Ok a) none (inr no) = still plan me sends receives p s t no.2
-quiet_answer plan here me sends receives p event s t (Err why) none no = still plan me sends receives p s t no.1
+pub quiet_answer : {P : Type 0} (plan told : HostPlan) (here : set.FinSet nat_cmp) (me : NodeId) (sends : Sends P) (receives : Receives P) (p : P) (event : NodeEvent) (s t : SeatValue) (outcome : Result NodeAnswer HostFault)
+    → IfOk outcome (λ a. traffic_of event a ≡ []) → HasAnswer plan here me event s t outcome → HasMoved told me sends receives 0 p p s.calls t.calls
+quiet_answer plan told here me sends receives p event s t (Ok a) none (inl made) = quiet told me sends receives p s.calls t.calls event a none made.1
+quiet_answer plan told here me sends receives p event s t (Ok a) none (inr isnt) = still told me sends receives p s t isnt.2
+quiet_answer plan told here me sends receives p event s t (Err why) none refused = still told me sends receives p s t refused.1
 
 -- nothing travels by these events, whatever the answer is
 pub never : (event : NodeEvent) (outcome : Result NodeAnswer HostFault) → ((a : NodeAnswer) → traffic_of event a ≡ []) → IfOk outcome (λ a. traffic_of event a ≡ [])
@@ -133,14 +141,14 @@ moved_nothing plan me sends receives p q list g =
 -- bytes came
 pub mailed_in : {P : Type 0} (plan : HostPlan) (me : NodeId) (sends : Sends P) (receives : Receives P) (p q : P) (bytes : Vec ℕ Global) (s t : SeatValue) (lost lost' : ℕ) → receives p (Ok (Some bytes)) q
     → IsTakenOrNot plan me bytes.items s t lost lost' → HasMailed plan me sends receives lost lost' p q s.calls t.calls
-mailed_in plan me sends receives p q bytes s t lost lost' r (inl (same, a, no, made)) =
+mailed_in plan me sends receives p q bytes s t lost lost' r (inl (same, (a, isnt, made))) =
     let sum : lost' ≡ lost + 0 = omega (arith, same) in
-    (0, inl sum, noted me (events.Packet bytes.items) a ∷ [], made, Received (Ok (Some bytes)) ∷ [], (q, r, refl), inl ([], refl, (refl, refl)))
-mailed_in plan me sends receives p q bytes s t lost lost' r (inr (inl (same, no, stays))) =
+    (0, inl sum, (noted me (events.Packet bytes.items) a ∷ [], made, Received (Ok (Some bytes)) ∷ [], (q, r, refl), inl ([], refl, (refl, refl))))
+mailed_in plan me sends receives p q bytes s t lost lost' r (inr (inl (same, isnt, stays))) =
     let sum : lost' ≡ lost + 0 = omega (arith, same) in
-    (0, inl sum, [], ap (λ (x : SeatValue). x.calls) stays ∙ sym (append_nil s.calls), Received (Ok (Some bytes)) ∷ [], (q, r, refl), inr (inl (no, (refl, refl))))
+    (0, inl sum, ([], ap (λ (x : SeatValue). x.calls) stays ∙ sym (append_nil s.calls), Received (Ok (Some bytes)) ∷ [], (q, r, refl), inr (inl (isnt, (refl, refl)))))
 mailed_in plan me sends receives p q bytes s t lost lost' r (inr (inr (counted, stays))) =
-    (1, counted, [], ap (λ (x : SeatValue). x.calls) stays ∙ sym (append_nil s.calls), Received (Ok (Some bytes)) ∷ [], (q, r, refl), inr (inr (0, refl, (refl, refl))))
+    (1, counted, ([], ap (λ (x : SeatValue). x.calls) stays ∙ sym (append_nil s.calls), Received (Ok (Some bytes)) ∷ [], (q, r, refl), inr (inr (0, refl, (refl, refl)))))
 
 -- Events by which a node sends.
 
@@ -151,13 +159,13 @@ refused_to_send plan here me e old new why refused = inr (refl, refused.1, inr (
 -- the answer has no packet
 pub asked_in_vain : (plan : HostPlan) (here : set.FinSet nat_cmp) (me : NodeId) (e : NodeEvent) (old new : SeatValue) (a : NodeAnswer) → HasAnswer plan here me e old new (Ok a) → gives_packet a ≡ false → WasAskedToSend plan here me e old new false
 asked_in_vain plan here me e old new a (inl made) h = inl (a, made.0, made.1, h)
-asked_in_vain plan here me e old new a (inr no) h = inr (refl, no.2, inl (a, no.0, no.1))
+asked_in_vain plan here me e old new a (inr isnt) h = inr (refl, isnt.2, inl (a, isnt.0, isnt.1))
 
 -- the answer has a packet
 made_packet : (plan : HostPlan) (here : set.FinSet nat_cmp) (me : NodeId) (e : NodeEvent) (old new : SeatValue) (a : NodeAnswer) (text : List ℕ) → HasAnswer plan here me e old new (Ok a) → a ≡ answers.Sent (sents.Packet text)
     → (is_no_event a ≡ false) × (new.calls ≡ old.calls ++ noted me e a ∷ [])
 made_packet plan here me e old new a text (inl made) is = made
-made_packet plan here me e old new a text (inr no) is = let wrong = sym (ap is_no_event is) ∙ no.0 in absurd cc
+made_packet plan here me e old new a text (inr isnt) is = let wrong = sym (ap is_no_event is) ∙ isnt.0 in absurd cc
 
 pub asked_and_sent : (plan : HostPlan) (here : set.FinSet nat_cmp) (me : NodeId) (e : NodeEvent) (old new : SeatValue) (a : NodeAnswer) (text : List ℕ) → HasAnswer plan here me e old new (Ok a) → a ≡ answers.Sent (sents.Packet text) → WasAskedToSend plan here me e old new true
 asked_and_sent plan here me e old new a text h is = let made = made_packet plan here me e old new a text h is in inl (a, made.0, made.1, ap gives_packet is)
@@ -192,6 +200,6 @@ gives_none events.Stop to a d none = refl
 -- what is replied to a request
 pub replied : (plan : HostPlan) (here : set.FinSet nat_cmp) (me : NodeId) (old new : SeatValue) (request : Request) (outcome : Result NodeAnswer HostFault) (reply : Reply) → HasAnswer plan here me (events.Request request) old new outcome
     → IfOk outcome (λ a. reply ≡ reply_of a) → IfErr outcome (λ why. reply ≡ reply_at why) → HasReplied plan here me old request reply new
-replied plan here me old new request (Ok a) reply (inl made) answered fault = inl (a, made.0, made.1, answered)
-replied plan here me old new request (Ok a) reply (inr no) answered fault = inr (inl (a, no.0, no.1, no.2, answered))
-replied plan here me old new request (Err why) reply refused answered fault = inr (inr (why, refused.0, refused.1, fault))
+replied plan here me old new request (Ok a) reply (inl made) is fault = inl (a, made.0, made.1, is)
+replied plan here me old new request (Ok a) reply (inr isnt) is fault = inr (inl (a, isnt.0, isnt.1, isnt.2, is))
+replied plan here me old new request (Err why) reply refused is fault = inr (inr (why, refused.0, refused.1, fault))

@@ -47,4 +47,4 @@ no_packet say plan me seat bytes a was none =
 
 pub taken_or_not : PastsSay → (plan : HostPlan) (me : NodeId) (bytes : List ℕ) (old new : SeatValue) (a : NodeAnswer) (lost : ℕ) → IsCalledOrNot plan me (Packet bytes) old new a → IsTakenOrNot plan me bytes old new lost lost
 taken_or_not say plan me bytes old new a lost (inl made) = inl (refl, (a, made.0, made.1))
-taken_or_not say plan me bytes old new a lost (inr no) = inr (inl (refl, no_packet say plan me old bytes a no.1 no.0, no.2))
+taken_or_not say plan me bytes old new a lost (inr none) = inr (inl (refl, no_packet say plan me old bytes a none.1 none.0, none.2))

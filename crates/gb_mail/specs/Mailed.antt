@@ -1,5 +1,5 @@
 -- What a loop adds to its seat's list, and what travels at its port.
-use Rattle.std.specs.Prelude.{ℕ, suc, ◌≡◌, ◌≤◌, ◌+◌, ◌-◌, ◌^◌, ◌⊎◌, ◌==◌, true, false, Bool, List, [], ◌∷◌, ◌++◌, Option, Result, Ok, Err, IfOk, OnErr, is_ok}
+use Rattle.std.specs.Prelude.{ℕ, suc, ◌≡◌, ◌≤◌, ◌+◌, ◌-◌, ◌^◌, ◌⊎◌, ◌==◌, true, false, Bool, List, [], ◌∷◌, ◌++◌, Option, Result, Ok, Err, is_ok}
 use Rattle.std.specs.FinSet as set
 use Rattle.std.specs.{Ordering.nat_cmp, List.list_all}
 use Rattle.std.specs.declared.{vec.Vec.Vec, alloc.Global.Global}

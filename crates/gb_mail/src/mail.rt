@@ -1,5 +1,5 @@
 //! A node with its port: all that is asked of it, comes to it and goes from it.
-ghost use Rattle.std.specs.Prelude.{◌≡◌, ◌++◌, ◌∷◌, [], true, false, Ok, Some, IfOk, IfErr, OnOk, OnErr, IfSome, IfNone};
+ghost use Rattle.std.specs.Prelude.{◌≡◌, ◌++◌, ◌∷◌, ◌&&◌, ◌||◌, [], true, false, Ok, Some, IfOk, IfErr, OnOk, OnErr, IfSome, IfNone};
 ghost use Rattle.gb_node.specs.declared.{answer.NodeAnswer.TheVariants.Sent as WasSent, answer.Sent.TheVariants.Packet as SentPacket};
 ghost use Rattle.gb_worker.specs.{Answered.destination, Answered.gives_packet, Asked.reply_at, Asked.reply_of, Carried.GivesNothing};
 ghost use Rattle.gb_mail.specs.Mailed.{HasAnswer, HasCalled, HasCounted, HasMailed, HasMoved, IsTakenOrNot, WasAskedToSend, is_handed};
@@ -74,7 +74,7 @@ pub struct Mail<'a, L: Tapes, H, P: Port> {
     /// What the node counted since the server's start. The loop adds what it counts of its connections.
     pub figures: Figures,
     pub ghost here: { ∥ HasCalled origin.node origin.seat.value.calls seat.calls ∥₁ },
-    pub ghost mailed: { ∥ HasMailed L.plan origin.node P.sends P.receives 0 lost origin.port.value port origin.seat.value.calls seat.calls ∥₁ },
+    pub ghost mailed: { ∥ HasMailed host.now.plan origin.node P.sends P.receives 0 lost origin.port.value port origin.seat.value.calls seat.calls ∥₁ },
 }
 
 /// Nothing was shown.
@@ -92,6 +92,13 @@ enum Outcome {
     Nothing,
     // The packet was handed to the port, which answered so.
     Handed(Result<bool, PortFault>),
+}
+
+// A law of every host: its plan is the one that its name knows.
+fn plan_says<L: Tapes>(host: &Host<L>)
+    ensures { host.now.plan ≡ L.plan }
+{
+    let _ = host.plan();
 }
 
 // Asks a node for one event, which is left out of its past where its answer says that it is none.
@@ -164,6 +171,17 @@ fn is_admitting(why: Refusal) -> bool
         Refusal::Stopped => false,
         Refusal::OutOfMemory => false,
         _ => true,
+    }
+}
+
+// Returns what was shown before, and what a request shows that needs the administrator's token or not, and came with the token that it
+// needs or not.
+fn shown_more(shown: Shown, is_admin: bool, is_admitted: bool) -> Shown
+    ensures { result ≡ record { is_admitted = shown.is_admitted || is_admitted; is_admin = shown.is_admin || (is_admin && is_admitted) } }
+{
+    Shown {
+        is_admitted: shown.is_admitted || is_admitted,
+        is_admin: shown.is_admin || is_admin && is_admitted,
     }
 }
 
@@ -336,6 +354,7 @@ impl<'a, L: Tapes, H: Wait, P: Port> Mail<'a, L, H, P> {
         ensures here { ∥ HasCalled result.node self.entry.origin.seat.value.calls result.seat.calls ∥₁ }
         ensures mailed { ∥ HasMailed L.plan result.node P.sends P.receives 0 result.lost self.entry.origin.port.value result.port self.entry.origin.seat.value.calls result.seat.calls ∥₁ }
     {
+        plan_says(self.host);
         let Mail {
             rt: _,
             host: _,
@@ -396,6 +415,7 @@ impl<'a, L: Tapes, H: Wait, P: Port> Mail<'a, L, H, P> {
             Some(bytes) => bytes,
             None => return None,
         };
+        plan_says(self.host);
         let hint = hint_of(&bytes);
         if is_wanted && !put_addresses(&bytes, came) {
             self.is_short = true;
@@ -425,6 +445,7 @@ impl<'a, L: Tapes, H: Wait, P: Port> Mail<'a, L, H, P> {
         ensures lost { self.new.lost ≡ self.old.lost }
         ensures origin { self.new.origin ≡ self.old.origin }
     {
+        plan_says(self.host);
         let figure = sent_figure(&event);
         let node = self.origin.node;
         let outcome = send_at(
@@ -453,12 +474,19 @@ impl<'a, L: Tapes, H: Wait, P: Port> Mail<'a, L, H, P> {
         self.figures.set(figure, number);
     }
 
-    // Notes a group that a request changed.
-    fn touch(&mut self, address: Addr)
+    // Notes the group that a request may change, if the request was done.
+    fn touch(&mut self, address: Option<Addr>, is_done: bool)
         ensures seat { self.new.seat ≡ self.old.seat }
         ensures origin { self.new.origin ≡ self.old.origin }
         ensures shown { self.new.shown ≡ self.old.shown }
+        ensures touched { is_done ≡ false → self.new.touched ≡ self.old.touched }
     {
+        if !is_done {
+            return;
+        }
+        let Some(address) = address else {
+            return;
+        };
         if self.touched.insert(address).is_err() {
             self.is_short = true;
         }
@@ -528,15 +556,8 @@ impl<'a, L: Tapes, H: Wait, P: Port> Answers for Mail<'a, L, H, P> {
         let reply = reply_of(ask(self.rt, self.host, &mut self.seat, self.origin.node, event));
         count_reply(&mut self.figures, asked, places, &reply);
         let is_admitted = is_admitted(&reply);
-        self.shown = Shown {
-            is_admitted: self.shown.is_admitted || is_admitted,
-            is_admin: self.shown.is_admin || is_admin && is_admitted,
-        };
-        if let Some(address) = address
-            && is_done(&reply)
-        {
-            self.touch(address);
-        }
+        self.shown = shown_more(self.shown, is_admin, is_admitted);
+        self.touch(address, is_done(&reply));
         reply
     }
 

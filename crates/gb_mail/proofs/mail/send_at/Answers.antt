@@ -16,11 +16,11 @@ pub returns-clause-asked : goal.returns-clause-asked
 returns-clause-asked g c = asked_and_sent g.L.Tapes.plan c.args.host.now.here c.args.node c.args.event c.args.seat.now c.ask.new.seat c.in-Ok.answer c.in-Ok-packet_of.text c.in-Ok.ensures.answer c.in-Ok-packet_of.ensures.ok
 
 pub returns-in-Err-clause-moved : goal.returns-in-Err-clause-moved
-returns-in-Err-clause-moved g c = quiet_answer g.L.Tapes.plan c.args.host.now.here c.args.node g.P.Port.sends g.P.Port.receives c.args.port.now c.args.event c.args.seat.now c.ask.new.seat (Err c.in-Err.field-0) tt c.in-Err.ensures.answer
+returns-in-Err-clause-moved g c = quiet_answer g.L.Tapes.plan g.L.Tapes.plan c.args.host.now.here c.args.node g.P.Port.sends g.P.Port.receives c.args.port.now c.args.event c.args.seat.now c.ask.new.seat (Err c.in-Err.field-0) tt c.in-Err.ensures.answer
 
 pub returns-in-Err-packet_of-clause-moved : goal.returns-in-Err-packet_of-clause-moved
 returns-in-Err-packet_of-clause-moved g c =
-    quiet_answer g.L.Tapes.plan c.args.host.now.here c.args.node g.P.Port.sends g.P.Port.receives c.args.port.now c.args.event c.args.seat.now c.ask.new.seat (Ok c.in-Ok.answer)
+    quiet_answer g.L.Tapes.plan g.L.Tapes.plan c.args.host.now.here c.args.node g.P.Port.sends g.P.Port.receives c.args.port.now c.args.event c.args.seat.now c.ask.new.seat (Ok c.in-Ok.answer)
     (gives_none c.args.event c.args.to c.in-Ok.answer c.requires c.in-Err-packet_of.ensures.err.0) c.in-Ok.ensures.answer
 
 pub returns-clause-moved : goal.returns-clause-moved

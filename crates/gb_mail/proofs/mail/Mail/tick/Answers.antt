@@ -11,5 +11,5 @@ invariant_of-self-clause-here g c =
 pub invariant_of-self-clause-mailed : goal.invariant_of-self-clause-mailed
 invariant_of-self-clause-mailed g c =
     let s = c.args.self.now in
-    moved_then g.L.Tapes.plan s.origin.node g.P.Port.sends g.P.Port.receives s.lost s.origin.port.value s.port s.port s.origin.seat.value.calls s.seat.calls c.ask.new.seat.calls s.mailed
-    (quiet_answer g.L.Tapes.plan s.host.now.here s.origin.node g.P.Port.sends g.P.Port.receives s.port events.Tick s.seat c.ask.new.seat c.ask.result (never events.Tick c.ask.result (λ _. refl)) c.ask.ensures.answer)
+    moved_then s.host.now.plan s.origin.node g.P.Port.sends g.P.Port.receives s.lost s.origin.port.value s.port s.port s.origin.seat.value.calls s.seat.calls c.ask.new.seat.calls s.mailed
+    (quiet_answer g.L.Tapes.plan s.host.now.plan s.host.now.here s.origin.node g.P.Port.sends g.P.Port.receives s.port events.Tick s.seat c.ask.new.seat c.ask.result (never events.Tick c.ask.result (λ _. refl)) c.ask.ensures.answer)
