@@ -1,8 +1,11 @@
 // Whole servers: what they print, and the replies to their clients.
+use crate::chat::{gives, joined};
 use crate::messages::{DENIED, OPEN};
 use crate::runs::{KEYS, run_server};
 use crate::socket_clients::{MALFORMED, address, leaves, told};
+use gb_session::Head;
 use gb_spelling::number::read_number;
+use gb_types::NodeId;
 use std::alloc::Global;
 use std::fs::{File, Files};
 use std::net::{Net, TcpListener, TcpStream, UdpSocket};
@@ -154,6 +157,17 @@ static WITH_TAPES: [&str; 8] = [
     "1",
 ];
 
+// A tenant's row, for which its reply is wanted.
+static TENANT: [(Head, &str, &str); 1] = [(Head::Tenant, "7 24 100 4096 100", "ok")];
+
+// Returns true if a node of the server with tapes takes a tenant's row, by a request with the administrator's token.
+fn adds_tenant<H: Net<Stream = TcpStream> + Clock>(rt: &H, alloc: Global, node: u8) -> bool {
+    match joined(rt, 28_750, NodeId::new(node)) {
+        Ok(mut member) => matches!(gives(alloc, &mut member, &TENANT), Ok(true)),
+        Err(_) => false,
+    }
+}
+
 // A server with tapes merges them at its end. The clients' requests are among the events, so there are two at least.
 #[test]
 fn what_was_done_is_merged(rt: HostRuntime) {
@@ -163,8 +177,8 @@ fn what_was_done_is_merged(rt: HostRuntime) {
         || run_server(&rt, alloc, &WITH_TAPES, KEYS),
         || thread::join(
             &rt,
-            || is_told(&rt, alloc, 28_814, OPEN, DENIED),
-            || is_told(&rt, alloc, 28_815, OPEN, DENIED),
+            || adds_tenant(&rt, alloc, 0),
+            || adds_tenant(&rt, alloc, 1),
         ),
     );
     let count = merged(&run.lines, b"serving 2 nodes from port 28750\n").unwrap_or(0);
