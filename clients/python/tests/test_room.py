@@ -1207,9 +1207,14 @@ class ThreadTests(Heard):
 
         def play(node: int) -> None:
             try:
-                room = Room(cluster.clients(), 7, 1, SPEC, node=node)
+                room = Room(cluster.clients(), 7, 1, SPEC, node=node, patience=1.0)
                 for number in range(60):
-                    room.say(f"{node}-{number}".encode())
+                    while True:
+                        try:
+                            room.say(f"{node}-{number}".encode())
+                            break
+                        except NoRoom:  # What waits to be shown holds up its generation.
+                            heard[node] += list(room.follow(idle=0))
                     if number % 5 == node:
                         heard[node] += list(room.follow(idle=0))
                 while not is_over.is_set():

@@ -386,11 +386,19 @@ class RoomTests(unittest.TestCase):
 
             def play(node: int) -> None:
                 try:
-                    room = Room(server.clients(), 7, 1, self.SPEC, node=node)
+                    room = Room(server.clients(), 7, 1, self.SPEC, node=node, patience=5.0)
                     for number in range(count):
-                        room.say(str(number).encode())
+                        while True:
+                            try:
+                                room.say(str(number).encode())
+                                break
+                            except NoRoom:  # What waits to be shown holds up its generation.
+                                heard[node] += list(room.follow(idle=0))
                         if number % 8 == 0:
                             heard[node] += list(room.follow(idle=0))
+                    end = time.monotonic() + 120
+                    while len(heard[node]) < 3 * count and time.monotonic() < end:
+                        heard[node] += list(room.follow(idle=0.2))
                     heard[node] += list(room.follow(idle=2.0))
                 except BaseException as error:
                     errors.append(error)
