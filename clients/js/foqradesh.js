@@ -43,7 +43,7 @@ const PHASES = Object.freeze(["made", "open", "shut", "dropped"]);
 export class FoqradeshError extends Error {
   /**
    * @param {string} message
-   * @param {ErrorOptions} options
+   * @param {ErrorOptions} [options]
    */
   constructor(message, options) {
     super(message, options);
@@ -117,7 +117,7 @@ export class Unanswered extends FoqradeshError {
   /**
    * @param {string} message
    * @param {boolean} isUnknown
-   * @param {ErrorOptions} options
+   * @param {ErrorOptions} [options]
    */
   constructor(message, isUnknown, options) {
     super(message, options);
@@ -147,7 +147,7 @@ export class UnknownOutcome extends Unanswered {
   /**
    * @param {string} message
    * @param {number | null} said
-   * @param {ErrorOptions} options
+   * @param {ErrorOptions} [options]
    */
   constructor(message, said, options) {
     super(message, true, options);
