@@ -3,7 +3,7 @@
 import { Denied, Room, Session, Tokens, Unanswered, UnknownOutcome, textOf } from "./foqradesh.js";
 
 const $ = (id) => document.getElementById(id);
-const words = new URLSearchParams(location.search);
+const words = new URLSearchParams(location.hash.slice(1));
 const number = (name) => Number(words.get(name));
 const own = { name: "", node: number("node") };
 const waits = new Set(); // what was said here and is not in the log yet: { text, state, named }
@@ -90,7 +90,7 @@ $("join").addEventListener("submit", (event) => {
   event.preventDefault();
   own.name = $("name").value.trim();
   const url = new URL("session", location.href.replace(/^http/, "ws"));
-  url.search = "";
+  url.hash = "";
   const session = new Session({ url: url.href }, new Tokens({ member: $("token").value.trim(), node: own.node }), { seconds: 10, onConnection: connected });
   const spec = { kind: words.get("kind"), members: words.get("members").split(",").map(Number), messages: number("messages"), bytes: number("bytes"), window: number("window") };
   room = new Room({ [own.node]: session }, number("tenant"), number("room"), spec, { node: own.node, isGuest: true });

@@ -20,7 +20,6 @@ import subprocess
 import sys
 import tempfile
 import time
-import urllib.parse
 import urllib.request
 
 TOP = os.path.dirname(os.path.dirname(os.path.dirname(os.path.abspath(__file__))))
@@ -99,10 +98,12 @@ class Browser:
         os.set_blocking(self.process.stderr.fileno(), False)
 
     def page(self, url):
-        request = urllib.request.Request(f"http://127.0.0.1:{self.port}/json/new?{urllib.parse.quote(url, safe="")}", method="PUT")
+        request = urllib.request.Request(f"http://127.0.0.1:{self.port}/json/new?about:blank", method="PUT")
         with urllib.request.urlopen(request, timeout=TIME) as answer:
             target = json.load(answer)
-        return Page(self.port, target["webSocketDebuggerUrl"].split(str(self.port), 1)[1])
+        page = Page(self.port, target["webSocketDebuggerUrl"].split(str(self.port), 1)[1])
+        page.call("Page.navigate", url=url)
+        return page
 
     def close(self):
         self.process.kill()
@@ -193,7 +194,7 @@ def join(page, name, node):
 
 
 def start_server(stack, path, port):
-    words = [path, "--nodes", str(NODES), "--base-port", str(port), "--quiet"]
+    words = [path, "--nodes", str(NODES), "--version", "3", "--base-port", str(port), "--quiet"]
     process = subprocess.Popen(words, stdin=subprocess.PIPE, stdout=subprocess.PIPE, text=True)
     stack.callback(process.wait)
     stack.callback(process.kill)
@@ -231,7 +232,7 @@ def address(port, node):
     """The address of the page of a node's member, which has the room."""
     members = ",".join(map(str, SPEC.members))
     room = f"tenant={TENANT}&room={GROUP}&node={node}&kind={SPEC.kind}&members={members}&messages={SPEC.messages}&bytes={SPEC.bytes}&window={SPEC.window}"
-    return f"http://127.0.0.1:{port + 80 + node}/?{room}"
+    return f"http://127.0.0.1:{port + 80 + node}/#{room}"
 
 
 def check_labels(page):
