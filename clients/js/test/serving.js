@@ -3,6 +3,7 @@ import { spawn } from "node:child_process";
 import { once } from "node:events";
 import { existsSync } from "node:fs";
 import net from "node:net";
+import { basename } from "node:path";
 import { fileURLToPath } from "node:url";
 import { Keys, Session } from "../foqradesh.js";
 
@@ -38,11 +39,13 @@ async function start(context, path, words, input) {
   return firstLine(program);
 }
 
-let ports = Number(process.env.BASE_PORT ?? 28_400);
+// Each test file has 16 ports for nodes, and each server of it four: its sessions are at 64 ports above them, and its doors at 128.
+const files = ["session.test.js", "room.test.js", "readme.test.js"];
+let ports = Number(process.env.GB_PORT ?? 28_400) + 16 * files.indexOf(basename(process.argv[1])) - 4;
 
 /** Returns the base port of a server for this test alone. */
 export function freePorts() {
-  ports += 120;
+  ports += 4;
   return ports;
 }
 
@@ -56,7 +59,7 @@ export async function serve(context, nodes, ...words) {
 
 /** Starts a door before a node, and returns the address of its sessions. */
 export async function door(context, port, node) {
-  const listen = `127.0.0.1:${port + 80 + node}`;
+  const listen = `127.0.0.1:${port + 128 + node}`;
   const line = await start(context, programs.web, ["--listen", listen, "--node", `127.0.0.1:${port + 64 + node}`]);
   if (!line.startsWith("serving")) throw new Error(line);
   return { url: `ws://${listen}/session` };
