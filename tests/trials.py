@@ -108,6 +108,13 @@ def has_chromium() -> Optional[str]:
     return None if chromium() else "Chromium is not installed"
 
 
+def has_node() -> Optional[str]:
+    """Return why there is no Node with WebSocket, or None."""
+    found = subprocess.run(["node", "--experimental-websocket", "-e", "process.exit(typeof WebSocket === 'function' ? 0 : 1)"],
+                           stdin=subprocess.DEVNULL, stdout=subprocess.DEVNULL, stderr=subprocess.DEVNULL, check=False) if shutil.which("node") else None
+    return None if found and found.returncode == 0 else "a Node with WebSocket, 20.10 or later, is not installed"
+
+
 def has_environments() -> Optional[str]:
     """Return why this Python makes no environments with pip, or None."""
     return None if importlib.util.find_spec("ensurepip") and importlib.util.find_spec("venv") else "Python's ensurepip or venv is not installed"
@@ -160,6 +167,17 @@ TRIALS = (
           ("{python}", "{top}/bench/doors.py", "--port", "{port}"), programs=["gb_serve", "gb_web"], seconds=10),
     Trial("page", "the chat page in headless Chromium", ("{python}", "{top}/examples/chat/test_chat.py", "--port", "{port}"),
           programs=["gb_serve", "gb_web"], needs=[has_chromium], seconds=30, variables={"CHROMIUM": chromium() or "chromium"}),
+    Trial("look", "gb_serve built without proof: a chat of three members", ("{top}/examples/look.sh", "{port}"), needs=[command("rt")],
+          seconds=70, limit=900),
+    Trial("notifications", "gb_serve and the Python package: one writer and many readers",
+          ("{python}", "{top}/examples/notifications.py", "{port}", "{gb_serve}"), programs=["gb_serve"], seconds=3, limit=120),
+    Trial("replicated-map", "gb_serve and the Python package: a map that each replica has alike, in a room that goes on",
+          ("{python}", "{top}/examples/replicated_map.py", "{port}", "{gb_serve}"), programs=["gb_serve"], seconds=5, limit=120),
+    Trial("javascript", "the tests of the JavaScript client, against gb_serve and gb_web",
+          ("npm", "--offline", "--cache", "{room}/cache", "test", "--prefix", "{top}/clients/js"), programs=["gb_serve", "gb_web"],
+          needs=[command("npm"), has_node], seconds=10, variables=SERVED, bad="# SKIP"),
+    Trial("javascript-types", "the types of the JavaScript client, by tsc", ("tsc", "-p", "{top}/clients/js"), needs=[command("tsc")],
+          seconds=10),
     Trial("package", "the Python package installed by pip in an environment of its own, without an index", ("sh", "-ec", INSTALLED),
           needs=[has_environments], seconds=20),
     Trial("trials", "this runner", ("{python}", "{top}/tests/test_trials.py", "-v"), seconds=10, limit=120),
