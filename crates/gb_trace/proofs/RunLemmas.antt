@@ -320,13 +320,13 @@ next_is law v w e event (Sent (SentPacket text)) before rest goal turned = by ev
     to b is = (refl, record { to = b; text = text }, numbered_next before rest (record { to = b; text = text }), is)
 
     by : (x : NodeEvent) → goal_of e ≡ receiver_of x → Sends x → IsNext ((before ++ posted x (Sent (SentPacket text))) ++ rest) (length before) e (AnswerSent (SendingPacket (length before + 1)))
-    by (Pack b) is yes = to b is
-    by (Again b k) is yes = to b is
-    by (Ack b) is yes = to b is
-    by (Asked request) is no = absurd no
-    by (Came bytes) is no = absurd no
-    by Tick is no = absurd no
-    by Stop is no = absurd no
+    by (Pack b) is sends = to b is
+    by (Again b k) is sends = to b is
+    by (Ack b) is sends = to b is
+    by (Asked request) is never = absurd never
+    by (Came bytes) is never = absurd never
+    by Tick is never = absurd never
+    by Stop is never = absurd never
 
 acts_named : SendersRun → (v w : ClusterValue) (e : Event) (a : Answer) (at : NodeId) (event : NodeEvent) (own : NodeAnswer) → goal_of e ≡ receiver_of event → NodeActs v at event own w → a ≡ answer_of (length v.packets) own → IsNamed v e a w
 acts_named law v w e a at event own goal acts answered = record {
