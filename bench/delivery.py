@@ -7,8 +7,7 @@ while other tenants flood, the group itself goes on talking, and packets of all 
 
 - as long as something of a group waits at a node for another node, the packets between them hold at most one item more of each other group;
 - they hold fewer items in all than groups that have items in them, times one more than the items of this group;
-- after a round trip of a link all is acknowledged that was packed before it, and in it a number of frames are packed, or nothing of the group waits;
-- as many frames as the items of a group that waited, times the groups that have items in them, and a round trip more, are a phase;
+- a round trip of a link is a round, and enough rounds are a phase, as docs/THEOREM.md, "Delivery", counts them;
 - after one phase, or two with all-ack and majority-ack, the logs of the running members hold what had been accepted at them, and, but for best effort,
   what had been in their logs; with all-ack and majority-ack also what had been in the logs of members that stopped.
 
