@@ -1,5 +1,5 @@
 #!/usr/bin/env python3
-"""Random runs of clusters, and the laws of delivery in each of them: delivery.py [RUNS [SEED]] [--programs DIR]
+"""Random runs of clusters, and the laws of delivery in each of them: delivery.py [RUNS [SEED]]
 
 There are 200 runs from seed 1 on, if not given otherwise. bench/rooms_reference.py answers each event. A run has 2 to 5 nodes and some tenants whose
 groups send to each other; packets are lost, repeated and late; nodes stop. Then come round trips of the links between the running members of one group,
@@ -11,7 +11,7 @@ while other tenants flood, the group itself goes on talking, and packets of all 
 - after one phase, or two with all-ack and majority-ack, the logs of the running members hold what had been accepted at them, and, but for best effort,
   what had been in their logs; with all-ack and majority-ack also what had been in the logs of members that stopped.
 
-With --programs DIR/gb_sim answers each run too, and its answers are compared. Printed is how often each thing was seen; the status is 1 where one was not so.
+Where SIM names a built gb_sim, it answers each run too, and its answers are compared. Printed is how often each thing was seen; the status is 1 where one was not so.
 """
 import argparse
 import collections
@@ -302,11 +302,11 @@ def compared(program, run):
 
 
 def main():
-    parser = argparse.ArgumentParser(usage='%(prog)s [RUNS [SEED]] [--programs DIR]')
+    parser = argparse.ArgumentParser(usage='%(prog)s [RUNS [SEED]]')
     parser.add_argument('runs', nargs='?', type=int, default=200)
     parser.add_argument('seed', nargs='?', type=int, default=1)
-    parser.add_argument('--programs')
     words = parser.parse_args()
+    program = os.environ.get('SIM')
     seen, unlike = collections.Counter(), 0
     for seed in range(words.seed, words.seed + words.runs):
         try:
@@ -314,8 +314,8 @@ def main():
             run.start()
             run.life()
             run.deliver()
-            if words.programs:
-                compared(os.path.join(words.programs, 'gb_sim'), run)
+            if program:
+                compared(program, run)
             seen['events'] += len(run.lines)
         except Unlike as why:
             unlike += 1

@@ -156,6 +156,8 @@ TRIALS = (
           ("{top}/examples/check.sh", "{gb_sim}"), programs=["gb_sim"], seconds=10),
     Trial("rooms", "300 random schedules of rooms, by gb_sim and by a slow reference",
           ("{python}", "{top}/bench/rooms.py"), programs=["gb_sim"], seconds=40),
+    Trial("delivery", "the laws of delivery in 200 random runs, by gb_sim and by a slow reference",
+          ("{python}", "{top}/bench/delivery.py"), programs=["gb_sim"], seconds=40),
     Trial("vectors", "the packets of docs/FORMATS.md, written anew", ("{python}", "{top}/bench/vectors.py", "--check"), seconds=1, limit=60),
     Trial("vectors-read", "the same packets, read by gb_sim", ("{python}", "{top}/bench/vectors.py", "--ask", "{gb_sim}"),
           programs=["gb_sim"], seconds=1, limit=60),
