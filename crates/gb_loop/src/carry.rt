@@ -205,7 +205,7 @@ impl<'a, L: Tapes, H: Wait + Clock, P: Port, S: Settle + Copy> NodeLoop<'a, L, H
             || self.has_clients
             || !self.listed.is_empty()
             || self.is_dirty
-            || self.mail.is_touched
+            || self.mail.is_touched()
         {
             return 0;
         }

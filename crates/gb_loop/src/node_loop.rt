@@ -22,7 +22,6 @@ use std::io;
 use std::net::Net;
 use std::os::fd::RawFd;
 use std::sync::Wait;
-use std::sync::atomic::Ordering;
 use std::time::{Clock, Duration};
 
 /// The bytes that one read takes at most.
@@ -226,7 +225,7 @@ impl<'a, L: Tapes, H: Wait + Clock, P: Port, S: Settle + Copy> NodeLoop<'a, L, H
         if self.next_tick <= self.now {
             self.tick();
         }
-        if self.mail.is_touched {
+        if self.mail.is_touched() {
             self.wake_touched();
         }
         if self.is_dirty {
@@ -245,7 +244,7 @@ impl<'a, L: Tapes, H: Wait + Clock, P: Port, S: Settle + Copy> NodeLoop<'a, L, H
         self.hear_all(events);
         self.work(poll);
         let _ = self.settle.settle();
-        if self.mail.ends.load(Ordering::SeqCst) {
+        if self.mail.is_end_asked() {
             ending.asked();
         }
         if self.has_ticked {
@@ -293,7 +292,7 @@ impl<'a, L: Tapes, H: Wait + Clock, P: Port, S: Settle + Copy> NodeLoop<'a, L, H
     fn into_parts(self) -> Parts<L, P>
         ensures node { result.node ≡ self.entry.mail.origin.node }
         ensures here { ∥ HasCalled result.node self.entry.mail.origin.seat.value.calls result.seat.calls ∥₁ }
-        ensures mailed { ∥ HasMailed P.sends P.receives result.lost self.entry.mail.origin.port.value result.port self.entry.mail.origin.seat.value.calls result.seat.calls ∥₁ }
+        ensures mailed { ∥ HasMailed L.plan result.node P.sends P.receives 0 result.lost self.entry.mail.origin.port.value result.port self.entry.mail.origin.seat.value.calls result.seat.calls ∥₁ }
     {
         let NodeLoop {
             rt: _,
@@ -345,7 +344,7 @@ pub fn run_loop<L: Tapes, H: Wait + Clock, N: Net, P: Port, S: Settle + Copy, E:
 ) -> Parts<L, P>
     ensures node { result.node ≡ sockets.node }
     ensures here { ∥ HasCalled sockets.node seat.calls result.seat.calls ∥₁ }
-    ensures mailed { ∥ HasMailed P.sends P.receives result.lost sockets.port result.port seat.calls result.seat.calls ∥₁ }
+    ensures mailed { ∥ HasMailed L.plan sockets.node P.sends P.receives 0 result.lost sockets.port result.port seat.calls result.seat.calls ∥₁ }
 {
     let LoopSockets {
         node,

@@ -20,10 +20,13 @@ use std::time::{Clock, Duration};
 /// How many connections a round accepts at most.
 pub const ACCEPTS: usize = 64;
 
+/// How many groups that requests changed have their waiting connections tried again at a time.
+pub const GROUPS: usize = 1_024;
+
 /// The bytes of replies that a turn makes before they are written.
 pub const ROOM: usize = 65_536;
 
-const _: () = prove!(ROOM == 65_536 && ACCEPTS == 64);
+const _: () = prove!(ROOM == 65_536 && ACCEPTS == 64 && GROUPS == 1_024);
 
 // A turn that reads, one that looks again at what came before, one that answers the message in front as late, and the last turn.
 const READS: Way = Way {
@@ -252,7 +255,7 @@ impl<'a, L: Tapes, H: Wait + Clock, P: Port, S: Settle + Copy> NodeLoop<'a, L, H
             }
             Some(Turn::Took(step, count)) => self.note(key, step, way.reads, count),
         };
-        self.is_dirty = self.is_dirty || self.mail.is_touched;
+        self.is_dirty = self.is_dirty || self.mail.is_touched();
         is_more
     }
 
@@ -396,9 +399,11 @@ impl<'a, L: Tapes, H: Wait + Clock, P: Port, S: Settle + Copy> NodeLoop<'a, L, H
             self.mail.forget_touched();
             return;
         }
-        let touched = self.mail.take_touched(self.alloc);
-        'groups: for address in &touched {
-            self.wake(*address);
+        'groups: for _ in 0..GROUPS {
+            let Some(address) = self.mail.next_touched() else {
+                return;
+            };
+            self.wake(address);
         }
     }
 
@@ -429,7 +434,7 @@ impl<'a, L: Tapes, H: Wait + Clock, P: Port, S: Settle + Copy> NodeLoop<'a, L, H
             if self.look_once(*key) {
                 self.list(*key);
             }
-            if self.mail.is_touched {
+            if self.mail.is_touched() {
                 self.wake_touched();
             }
         }

@@ -13,6 +13,8 @@ mod clients;
 #[cfg(test)]
 mod crowds;
 #[cfg(test)]
+mod denied;
+#[cfg(test)]
 mod fullest;
 #[cfg(test)]
 mod limits;

@@ -1,3 +1,4 @@
 pub mod AskedLemmas
 pub mod FailedLemmas
 pub mod MailLemmas
+pub mod PacketLemmas
