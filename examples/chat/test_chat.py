@@ -204,8 +204,16 @@ def start_server(stack, path, port):
         raise RuntimeError("gb_serve does not serve")
 
 
-def start_door(stack, path, port, node):
-    words = [path, "--listen", f"127.0.0.1:{port + 80 + node}", "--node", f"127.0.0.1:{port + 64 + node}", "--page", os.path.join(TOP, "examples", "chat")]
+def page_folder(stack):
+    """Returns a folder with the page and the module that it imports."""
+    folder = stack.enter_context(tempfile.TemporaryDirectory())
+    for path in ("examples/chat/index.html", "examples/chat/page.js", "examples/chat/page.css", "clients/js/foqradesh.js"):
+        shutil.copy(os.path.join(TOP, path), folder)
+    return folder
+
+
+def start_door(stack, path, port, node, folder):
+    words = [path, "--listen", f"127.0.0.1:{port + 80 + node}", "--node", f"127.0.0.1:{port + 64 + node}", "--page", folder]
     process = subprocess.Popen(words, stdout=subprocess.PIPE, text=True)
     stack.callback(process.wait)
     stack.callback(process.kill)
@@ -276,7 +284,8 @@ def main():
         start_server(stack, serve, words.port)
         clients = take_in(stack, words.port)
         make_generation(clients, 0)
-        doors = [start_door(stack, web, words.port, node) for node in range(NODES)]
+        folder = page_folder(stack)
+        doors = [start_door(stack, web, words.port, node, folder) for node in range(NODES)]
         browser = Browser(chromium)
         stack.callback(browser.close)
         pages = []
@@ -294,7 +303,7 @@ def main():
         pages[1].type("said meanwhile")
         pages[1].enter()
         wait("what was said waits", lambda: "waits for a connection" in pages[1].value("document.getElementById('waits').textContent"))
-        start_door(stack, web, words.port, 1)
+        start_door(stack, web, words.port, 1, folder)
         for page, name in zip(pages, NAMES):
             wait(f"{name} sees it once the door is back", lambda page=page: "Grace: said meanwhile" in lines(page))
         if words.picture:
