@@ -463,7 +463,7 @@ def print_not_served(bench):
     head('It does not serve', 'Requests', '`host fault 5`', 'as if none')
     for what, words, given, expected in (
             ('refused words', ['--nodes', 'x'], keys, Ended(['refused words'], 2)),
-            ('17 nodes with version 1', ['--nodes', '17', *good[2:]], keys, Ended(['refused words'], 2)),
+            ('17 nodes with version 1', ['--nodes', '17', '--version', '1', *good[2:]], keys, Ended(['refused words'], 2)),
             ('help', ['--help'], keys, helped),
             ('bad keys', good, keys[1:], Ended(['bad keys'], 1))):
         most, found = not_served(bench, words, given, expected)

@@ -20,7 +20,7 @@ TEXTS = ("hello", "hi there", "good morning")
 
 def serve(program, port, cluster_key, admin_key):
     """Start a server whose nodes each serve one connection and then end."""
-    words = ["--nodes", "3", "--version", "2", "--base-port", str(port), "--sessions", "1"]
+    words = ["--nodes", "3", "--version", "3", "--base-port", str(port), "--sessions", "1"]
     server = subprocess.Popen([program, *words], stdin=subprocess.PIPE, stdout=subprocess.PIPE, text=True)
     server.stdin.write(f"{cluster_key.hex()}\n{admin_key.hex()}\n")
     server.stdin.close()

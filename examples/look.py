@@ -4,10 +4,9 @@ something, and prints each member's log. It needs Python 3.9 and the command rt 
 
     look.sh [PORT]     the nodes' ports begin at PORT, 24000 if it is not given
 
-Status 0: each member has every message; 1: not, or no node answered within five minutes.
+Status 0: each member has every message; 1: not, or no node answered within ten minutes.
 """
 import os
-import signal
 import socket
 import subprocess
 import sys
@@ -17,7 +16,7 @@ import time
 from client import GROUP, MEMBERS, TENANT, TEXTS, TOP, chat
 from foqradesh import Client, Group, Keys, Spec, node_address
 
-PATIENCE = 300  # seconds until a node answers: the build comes first
+PATIENCE = 600  # seconds until a node answers: the build comes first
 UNPROVED = """
 This gb_serve was built without proof. Nothing is promised of it.
     ./install      proves and builds all programs into bin/, in half an hour or more
@@ -25,10 +24,10 @@ This gb_serve was built without proof. Nothing is promised of it.
 
 
 def start(port, keys):
-    """Start a server of three nodes in a process group of its own."""
+    """Start a server of three nodes, which ends with the rt that built it."""
     words = ["rt", "try", "--seconds", "3600", "--", "--nodes", "3", "--version", "3", "--base-port", str(port)]
     return subprocess.Popen(
-        words, cwd=os.path.join(TOP, "crates", "gb_serve"), stdin=keys, stdout=subprocess.DEVNULL, stderr=subprocess.PIPE, start_new_session=True
+        words, cwd=os.path.join(TOP, "crates", "gb_serve"), stdin=keys, stdout=subprocess.DEVNULL, stderr=subprocess.PIPE
     )
 
 
@@ -44,6 +43,13 @@ def wait_for(server, port):
     return False
 
 
+def end(server):
+    """Have rt end, with what it started."""
+    if server.poll() is None:
+        server.terminate()
+        server.wait(timeout=60)
+
+
 def look(port):
     """Build, start, chat and stop. Returns the status."""
     cluster_key, admin_key, tenant_key = (os.urandom(32) for _ in range(3))
@@ -54,7 +60,7 @@ def look(port):
         server = start(port, keys)
     try:
         if not wait_for(server, port):
-            os.killpg(server.pid, signal.SIGKILL)
+            end(server)
             print(server.stderr.read().decode("utf-8", "replace"), end="")
             print("no node answers")
             return 1
@@ -70,10 +76,7 @@ def look(port):
         print(UNPROVED, end="")
         return 0 if logs == [list(zip(MEMBERS, TEXTS))] * 3 else 1
     finally:
-        try:
-            os.killpg(server.pid, signal.SIGKILL)
-        except ProcessLookupError:
-            pass
+        end(server)
 
 
 def main(words):

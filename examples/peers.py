@@ -1,13 +1,14 @@
 #!/usr/bin/env python3
 """A cluster of three nodes and a spare, as four processes on loopback: what dies, is cut off, comes back, and is sent again.
 
-    peers.sh [PORT [SECONDS]]
+    peers.sh [PORT [SECONDS [PASS]]]
 
 Every packet goes through a relay (relay.py) that can lose, repeat, reorder, part, capture and replay. Node 3 is the spare: it serves
-from the start, and is in no group until a node dies. The walk has two passes, the second with a network that loses, repeats and reorders
-5 percent each. In each pass a run of the cluster goes through all that can happen to it, and the next run begins from nothing. After
-each stage all logs are fetched and compared: each message stands once, as it was said; where the kind keeps the order it is kept; no
-message of a running member is missing at another; and all running members have the same messages.
+from the start, and is in no group until a node dies. The walk has two passes, `whole` and `lossy`, the second with a network that loses,
+repeats and reorders 5 percent each; PASS is one of them, both if not given. In each pass a run of the cluster goes through all that can
+happen to it, and the next run begins from nothing. After each stage all logs are fetched and compared: each message stands once, as it
+was said; where the kind keeps the order it is kept; no message of a running member is missing at another; and all running members have
+the same messages.
 
 A step prints one line. The walk ends with status 0 and `closed`, or with status 1 at the first thing that is not so, with the reason. All
 processes end with it. PORT, 24000 if not given, and 250 ports above it are used. SECONDS, 3 if not given and 2 to 20, is the silence after
@@ -39,11 +40,14 @@ from relay import Relay  # noqa: E402
 NODES = (0, 1, 2, 3)
 TENANT = 7
 TICK = 50  # milliseconds
-LIMIT = 40.0
+LIMIT = 90.0
 """How long a stage may take, in seconds."""
 
 KINDS = ("fallack", "flazy", "eager", "fmajority")
 """The kinds of the groups that each stage speaks in; the first is the all-ack one."""
+
+PASSES = {"whole": (7, 0), "lossy": (9, 5)}
+"""The first of the two runs of each pass, and how many percent of the packets are lost, are repeated and are reordered."""
 
 Message = Tuple[int, int]
 """The node that said it, and its number."""
@@ -214,7 +218,7 @@ class Cluster:
 
     def file_of(self, node: int, run: int) -> str:
         """Return the cluster file of a node. The files of all nodes differ in addresses alone."""
-        lines = [f"run = {run}", f"tick = {TICK}", f"silence = {self.silence * 1000 // TICK}", "version = 2"]
+        lines = [f"run = {run}", f"tick = {TICK}", f"silence = {self.silence * 1000 // TICK}", "version = 3"]
         for other in NODES:
             packets = self.port + node if other == node else self.relay.port(node, other)
             lines += ["", "[[node]]", f'packets = "127.0.0.1:{packets}"']
@@ -701,8 +705,8 @@ def end_by_signal(number: int, _: object) -> None:
 
 def main(words: Sequence[str]) -> int:
     """Return the status: 0, 1 at the first thing that is not so, or 2 for wrong words or a missing program."""
-    port, silence = (*words, *("24000", "3")[len(words) :])[:2]
-    if len(words) > 2 or not (port + silence).isdecimal() or not (1024 <= int(port) <= 65_000 and 2 <= int(silence) <= 20):
+    port, silence, only = (*words, *("24000", "3", "")[len(words) :])[:3]
+    if len(words) > 3 or not (port + silence).isdecimal() or not (1024 <= int(port) <= 65_000 and 2 <= int(silence) <= 20) or only not in ("", *PASSES):
         print(__doc__)
         return 2
     programs = []
@@ -721,9 +725,11 @@ def main(words: Sequence[str]) -> int:
             print(f"peers.sh: the relay cannot have its ports: {error}", file=sys.stderr)
             return 1
         try:
-            walk(cluster, 7, 0)
-            tell("the same with a network that loses, repeats and reorders 5 percent each")
-            walk(cluster, 9, 5)
+            for name in [only] if only else PASSES:
+                first_run, percent = PASSES[name]
+                if percent > 0:
+                    tell(f"a network that loses, repeats and reorders {percent} percent each")
+                walk(cluster, first_run, percent)
             tell(f"the relay: {cluster.order('counts')}")
         except (Wrong, FoqradeshError, OSError, subprocess.SubprocessError) as error:
             print(f"peers.sh: {error}", file=sys.stderr)

@@ -35,7 +35,7 @@ NODES = (0, 1, 2)
 KILLED = 2
 TENANT = 7
 KINDS = ("fallack", "eager")
-LIMIT = 40.0
+LIMIT = 90.0
 
 
 class Wrong(Exception):
@@ -75,7 +75,7 @@ class Cluster:
     def start(self, run: int, node: int, most: Optional[int] = None) -> None:
         """Start a node, of whose files none may have more bytes than these."""
         path = os.path.join(self.folder, f"run-{run}.toml")
-        lines = [f"run = {run}", "tick = 20", "silence = 100", "version = 2"]
+        lines = [f"run = {run}", "tick = 20", "silence = 250", "version = 3"]
         for other in NODES:
             lines += ["", "[[node]]", f'packets = "127.0.0.1:{self.port + other}"', f'sessions = "127.0.0.1:{self.port + 64 + other}"']
         with open(path, "w", encoding="ascii") as file:
@@ -114,7 +114,12 @@ class Cluster:
     def client(self, node: int) -> Client:
         """Return a client of a node."""
         keys = Keys(node, admin=self.admin_key, tenants={TENANT: self.tenant_key})
-        return Client(("127.0.0.1", self.port + 64 + node), keys, time_limit=10.0)
+        return Client(("127.0.0.1", self.port + 64 + node), keys, time_limit=30.0)
+
+    def noticed(self, node: int) -> int:
+        """Return how many nodes a node has noticed."""
+        with self.client(node) as client:
+            return client.status()["nodes_noticed"]
 
     def make(self) -> None:
         """Take the tenant in at each node, and make and open a group of each kind."""
@@ -151,11 +156,14 @@ class Cluster:
 
 
 def load(cluster: Cluster, node: int, is_over: threading.Event, replies: Dict[int, int]) -> None:
-    """Say and fetch at a node, 8 requests ahead, until it is over or the node does not answer any more."""
+    """Say and fetch at a node, 8 requests ahead, until it is over or the node does not answer any more.
+
+    The pace keeps a load over the seconds until a killed node is noticed, and the records short enough for many audits.
+    """
     try:
         with cluster.client(node) as client:
             count = 0
-            while not is_over.is_set() and count < 900:
+            while not is_over.wait(0.08) and count < 240:
                 with client.pipeline() as ahead:
                     for _ in range(4):
                         count += 1
@@ -181,7 +189,7 @@ def run_killed(cluster: Cluster, run: int) -> None:
     cluster.kill(KILLED)
     said = dict(replies)
     wait_for("the others go on", lambda: all(replies[node] > said[node] + 40 for node in NODES if node != KILLED))
-    time.sleep(2.5)  # Node 2 is noticed.
+    wait_for(f"node {KILLED} is noticed", lambda: all(cluster.noticed(node) >= 1 for node in NODES if node != KILLED))
     is_over.set()
     for thread in threads:
         thread.join()

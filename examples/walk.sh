@@ -1,5 +1,5 @@
 #!/usr/bin/env bash
-# A walk through the service: starts a cluster of three nodes that send packets of version 2, takes in a tenant, makes a chat group
+# A walk through the service: starts a cluster of three nodes that send packets of version 3, takes in a tenant, makes a chat group
 # of all three, says something at each, reads the log at each, and stops the cluster. It runs gb_serve and gb_ctl, which `./install`
 # puts into bin/; SERVE and CTL name others. Word: the base port, 42000 if not given.
 set -euo pipefail
@@ -24,7 +24,7 @@ printf '%s\n%s\n' "$(key)" "$admin" >"$work/server.keys"
 printf 'admin %s\ntenant %s\n' "$admin" "$(key)" >"$work/client.keys"
 
 # Each node serves six connections, and each line of gb_ctl below is one; then the cluster stops by itself.
-"$serve" --nodes 3 --version 2 --base-port "$port" --sessions 6 <"$work/server.keys" >"$work/printed" &
+"$serve" --nodes 3 --version 3 --base-port "$port" --sessions 6 <"$work/server.keys" >"$work/printed" &
 server=$!
 for _ in {1..100}; do
     [ -s "$work/printed" ] && break

@@ -1,7 +1,8 @@
 #!/usr/bin/env python3
 """Tries the chat page in headless Chromium: a gb_serve of three nodes, a gb_web before each, and three pages in one first-in first-out
-all-ack group. It joins them with the keyboard alone, types in each, and looks that all three show the same; then it stops a door and
-starts it again. Status 0: all was as it should be; 1: something was not; 2: a program is not there.
+all-ack room. It joins them with the keyboard alone, types in each until the first generation is full, makes the next one, and looks that
+all three show the same; then it stops a door and starts it again. Status 0: all was as it should be; 1: something was not; 2: a program
+is not there.
 
     python3 examples/chat/test_chat.py [--port P] [--picture FILE]
 
@@ -23,10 +24,11 @@ import urllib.request
 
 TOP = os.path.dirname(os.path.dirname(os.path.dirname(os.path.abspath(__file__))))
 sys.path.insert(0, os.path.join(TOP, "clients", "python"))
-from foqradesh import Client, Group, Keys, Spec, member_token, node_address
+from foqradesh import Client, Generation, Group, Keys, Spec, member_token, node_address
 
 CLUSTER_KEY, ADMIN_KEY, TENANT_KEY = (bytes([byte] * 32) for byte in (0x11, 0x22, 0x33))
 TENANT, GROUP, NODES = 7, 1, 3
+SPEC = Spec("fallack", (0, 1, 2), messages=8, bytes=4096, window=8)  # Ada fills it: she joins, greets, and says five more
 NAMES = ("Ada", "Grace", "Edsger")
 TIME = 20  # seconds in which something has to be seen
 
@@ -96,10 +98,12 @@ class Browser:
         os.set_blocking(self.process.stderr.fileno(), False)
 
     def page(self, url):
-        request = urllib.request.Request(f"http://127.0.0.1:{self.port}/json/new?{url}", method="PUT")
+        request = urllib.request.Request(f"http://127.0.0.1:{self.port}/json/new?about:blank", method="PUT")
         with urllib.request.urlopen(request, timeout=TIME) as answer:
             target = json.load(answer)
-        return Page(self.port, target["webSocketDebuggerUrl"].split(str(self.port), 1)[1])
+        page = Page(self.port, target["webSocketDebuggerUrl"].split(str(self.port), 1)[1])
+        page.call("Page.navigate", url=url)
+        return page
 
     def close(self):
         self.process.kill()
@@ -180,7 +184,7 @@ def focused(page):
 def join(page, name, node):
     """Fills the form in, by the keyboard alone."""
     page.value("document.body.focus()")
-    for field, text in (("name", name), ("tenant", str(TENANT)), ("group", str(GROUP)), ("token", member_token(TENANT_KEY, TENANT, GROUP, node)), ("admin", Keys(node, admin=ADMIN_KEY).admin())):
+    for field, text in (("name", name), ("token", member_token(TENANT_KEY, TENANT, GROUP, node))):
         page.tab()
         if focused(page) != field:
             raise AssertionError(f"Tab leads to {focused(page)} and not to {field}")
@@ -190,7 +194,7 @@ def join(page, name, node):
 
 
 def start_server(stack, path, port):
-    words = [path, "--nodes", str(NODES), "--base-port", str(port), "--quiet"]
+    words = [path, "--nodes", str(NODES), "--version", "3", "--base-port", str(port), "--quiet"]
     process = subprocess.Popen(words, stdin=subprocess.PIPE, stdout=subprocess.PIPE, text=True)
     stack.callback(process.wait)
     stack.callback(process.kill)
@@ -200,8 +204,16 @@ def start_server(stack, path, port):
         raise RuntimeError("gb_serve does not serve")
 
 
-def start_door(stack, path, port, node):
-    words = [path, "--listen", f"127.0.0.1:{port + 80 + node}", "--node", f"127.0.0.1:{port + 64 + node}", "--page", os.path.join(TOP, "examples", "chat")]
+def page_folder(stack):
+    """Returns a folder with the page and the module that it imports."""
+    folder = stack.enter_context(tempfile.TemporaryDirectory())
+    for path in ("examples/chat/index.html", "examples/chat/page.js", "examples/chat/page.css", "clients/js/foqradesh.js"):
+        shutil.copy(os.path.join(TOP, path), folder)
+    return folder
+
+
+def start_door(stack, path, port, node, folder):
+    words = [path, "--listen", f"127.0.0.1:{port + 80 + node}", "--node", f"127.0.0.1:{port + 64 + node}", "--page", folder]
     process = subprocess.Popen(words, stdout=subprocess.PIPE, text=True)
     stack.callback(process.wait)
     stack.callback(process.kill)
@@ -211,12 +223,24 @@ def start_door(stack, path, port, node):
     return process
 
 
-def make_group(stack, port):
+def take_in(stack, port):
+    """Takes the tenant in at each node, and returns a client of each."""
     clients = {}
     for node in range(NODES):
         clients[node] = stack.enter_context(Client(node_address(port, node), Keys(node, admin=ADMIN_KEY, tenants={TENANT: TENANT_KEY})))
         clients[node].tenant(TENANT, TENANT_KEY, groups=4, messages=1000, bytes=65536, window=100)
-    Group(clients, TENANT, GROUP, Spec("fallack", (0, 1, 2), messages=1000, bytes=65536, window=100)).start()
+    return clients
+
+
+def make_generation(clients, generation):
+    Group(clients, TENANT, Generation(GROUP, generation), SPEC).start()
+
+
+def address(port, node):
+    """The address of the page of a node's member, which has the room."""
+    members = ",".join(map(str, SPEC.members))
+    room = f"tenant={TENANT}&room={GROUP}&node={node}&kind={SPEC.kind}&members={members}&messages={SPEC.messages}&bytes={SPEC.bytes}&window={SPEC.window}"
+    return f"http://127.0.0.1:{port + 80 + node}/#{room}"
 
 
 def check_labels(page):
@@ -226,8 +250,8 @@ def check_labels(page):
     assert page.value("document.getElementById('said').getAttribute('role') + document.getElementById('said').getAttribute('aria-live')") == "logpolite"
 
 
-def talk(pages):
-    """Each member says something, and each sees all of it, in the order of each member."""
+def talk(pages, clients):
+    """Each member says something, and each sees all of it, in the order of each member, also behind the end of a generation."""
     said = [f"{name}: hello from {name}" for name in NAMES]
     for page, name in zip(pages, NAMES):
         page.type(f"hello from {name}")
@@ -237,12 +261,15 @@ def talk(pages):
     for number in range(5):
         pages[0].type(f"{number} \N{GREEK SMALL LETTER ALPHA} <b>&amp;")
         pages[0].enter()
-    wanted = [f"Ada: {number} \N{GREEK SMALL LETTER ALPHA} <b>&amp;" for number in range(5)]
+    pages[0].type("more than the generation takes")
+    pages[0].enter()
+    wait("what no generation takes waits", lambda: "more than" in pages[0].value("document.getElementById('waits').textContent"))
+    make_generation(clients, 1)
+    wanted = [f"Ada: {number} \N{GREEK SMALL LETTER ALPHA} <b>&amp;" for number in range(5)] + ["Ada: more than the generation takes"]
     for page, name in zip(pages, NAMES):
-        wait(f"{name} sees five more, in their order", lambda page=page: [line for line in lines(page) if line in wanted] == wanted)
+        wait(f"{name} sees six more, in their order", lambda page=page: [line for line in lines(page) if line in wanted] == wanted)
         wait(f"nothing of {name} waits", lambda page=page: page.value("document.querySelectorAll('#waits li').length") == 0)
         wait(f"{name} sees who is there", lambda page=page: page.value("document.querySelectorAll('#there li').length") == NODES)
-        wait(f"{name} sees that no node was noticed", lambda page=page: page.value("document.getElementById('noticed').textContent").endswith(": 0"))
 
 
 def main():
@@ -255,26 +282,28 @@ def main():
     chromium = program("CHROMIUM", "chromium")
     with contextlib.ExitStack() as stack:
         start_server(stack, serve, words.port)
-        make_group(stack, words.port)
-        doors = [start_door(stack, web, words.port, node) for node in range(NODES)]
+        clients = take_in(stack, words.port)
+        make_generation(clients, 0)
+        folder = page_folder(stack)
+        doors = [start_door(stack, web, words.port, node, folder) for node in range(NODES)]
         browser = Browser(chromium)
         stack.callback(browser.close)
         pages = []
         for node, name in enumerate(NAMES):
-            page = browser.page(f"http://127.0.0.1:{words.port + 80 + node}/")
+            page = browser.page(address(words.port, node))
             pages.append(page)
             wait(f"the page of {name}", lambda page=page: is_loaded(page))
             page.call("Page.bringToFront")
             check_labels(page)
             join(page, name, node)
-        talk(pages)
+        talk(pages, clients)
         doors[1].kill()
         doors[1].wait()
         wait("a page without its door says so", lambda: "No connection" in pages[1].value("document.getElementById('state').textContent"))
         pages[1].type("said meanwhile")
         pages[1].enter()
         wait("what was said waits", lambda: "waits for a connection" in pages[1].value("document.getElementById('waits').textContent"))
-        start_door(stack, web, words.port, 1)
+        start_door(stack, web, words.port, 1, folder)
         for page, name in zip(pages, NAMES):
             wait(f"{name} sees it once the door is back", lambda page=page: "Grace: said meanwhile" in lines(page))
         if words.picture:

@@ -91,7 +91,7 @@ job "foqradesh" {
           change_mode = "noop"
           data        = <<EOF
 run = ${var.run}
-version = 2
+version = 3
 %{for machine in var.machines~}
 
 [[node]]

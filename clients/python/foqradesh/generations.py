@@ -240,11 +240,24 @@ class Nodes:
                 break
         return Found(greatest, living)
 
+    def between(self, known: int, started: int) -> Plan[List[int]]:
+        """Return the generations above `known` that live here, up to one that was started here.
+
+        `known` was the greatest here before other nodes were asked which is the newest. Others may
+        have made more of them here meanwhile, and can make none below the one that was started.
+        """
+        living: List[int] = []
+        for generation in range(max(known + 1, started - LOOKED_AT), started):
+            if (yield from self.look(self.node, generation)):
+                living.append(generation)
+        return [*living, started]
+
     def newest(self, known: int) -> Plan[int]:
         """Return the generation to be in, where `known` is the greatest that this node has made.
 
         It is the greatest that any node has made; the next one, if something was said in that and
-        this node has missed it. A node that cannot be asked is passed over.
+        this node has missed it. That is not so where it was made here while the others were asked.
+        A node that cannot be asked is passed over.
         """
         newest, is_missed = known, False
         for node in self.others():
@@ -256,7 +269,9 @@ class Nodes:
                 newest = greatest
             except (Unanswered, MissingToken, Denied):
                 continue
-        return newest + 1 if is_missed else newest
+        if is_missed and not (yield from self.look(self.node, newest)):
+            return newest + 1
+        return newest
 
     def _is_used(self, node: int, generation: int) -> Plan[bool]:
         """Return True if a message stands in a generation's log at a node, or it was dropped."""

@@ -8,6 +8,7 @@ socket, `aio` over asyncio.
 from __future__ import annotations
 
 import functools
+import math
 from dataclasses import dataclass
 from typing import Callable, Dict, Generator, Optional, Sequence, Tuple, Type, TypeVar, Union
 
@@ -73,6 +74,15 @@ Place = Tuple[int, GroupName, int]
 _NEVER_DONE = (TooLong, Budget, BytesSpent)
 # After a repetition these leave open whether it was done, and the log may tell.
 _LOG_MAY_TELL = (BadPlace, WrongPhase)
+
+
+def milliseconds(seconds: float) -> int:
+    """Return the least whole number of milliseconds that is no shorter than these seconds.
+
+    A wait that is cut down ends before its time, and its caller asks again for no wait at all.
+    Millionths of a millisecond are the fault of binary fractions, and do not count.
+    """
+    return math.ceil(round(seconds * 1000, 6))
 
 
 def address_of(tenant: int, group: GroupName) -> Address:
@@ -179,7 +189,7 @@ class Operations:
             (self._member(tenant, group), tenant, group, place, most)
             for tenant, group, place in places
         ]
-        body = requests.wait_body(named, int(seconds * 1000))
+        body = requests.wait_body(named, milliseconds(seconds))
         read = functools.partial(replies.read_found, mosts=(min(most, MOST_ENTRIES),) * len(named))
         return _expect((yield self._read(body, read, seconds)), Log)
 

@@ -209,7 +209,7 @@ class Reader:
                 yield from nodes.start(target, nodes.clock())
             except PASSING:
                 return
-            living = [target]
+            living = yield from nodes.between(max(greatest, self._last), target)
         for generation in living:
             self._add(generation)
 

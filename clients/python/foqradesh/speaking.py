@@ -131,8 +131,10 @@ class Speaker:
         newest = yield from nodes.newest(greatest)
         if newest > greatest or living[-1:] != [greatest]:
             target = newest if newest > greatest else greatest + 1
+            for generation in living:  # There may be no room for the next one until these are read.
+                yield from nodes.mark(generation, end)
             yield from nodes.start(target, end)
-            living.append(target)
+            living += yield from nodes.between(greatest, target)
         elif not (yield from self._is_started(greatest, end, len(living) > 1)):
             living.pop()
         for generation in living[:-1]:

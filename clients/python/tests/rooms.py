@@ -341,6 +341,7 @@ class Cluster:
                 self.lock.wait(end - self.clock())
             else:
                 self.sleep(max(0.0, min(end, self._soonest()) - self.now))
+                self.carry()  # What a test has planned may have let something travel.
         return look()
 
     # Clients.

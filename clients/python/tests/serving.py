@@ -19,6 +19,14 @@ CLUSTER_KEY = bytes([0x11]) * 32
 TOP = pathlib.Path(__file__).resolve().parents[3]
 
 
+def base_port(place: int) -> int:
+    """Return the base port of a test's servers, which have three nodes at most.
+
+    There is one for each place from 0 to 20, among the 128 ports from GB_PORT on, or from 31,000.
+    """
+    return int(os.environ.get("GB_PORT", "31000")) + 3 * place
+
+
 def program(name: str = "gb_serve") -> Optional[str]:
     """Return the path of a program: that of GB_SERVE or GB_SIM, or in bin/ of the repository.
 
@@ -31,7 +39,7 @@ def program(name: str = "gb_serve") -> Optional[str]:
 class Serving:
     """A server that runs as long as the context."""
 
-    def __init__(self, port: int, *options: str, nodes: int = 3, version: int = 2) -> None:
+    def __init__(self, port: int, *options: str, nodes: int = 3, version: int = 3) -> None:
         self.port = port
         self.nodes = nodes
         self.version = version
@@ -69,8 +77,8 @@ class Serving:
         assert self.process.stdout is not None
         self.process.stdout.close()
 
-    def client(self, node: int = 0, time_limit: float = 10.0) -> Client:
-        """Return a client of a node, which is closed at the end."""
+    def client(self, node: int = 0, time_limit: float = 60.0) -> Client:
+        """Return a client of a node, which is closed at the end. It waits long: machines are loaded."""
         client = Client(node_address(self.port, node), keys(node), time_limit=time_limit)
         return self._stack.enter_context(client)
 

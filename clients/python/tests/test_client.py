@@ -156,6 +156,25 @@ class WordTests(unittest.TestCase):
                 self.assertEqual(str(caught.exception), "refused 2 NoGroup")
             self.assertEqual(server.requests()[0], "await 7 1 0 16 7 2 3 16 500")
 
+    def test_a_wait_is_not_cut_down(self) -> None:
+        rows = (
+            (0, "0"),
+            (0.0001, "1"),
+            (0.001, "1"),
+            (0.1999, "200"),
+            (0.2, "200"),
+            (2.007, "2007"),  # A thousand of these are a little more than 2007.
+            (59.9999, "60000"),
+            (60, "60000"),
+        )
+        with FakeServer(replying(*["log 0"] * len(rows))) as server, client_of(server) as client:
+            for seconds, _ in rows:
+                client.wait([(7, 1, 0)], seconds=seconds)
+            asked = [body.split(" ")[-1] for body in server.requests()]
+            self.assertEqual(asked, [written for _, written in rows])
+            for seconds in (-0.001, 60.0001):
+                self.assertRaises(ValueError, client.wait, [(7, 1, 0)], seconds=seconds)
+
 
 class ConnectionTests(unittest.TestCase):
     """Connections that fail, and replies that are none."""

@@ -16,11 +16,11 @@ from foqradesh import Client, Entry, Secrets, admin_token, member_token, tenant_
 
 from .fake import ADMIN_KEY, TENANT_KEY, FakeNode, FakeServer
 from .rooms import Cluster
-from .serving import Serving, program
+from .serving import Serving, base_port, program
 
 README = pathlib.Path(__file__).resolve().parents[1] / "README.md"
 CLIENTS = pathlib.Path(__file__).resolve().parents[3] / "docs" / "CLIENTS.md"
-PORT = 32_300
+PORT = base_port(19)
 NAMES = {
     "ADMIN": admin_token(ADMIN_KEY),
     "TENANT": tenant_token(TENANT_KEY, 7),
@@ -122,6 +122,7 @@ class RoomConversationTests(unittest.TestCase):
 
     def test_in_memory(self) -> None:
         cluster = Cluster(2)
+        cluster.now = 0.0  # A machine that stands still for a while would change what is asked.
         for node in cluster.nodes:
             node.tenants.clear()
 
@@ -140,7 +141,7 @@ class RoomConversationTests(unittest.TestCase):
 
     @unittest.skipIf(program() is None, "no gb_serve")
     def test_at_a_server(self) -> None:
-        with Serving(PORT, nodes=2, version=3):
+        with Serving(PORT, nodes=2):
             self.run_code(PORT)
 
 

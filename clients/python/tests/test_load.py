@@ -25,9 +25,9 @@ from foqradesh.load import (
 )
 
 from .fake import ADMIN_KEY, TENANT_KEY, FakeServer, Session
-from .serving import Serving, program
+from .serving import Serving, base_port, program
 
-PORT = 31_900
+PORT = base_port(18)
 KEYS = f"admin {ADMIN_KEY.hex()}\ntenant {TENANT_KEY.hex()}\n"
 
 

@@ -8,7 +8,7 @@ import subprocess
 import threading
 import time
 import unittest
-from typing import Dict, Iterable, List, Optional, Sequence, Set, Tuple
+from typing import Callable, Dict, Iterable, List, Optional, Sequence, Set, Tuple
 
 from foqradesh import (
     AsyncRoom,
@@ -886,6 +886,70 @@ class LostTests(Heard):
         self.assertEqual(room.say(b"a"), (0, 2))
 
 
+class BeginningTests(unittest.TestCase):
+    """Generations that are begun while a member looks for the one to be in."""
+
+    @staticmethod
+    def have_happen(cluster: Cluster, member: int, event: Callable[[], object]) -> None:
+        """Have something happen when a member first asks at another node."""
+        waiting = [event]
+
+        def fate(node: int, body: str) -> str:
+            if node != member and waiting:
+                waiting.pop()()
+            return "carry"
+
+        cluster.fate = fate
+
+    def test_one_that_is_used_by_then_is_spoken_in_and_read(self) -> None:
+        for reads in (False, True):
+            with self.subTest(reads=reads):
+                cluster = timed()
+                room, other = room_of(cluster, 2), room_of(cluster, 0)
+                self.have_happen(cluster, 2, lambda: other.say(b"a"))
+                if not reads:
+                    self.assertEqual(room.say(b"b"), (0, 1))
+                heard = [(it.origin, it.payload) for it in room.follow(idle=0.5)]
+                self.assertEqual(heard, [(0, b"a")] if reads else [(0, b"a"), (2, b"b")])
+                self.assertEqual(cluster.living(), [[0]] * 3)
+
+    @staticmethod
+    def say_eight(other: Room) -> None:
+        """Say six messages in one generation, and two in the next."""
+        for count in range(8):
+            assert other.say(str(count).encode()).generation == count // 6
+
+    def test_a_reader_reads_all_that_are_begun_by_then(self) -> None:
+        cluster = timed()
+        reader, other = room_of(cluster, 2), room_of(cluster, 0)
+        self.have_happen(cluster, 2, lambda: self.say_eight(other))
+        heard = [(it.generation, it.payload) for it in reader.follow(idle=0.5)]
+        self.assertEqual(heard, [(count // 6, str(count).encode()) for count in range(8)])
+        self.assertEqual(cluster.living(), [[0, 1]] * 3)
+
+    def test_a_speaker_marks_all_that_are_begun_by_then_but_the_last(self) -> None:
+        cluster = timed()
+        room, other = room_of(cluster, 2), room_of(cluster, 0)
+        self.have_happen(cluster, 2, lambda: self.say_eight(other))
+        self.assertEqual(room.say(b"b"), (1, 1))
+        self.assertEqual(cluster.payloads(0, 0)[-2:], [b"\0", b"\0"])
+        self.assertEqual(cluster.payloads(0, 1), [b"\1" + b"6", b"\1" + b"7", b"\1b"])
+
+    def test_a_speaker_marks_before_it_waits_for_room(self) -> None:
+        # Four generations live at its node, and none is dropped before its marker is read.
+        cluster = timed()
+        room, other = room_of(cluster, 1), room_of(cluster, 0)
+        for count in range(25):
+            other.say(str(count).encode())
+        client = cluster.client(0)
+        client.drop(7, 1)
+        client.make(7, Generation(1, 4), SPEC)
+        self.assertEqual(cluster.living(), [[1, 2, 3, 4], [0, 1, 2, 3], [0, 1, 2, 3]])
+        self.assertRaises(NoRoom, room.say, b"b")
+        markers = [cluster.payloads(1, generation).count(b"\0") for generation in (1, 2, 3)]
+        self.assertEqual(markers, [2, 2, 1])
+
+
 class AsyncRoomTests(unittest.IsolatedAsyncioTestCase):
     """Many at once, in whatever order their requests come."""
 
@@ -1143,9 +1207,14 @@ class ThreadTests(Heard):
 
         def play(node: int) -> None:
             try:
-                room = Room(cluster.clients(), 7, 1, SPEC, node=node)
+                room = Room(cluster.clients(), 7, 1, SPEC, node=node, patience=1.0)
                 for number in range(60):
-                    room.say(f"{node}-{number}".encode())
+                    while True:
+                        try:
+                            room.say(f"{node}-{number}".encode())
+                            break
+                        except NoRoom:  # What waits to be shown holds up its generation.
+                            heard[node] += list(room.follow(idle=0))
                     if number % 5 == node:
                         heard[node] += list(room.follow(idle=0))
                 while not is_over.is_set():

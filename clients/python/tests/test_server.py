@@ -1,4 +1,4 @@
-"""The clients against a gb_serve that the tests start, on ports from 31,000 to 32,700."""
+"""The clients against a gb_serve that the tests start, on ports of `serving`."""
 
 from __future__ import annotations
 
@@ -41,9 +41,8 @@ from foqradesh import (
 )
 
 from .fake import TENANT_KEY, keys
-from .serving import Cutter, Serving, program
+from .serving import Cutter, Serving, base_port, program
 
-PORT = 31_000
 ALL = (0, 1, 2)
 
 
@@ -80,7 +79,7 @@ class ServerTests(unittest.TestCase):
 
     def test_chat(self) -> None:
         for kind in ("beb", "flazy", "feager", "fallack", "fmajority"):
-            with self.subTest(kind=kind), Serving(PORT) as server:
+            with self.subTest(kind=kind), Serving(base_port(0)) as server:
                 started(server, Spec(kind, ALL, 100, 4096, 100))
                 clients = server.clients()
                 for node in ALL:
@@ -97,9 +96,9 @@ class ServerTests(unittest.TestCase):
                     self.assertEqual(sorted(log, key=lambda it: (it.number, it.origin)), wanted)
 
     def test_refusals(self) -> None:
-        with Serving(PORT + 100, nodes=2) as server:
+        with Serving(base_port(1), nodes=2) as server:
             client, spec = server.client(), Spec("beb", (0,), 4, 8, 2)
-            stranger = Client(("127.0.0.1", PORT + 164), "0" * 64)
+            stranger = Client(("127.0.0.1", base_port(1) + 64), "0" * 64)
             client.tenant(7, TENANT_KEY, 4, 4, 8, 2)
             for group in (1, 2, 3):
                 client.make(7, group, spec)
@@ -138,7 +137,7 @@ class ServerTests(unittest.TestCase):
             stranger.close()
 
     def test_window(self) -> None:
-        with Serving(PORT + 200) as server:
+        with Serving(base_port(2)) as server:
             clients = server.clients()
             for node in (0, 1):
                 clients[node].tenant(7, TENANT_KEY, 4, 100, 4096, 100)
@@ -153,7 +152,7 @@ class ServerTests(unittest.TestCase):
             self.assertEqual(clients[0].next_number(7, 1), 3)
 
     def test_pipeline(self) -> None:
-        with Serving(PORT + 300) as server:
+        with Serving(base_port(3)) as server:
             started(server, Spec("beb", ALL, 1024, 65_536, 1024))
             clients = server.clients()
             clients[0].set_number(7, 1, 1)
@@ -169,7 +168,7 @@ class ServerTests(unittest.TestCase):
             self.assertEqual([entry.number for entry in heard], list(range(1, 1001)))
 
     def test_long_payloads(self) -> None:
-        with Serving(PORT + 400) as server:
+        with Serving(base_port(4)) as server:
             started(server, Spec("feager", ALL, 100, 65_536, 100))
             clients = server.clients()
             payload = bytes(range(256)) * 16
@@ -179,7 +178,7 @@ class ServerTests(unittest.TestCase):
             self.assertEqual(heard, [Entry(1, count + 1, payload) for count in range(16)])
 
     def test_several_clients_of_one_member(self) -> None:
-        with Serving(PORT + 500) as server:
+        with Serving(base_port(5)) as server:
             started(server, Spec("fallack", ALL, 1000, 65_536, 1000))
             said: List[Tuple[int, str]] = []
 
@@ -202,11 +201,11 @@ class ServerTests(unittest.TestCase):
 
     def test_lost_answers(self) -> None:
         for kind in ("beb", "fallack", "majority"):
-            with self.subTest(kind=kind), Serving(PORT + 600) as server:
+            with self.subTest(kind=kind), Serving(base_port(6)) as server:
                 started(server, Spec(kind, ALL, 1000, 65_536, 1000))
                 numbers = random.Random(kind)
                 fates = ["carry"] * 4 + ["lose request", "lose reply"]
-                with Cutter(PORT + 664, lambda _: numbers.choice(fates)) as cutter:
+                with Cutter(base_port(6) + 64, lambda _: numbers.choice(fates)) as cutter:
                     with Client(cutter.address, keys()) as client:
                         client.set_number(7, 1, 1)
                         texts = [str(count) for count in range(60)]
@@ -219,7 +218,7 @@ class ServerTests(unittest.TestCase):
                 self.assertEqual(sorted(elsewhere), sorted(texts))
 
     def test_connections_of_few_requests(self) -> None:
-        with Serving(PORT + 700, "--session-requests", "3", nodes=1) as server:
+        with Serving(base_port(7), "--session-requests", "3", nodes=1) as server:
             started(server, Spec("beb", (0,), 100, 4096, 100))
             client = server.client()
             client.set_number(7, 1, 1)
@@ -229,7 +228,7 @@ class ServerTests(unittest.TestCase):
             )
 
     def test_idle_connections(self) -> None:
-        with Serving(PORT + 800, "--idle", "1", nodes=1) as server:
+        with Serving(base_port(8), "--idle", "1", nodes=1) as server:
             group = started(server, Spec("beb", (0,), 100, 4096, 100))
             time.sleep(1.5)
             group.shut()
@@ -237,15 +236,15 @@ class ServerTests(unittest.TestCase):
             group.drop()
 
     def test_ready_tokens(self) -> None:
-        with Serving(PORT + 900, nodes=1) as server:
+        with Serving(base_port(9), nodes=1) as server:
             started(server, Spec("beb", (0,), 100, 4096, 100))
             tokens = Tokens(members={(7, 1): member_token(TENANT_KEY, 7, 1, 0)})
-            with Client(("127.0.0.1", PORT + 964), tokens) as client:
+            with Client(("127.0.0.1", base_port(9) + 64), tokens) as client:
                 self.assertEqual(client.say(7, 1, b"a"), 1)
                 self.assertEqual(client.fetch(7, 1), (Entry(0, 1, b"a"),))
 
     def test_operating(self) -> None:
-        with Serving(PORT + 1000, nodes=1) as server:
+        with Serving(base_port(10), nodes=1) as server:
             group = started(server, Spec("beb", (0,), 100, 4096, 100))
             client = server.client()
             client.say(7, 1, b"a")
@@ -264,7 +263,7 @@ class ServerTests(unittest.TestCase):
                 client.list(2)
             with self.assertRaises(BadPlace):
                 client.list(0, 65)
-            stranger = Client(("127.0.0.1", PORT + 1064), "0" * 64)
+            stranger = Client(("127.0.0.1", base_port(10) + 64), "0" * 64)
             self.assertRaises(Denied, stranger.status)
             self.assertRaises(Denied, stranger.list)
             self.assertRaises(Denied, stranger.stop)
@@ -310,7 +309,7 @@ class RoomTests(unittest.TestCase):
         return counts
 
     def test_next_generations(self) -> None:
-        with Serving(PORT + 1400, version=3) as server:
+        with Serving(base_port(14)) as server:
             self.begin(server)
             clients, later = server.clients(), Generation(1, 1)
             Group(clients, 7, 1, self.SPEC).start()
@@ -327,14 +326,14 @@ class RoomTests(unittest.TestCase):
             self.assertRaises(NoGroup, clients[0].fetch, 7, Generation(1, 4))
             clients[0].make(7, Generation(1, 4), self.SPEC)
             self.assertRaises(WrongPhase, clients[0].say, 7, Generation(1, 4), b"a")
-        with Serving(PORT + 1400, version=2, nodes=1) as server:
+        with Serving(base_port(14), version=2, nodes=1) as server:
             self.begin(server)
             spec = Spec("beb", (0,), 4, 64, 4)
             self.assertRaises(OverReserve, server.client().make, 7, Generation(1, 1), spec)
 
     def test_a_long_conversation(self) -> None:
         count = 700
-        with Serving(PORT + 1500, version=3) as server:
+        with Serving(base_port(15)) as server:
             self.begin(server)
             heard: List[List[RoomEntry]] = [[], [], []]
             said: List[List[RoomNumber]] = [[], [], []]
@@ -380,18 +379,26 @@ class RoomTests(unittest.TestCase):
 
     def test_in_one_thread_each(self) -> None:
         count = 300
-        with Serving(PORT + 1600, version=3) as server:
+        with Serving(base_port(16)) as server:
             self.begin(server)
             heard: List[List[RoomEntry]] = [[], [], []]
             errors: List[BaseException] = []
 
             def play(node: int) -> None:
                 try:
-                    room = Room(server.clients(), 7, 1, self.SPEC, node=node)
+                    room = Room(server.clients(), 7, 1, self.SPEC, node=node, patience=5.0)
                     for number in range(count):
-                        room.say(str(number).encode())
+                        while True:
+                            try:
+                                room.say(str(number).encode())
+                                break
+                            except NoRoom:  # What waits to be shown holds up its generation.
+                                heard[node] += list(room.follow(idle=0))
                         if number % 8 == 0:
                             heard[node] += list(room.follow(idle=0))
+                    end = time.monotonic() + 120
+                    while len(heard[node]) < 3 * count and time.monotonic() < end:
+                        heard[node] += list(room.follow(idle=0.2))
                     heard[node] += list(room.follow(idle=2.0))
                 except BaseException as error:
                     errors.append(error)
@@ -410,7 +417,7 @@ class AsyncServerTests(unittest.IsolatedAsyncioTestCase):
     """The asyncio client."""
 
     async def test_chat(self) -> None:
-        with Serving(PORT + 1100) as server:
+        with Serving(base_port(11)) as server:
             clients = server.async_clients()
             for client in clients.values():
                 await client.tenant(7, TENANT_KEY, 4, 1000, 65_536, 1000)
@@ -446,7 +453,7 @@ class AsyncServerTests(unittest.IsolatedAsyncioTestCase):
 
     async def test_room(self) -> None:
         count = 300
-        with Serving(PORT + 1700, version=3) as server:
+        with Serving(base_port(17)) as server:
             for node in ALL:
                 server.client(node).tenant(7, TENANT_KEY, 4, 1024, 65_536, 1024)
             spec = RoomTests.SPEC
@@ -458,7 +465,12 @@ class AsyncServerTests(unittest.IsolatedAsyncioTestCase):
                     await rooms[node].say(str(number).encode())
 
             async def hear(node: int) -> List[RoomEntry]:
-                return [entry async for entry in rooms[node].follow(idle=3.0)]
+                heard: List[RoomEntry] = []
+                async for entry in rooms[node].follow(idle=60.0):
+                    heard.append(entry)
+                    if len(heard) == 3 * count:
+                        break
+                return heard + [entry async for entry in rooms[node].follow(idle=0.2)]
 
             heard_and_said = await asyncio.gather(*map(hear, ALL), *map(speak, ALL))
             wanted = [str(number).encode() for number in range(count)]
@@ -472,7 +484,7 @@ class AsyncServerTests(unittest.IsolatedAsyncioTestCase):
                     await client.close()
 
     async def test_waiting_at_two_places(self) -> None:
-        with Serving(PORT + 1200, nodes=1) as server:
+        with Serving(base_port(12), nodes=1) as server:
             client = server.async_clients()[0]
             await client.tenant(7, TENANT_KEY, 4, 100, 4096, 100)
             for group in (1, 2):

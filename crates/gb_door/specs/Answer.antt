@@ -3,7 +3,7 @@ use Rattle.std.specs.Prelude.{ℕ, List, [], ◌++◌, ◌∷◌, codes, decimal
 use Rattle.gb_door.specs.declared.{answer.Code.Code, answer.Kind.Kind, asked.Asked.Asked, page.Page.Page as PageFiles}
 use Rattle.gb_door.specs.declared.answer.Code.TheVariants.{Fine, BadRequest, Forbidden, NotFound, NotAllowed}
 use Rattle.gb_door.specs.declared.answer.Kind.TheVariants as K
-use Rattle.gb_door.specs.declared.asked.Asked.TheVariants.{Page, Script, Style, Session, Foreign, OtherPlace, OtherMethod, More, NoRequest}
+use Rattle.gb_door.specs.declared.asked.Asked.TheVariants.{Page, Script, Client, Style, Session, Foreign, OtherPlace, OtherMethod, More, NoRequest}
 
 -- a line ends with a carriage return and a line feed
 abbrev pub line_end : List ℕ
@@ -39,6 +39,7 @@ response_text code kind body =
 abbrev pub code_of : Asked → Code
 code_of Page = Fine
 code_of Script = Fine
+code_of Client = Fine
 code_of Style = Fine
 code_of Session = BadRequest
 code_of Foreign = Forbidden
@@ -51,6 +52,7 @@ code_of NoRequest = BadRequest
 abbrev pub kind_of : Asked → Kind
 kind_of Page = K.Html
 kind_of Script = K.Script
+kind_of Client = K.Script
 kind_of Style = K.Style
 kind_of other = K.Text
 
@@ -58,6 +60,7 @@ kind_of other = K.Text
 abbrev pub note_of : Asked → List ℕ
 note_of Page = []
 note_of Script = []
+note_of Client = []
 note_of Style = []
 note_of Session = codes "no WebSocket handshake" ++ 10 ∷ []
 note_of Foreign = codes "another origin" ++ 10 ∷ []
@@ -70,6 +73,7 @@ note_of NoRequest = codes "no request" ++ 10 ∷ []
 abbrev pub file_of : Asked → PageFiles → List ℕ
 file_of Page page = page.index.items
 file_of Script page = page.script.items
+file_of Client page = page.client.items
 file_of Style page = page.style.items
 file_of other page = []
 

@@ -3,7 +3,7 @@ use Rattle.std.specs.Prelude.{◌≡◌, ◌≢◌, ℕ, Bool, not, ◌||◌, Li
 use Rattle.std.specs.{Char.to_ascii_lowercase, List.list_all, List.list_any, Str.bytes_eq}
 use Rattle.httparse.specs.{Grammar.HasNoRequest, Grammar.ReadsRequest, Grammar.RequestHead, Spans.RequestOverflows, Spans.name_and_value}
 use Rattle.gb_door.specs.declared.asked.Asked.{Asked}
-use Rattle.gb_door.specs.declared.asked.Asked.TheVariants.{Page, Script, Style, Session, Foreign, OtherPlace, OtherMethod, More, NoRequest}
+use Rattle.gb_door.specs.declared.asked.Asked.TheVariants.{Page, Script, Client, Style, Session, Foreign, OtherPlace, OtherMethod, More, NoRequest}
 
 -- the name of a field is Origin, in letters of either case
 abbrev pub is_origin : List ℕ → Bool
@@ -23,7 +23,8 @@ place_asked welcome target =
     if bytes_eq target (codes "/session") then (if welcome then Session else Foreign)
     else (if bytes_eq target (codes "/") then Page
     else (if bytes_eq target (codes "/page.js") then Script
-    else (if bytes_eq target (codes "/page.css") then Style else OtherPlace)))
+    else (if bytes_eq target (codes "/foqradesh.js") then Client
+    else (if bytes_eq target (codes "/page.css") then Style else OtherPlace))))
 
 -- the bytes begin with the head of a request by GET, which asks for this
 abbrev pub Gets : List (List ℕ) → List ℕ → Asked → Type 0
@@ -37,6 +38,7 @@ Asks origins bytes More = HasNoRequest bytes
 Asks origins bytes NoRequest = RequestOverflows 64 bytes
 Asks origins bytes Page = Gets origins bytes Page
 Asks origins bytes Script = Gets origins bytes Script
+Asks origins bytes Client = Gets origins bytes Client
 Asks origins bytes Style = Gets origins bytes Style
 Asks origins bytes Session = Gets origins bytes Session
 Asks origins bytes Foreign = Gets origins bytes Foreign

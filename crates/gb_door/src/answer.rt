@@ -89,7 +89,7 @@ fn code_of(asked: Asked) -> Code
     ensures { result ≡ code_of asked }
 {
     match asked {
-        Asked::Page | Asked::Script | Asked::Style => Code::Fine,
+        Asked::Page | Asked::Script | Asked::Client | Asked::Style => Code::Fine,
         Asked::Session | Asked::More | Asked::NoRequest => Code::BadRequest,
         Asked::Foreign => Code::Forbidden,
         Asked::OtherPlace => Code::NotFound,
@@ -103,7 +103,7 @@ fn kind_of(asked: Asked) -> Kind
 {
     match asked {
         Asked::Page => Kind::Html,
-        Asked::Script => Kind::Script,
+        Asked::Script | Asked::Client => Kind::Script,
         Asked::Style => Kind::Style,
         Asked::Session
         | Asked::Foreign
@@ -119,7 +119,7 @@ fn note_of(asked: Asked) -> &'static [u8]
     ensures { result.now ≡ note_of asked }
 {
     match asked {
-        Asked::Page | Asked::Script | Asked::Style => b"",
+        Asked::Page | Asked::Script | Asked::Client | Asked::Style => b"",
         Asked::Session => b"no WebSocket handshake\n",
         Asked::Foreign => b"another origin\n",
         Asked::OtherPlace => b"not found\n",
@@ -135,6 +135,7 @@ fn file_of(asked: Asked, page: &Page) -> &[u8]
     match asked {
         Asked::Page => &page.index,
         Asked::Script => &page.script,
+        Asked::Client => &page.client,
         Asked::Style => &page.style,
         Asked::Session
         | Asked::Foreign
@@ -145,8 +146,8 @@ fn file_of(asked: Asked, page: &Page) -> &[u8]
     }
 }
 
-/// Returns the answer by HTTP to what was asked for, head and body. `Page`, `Script` and `Style` are answered with status 200 and that
-/// file of `page`. All others are answered with a line of text that says why there is none: 400 for `More`, `NoRequest`, and a `Session`
+/// Returns the answer by HTTP to what was asked for, head and body. `Page`, `Script`, `Client` and `Style` are answered with status 200 and
+/// that file of `page`. All others are answered with a line of text that says why there is none: 400 for `More`, `NoRequest`, and a `Session`
 /// whose WebSocket handshake failed, 403 for `Foreign`, 404 for `OtherPlace`, 405 for `OtherMethod`. `Err` if memory runs out.
 pub fn answer(alloc: Global, asked: Asked, page: &Page) -> Result<Vec<u8>, OutOfMemory>
     ensures { IfOk result (λ text. text.items ≡ answer_of asked page.now) }

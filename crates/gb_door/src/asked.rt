@@ -20,6 +20,8 @@ pub enum Asked {
     Page,
     /// The page's script.
     Script,
+    /// The module of a client, which the script may import.
+    Client,
     /// The page's style.
     Style,
     /// A session, by WebSocket.
@@ -50,6 +52,8 @@ fn place_asked(target: &[u8], is_welcome: bool) -> Asked
         Asked::Page
     } else if target == b"/page.js".as_slice() {
         Asked::Script
+    } else if target == b"/foqradesh.js".as_slice() {
+        Asked::Client
     } else if target == b"/page.css".as_slice() {
         Asked::Style
     } else {
@@ -93,7 +97,7 @@ fn is_welcome(origins: &[&str], bytes: &[u8], spans: &[HeaderSpan]) -> bool
 }
 
 /// Returns what the head of a request by HTTP at the front of `bytes` asks for. By GET that is `Page` for `/`, `Script` for `/page.js`,
-/// `Style` for `/page.css`, and `OtherPlace` for anything else. For `/session` it is `Session`, or `Foreign` if the head has an Origin
+/// `Client` for `/foqradesh.js`, `Style` for `/page.css`, and `OtherPlace` for anything else. For `/session` it is `Session`, or `Foreign` if the head has an Origin
 /// that is none of `origins`. It is `OtherMethod` for another method, `More` if the head is not whole, and `NoRequest` if the bytes are
 /// no head of at most 64 fields.
 pub fn asked_for(bytes: &[u8], origins: &[&str]) -> Asked

@@ -1,8 +1,9 @@
-//! The page that a door serves: its three files.
+//! The page that a door serves: its files.
 use gb_types::OutOfMemory;
 use gb_types::memory::put_bytes;
 use std::alloc::Global;
 use std::fs;
+use std::io::ErrorKind;
 use std::rt::Files;
 
 /// How many bytes each file of a page may have.
@@ -10,13 +11,15 @@ pub const FILE: usize = 1_048_576;
 
 const _: () = prove!(FILE == 1_048_576);
 
-/// The three files of a page.
+/// The files of a page.
 #[derive(Drop)]
 pub struct Page {
     /// `index.html`, which is served as `/`.
     pub index: Vec<u8>,
     /// `page.js`.
     pub script: Vec<u8>,
+    /// `foqradesh.js`, the module of a client that `page.js` may import.
+    pub client: Vec<u8>,
     /// `page.css`.
     pub style: Vec<u8>,
 }
@@ -24,6 +27,9 @@ pub struct Page {
 // What stands where no page was given.
 static PLAIN: &[u8] =
     b"<!doctype html>\n<html lang=\"en\">\n<meta charset=\"utf-8\">\n<title>Foqradesh</title>\n<h1>Foqradesh</h1>\n<p>The sessions of a node are at <code>/session</code>, by WebSocket: each text message is a request, and each reply a text message.</p>\n</html>\n";
+
+// The module of a page without one: whoever imports it reads why it fails.
+static NO_CLIENT: &[u8] = b"throw new Error(\"the folder of this page has no foqradesh.js\");\n";
 
 /// Why there is no page.
 #[derive(Clone, Copy, Debug, PartialEq, Eq)]
@@ -41,6 +47,7 @@ pub fn plain_page(alloc: Global) -> Result<Page, OutOfMemory> {
     Ok(Page {
         index,
         script: Vec::new(alloc),
+        client: Vec::new(alloc),
         style: Vec::new(alloc),
     })
 }
@@ -60,15 +67,36 @@ fn read_file<H: Files + AllocGlobal>(
     }
 }
 
-/// Reads the page that a door serves, the files `index.html`, `page.js` and `page.css` of `folder` in this order, and returns it. `Err`
-/// with `File` and its name if one is not there, cannot be read or has more than 1,048,576 bytes, and with `OutOfMemory`.
+// Reads the module of a client in a folder. Where no file has its name, it is one that fails and says so.
+fn read_client<H: Files + AllocGlobal>(rt: &H, folder: &str) -> Result<Vec<u8>, PageFault> {
+    let Ok(path) = format!(in rt.alloc(); "{folder}/foqradesh.js") else {
+        return Err(PageFault::OutOfMemory);
+    };
+    match fs::read(rt, path.as_str()) {
+        Ok(bytes) if bytes.len() <= FILE => Ok(bytes),
+        Err(error) if error.kind() == ErrorKind::NotFound => {
+            let mut bytes = Vec::new(rt.alloc());
+            match put_bytes(&mut bytes, NO_CLIENT) {
+                Ok(()) => Ok(bytes),
+                Err(_) => Err(PageFault::OutOfMemory),
+            }
+        }
+        _ => Err(PageFault::File("foqradesh.js")),
+    }
+}
+
+/// Reads the page that a door serves, the files `index.html`, `page.js`, `foqradesh.js` and `page.css` of `folder` in this order, and
+/// returns it. `foqradesh.js` may be absent. `Err` with `File` and its name if another one is not there, or one cannot be read or has
+/// more than 1,048,576 bytes, and with `OutOfMemory`.
 pub fn read_page<H: Files + AllocGlobal>(rt: &H, folder: &str) -> Result<Page, PageFault> {
     let index = read_file(rt, folder, "index.html")?;
     let script = read_file(rt, folder, "page.js")?;
+    let client = read_client(rt, folder)?;
     let style = read_file(rt, folder, "page.css")?;
     Ok(Page {
         index,
         script,
+        client,
         style,
     })
 }

@@ -54,7 +54,7 @@ fn command<'a>(alloc: Global) -> Result<Command<'a>, AllocError>
         .help("where the sessions of the node are, as 127.0.0.1:42064");
     let with_node = with_listen.arg(node)?;
     let page = text_arg(alloc, "page").value_name("DIR").help(
-        "the folder with index.html, page.js and page.css, which are read at the start; a plain page if not given",
+        "the folder with index.html, page.js and page.css, and foqradesh.js if the script imports it, which are read at the start; a plain page if not given",
     );
     let with_page = with_node.arg(page)?;
     let with_origin = with_page.arg(origin_arg(alloc))?;

@@ -8,7 +8,7 @@ use std::alloc::Global;
 static ORIGINS: [&str; 2] = ["https://chat.example.org", "http://127.0.0.1:8080"];
 
 // Bytes, and what they ask for.
-static HEADS: [(&[u8], Asked); 18] = [
+static HEADS: [(&[u8], Asked); 19] = [
     (b"", Asked::More),
     (b"GET / HTTP/1.1\r\nHost: x\r\n", Asked::More),
     (b"GET / HTTP/1.1\r\n\r\n", Asked::Page),
@@ -16,6 +16,7 @@ static HEADS: [(&[u8], Asked); 18] = [
         b"GET /page.js HTTP/1.0\r\nHost: x\r\n\r\nmore",
         Asked::Script,
     ),
+    (b"GET /foqradesh.js HTTP/1.1\r\n\r\n", Asked::Client),
     (b"GET /page.css HTTP/1.1\r\n\r\n", Asked::Style),
     (b"GET /index.html HTTP/1.1\r\n\r\n", Asked::OtherPlace),
     (b"GET /session/ HTTP/1.1\r\n\r\n", Asked::OtherPlace),
@@ -86,7 +87,7 @@ fn is_answered(alloc: Global, page: &Page, asked: Asked, front: &[u8], back: &[u
 }
 
 // What is asked for, and what the answer begins and ends with.
-static ANSWERS: [(Asked, &[u8], &[u8]); 9] = [
+static ANSWERS: [(Asked, &[u8], &[u8]); 10] = [
     (
         Asked::Page,
         b"HTTP/1.1 200 OK\r\nContent-Type: text/html; charset=utf-8\r\nConnection: close\r\n",
@@ -96,6 +97,11 @@ static ANSWERS: [(Asked, &[u8], &[u8]); 9] = [
         Asked::Script,
         b"HTTP/1.1 200 OK\r\nContent-Type: text/javascript; charset=utf-8\r\n",
         b"\r\nContent-Length: 3\r\n\r\n'a'",
+    ),
+    (
+        Asked::Client,
+        b"HTTP/1.1 200 OK\r\nContent-Type: text/javascript; charset=utf-8\r\n",
+        b"\r\nContent-Length: 4\r\n\r\n'ab'",
     ),
     (
         Asked::Style,
@@ -139,6 +145,7 @@ fn small_page(alloc: Global) -> Option<Page> {
     Some(Page {
         index: Vec::from_slice(alloc, b"<hr>").ok()?,
         script: Vec::from_slice(alloc, b"'a'").ok()?,
+        client: Vec::from_slice(alloc, b"'ab'").ok()?,
         style: Vec::new(alloc),
     })
 }

@@ -29,13 +29,15 @@ fn read_with(rt: &HostRuntime, folder: &str, bytes: usize) -> Option<Result<Page
     Some(read_page(rt, folder))
 }
 
-// Whether an index of 1,048,576 bytes is read and told, and one with a byte more is not.
+// Whether an index of 1,048,576 bytes is read and answered, and one with a byte more is not; and whether the module of a client that
+// the folder lacks is one that fails.
 fn are_bounded(rt: &HostRuntime, folder: &str) -> Option<bool> {
     let longest = read_with(rt, folder, 1_048_576)?.ok()?;
     let told = answer(rt.alloc(), Asked::Page, &longest).ok()?;
     let is_whole = longest.index.len() == 1_048_576 && told.ends_with(&longest.index);
     let longer = read_with(rt, folder, 1_048_577)?;
-    Some(is_whole && matches!(longer, Err(PageFault::File("index.html"))))
+    let fails = longest.client.starts_with(b"throw new Error(");
+    Some(is_whole && fails && matches!(longer, Err(PageFault::File("index.html"))))
 }
 
 #[test]

@@ -31,9 +31,7 @@ pub fn duties()
 pub fn agreement()
     ensures { IsAgreed }
 {
-    module_logs();
-    gives_up_whole_runs();
-    top_is_the_greatest();
+    delivery();
 }
 
 /// A law, with nothing to run, of delivery in a group whose members all made it alike before the first message, and of which no running

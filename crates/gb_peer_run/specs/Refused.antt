@@ -1,33 +1,29 @@
 -- Why a node is not served: its words, the cluster's file, its addresses, or the mark of its start.
-use Rattle.std.specs.Prelude.{◌≡◌, ◌≢◌, ◌⊎◌, ◌≤◌, ◌<◌, ℕ, List, [], true, codes, length}
-use Rattle.std.specs.Net.Addr.{IsLoopbackV4, IsLoopbackV6, MatchIp, is_ipv4}
+use Rattle.std.specs.Prelude.{◌≡◌, ◌≢◌, ◌⊎◌, ◌≤◌, ◌<◌, ℕ, List, [], true, length}
+use Rattle.std.specs.Net.Addr.{is_ipv4}
 use Rattle.std.specs.Net.Socket.{socket_ip}
 use Rattle.std.specs.declared.net.socket_addr.SocketAddr.{SocketAddr}
-use Rattle.clap.specs.Words.{Text, fault_of, matches_of, one_of, takes}
+use Rattle.clap.specs.Words.{Text, fault_of, matches_of, takes}
 use Rattle.gb_cluster_file.specs.Cluster.{IsFileOf}
 use Rattle.gb_cluster_file.specs.declared.file.ClusterFile.{ClusterFile}
-use Rattle.gb_peer_words.specs.Words.{IsReadOf, peer_app}
+use Rattle.gb_peer_words.specs.Words.{CanServe, IsReadOf, peer_app}
 use Rattle.gb_peer_words.specs.declared.{plan.PeerPlan.PeerPlan, plan.PeerWords.PeerWords}
-use Rattle.gb_serve_words.specs.Options.{HasAddress}
+use Rattle.gb_serve_words.specs.Options.{MayReach}
 use Rattle.gb_server.specs.declared.fault.ServeFault.TheVariants.{RefusedWords, OutOfMemory}
 use Rattle.gb_peer_run.specs.declared.fault.PeerFault.{PeerFault}
 use Rattle.gb_peer_run.specs.declared.fault.PeerFault.TheVariants.{RefusedFile, NoNode, Remote, NotFound, Begun, Unmarked, Serve}
 
--- words that name no node and no file: `clap` refuses them, or what they give as the address for the status is none
+-- words that name no node and no file: `clap` refuses them, or no node can be served by what they give
 abbrev pub AreRefused : List Text → Type 0
-AreRefused words = (fault_of peer_app words ≢ []) ⊎ (HasAddress (one_of (codes "status") (matches_of peer_app words)) → ⊥)
+AreRefused words = (fault_of peer_app words ≢ []) ⊎ (CanServe (matches_of peer_app words) → ⊥)
 
 -- words that name a node and a file
 abbrev pub AreTaken : List Text → Type 0
-AreTaken words = (takes peer_app words ≡ true) × HasAddress (one_of (codes "status") (matches_of peer_app words))
-
--- an address that no other machine reaches: one of 127.0.0.0/8, or ::1
-abbrev pub IsLoopback : SocketAddr → Type 0
-IsLoopback address = MatchIp (socket_ip address) IsLoopbackV4 IsLoopbackV6
+AreTaken words = (takes peer_app words ≡ true) × CanServe (matches_of peer_app words)
 
 -- sessions may be served at this address: no other machine reaches it, or the words allow that
 abbrev pub MayServeAt : PeerPlan → SocketAddr → Type 0
-MayServeAt plan address = (plan.remote_sessions ≡ true) ⊎ IsLoopback address
+MayServeAt plan address = MayReach plan.remote_sessions address
 
 -- two addresses are of one family, IPv4 or IPv6
 abbrev pub AreAlike : SocketAddr → SocketAddr → Type 0

@@ -25,6 +25,7 @@ use gb_keys::keys::read_keys;
 use gb_loop::LoopOptions;
 use gb_peer_words::words::read_words;
 use gb_peer_words::{PeerPlan, PeerWords};
+use gb_serve_words::options::may_reach;
 use gb_server::complaint::complain as complain_of_server;
 use gb_server::descriptors::{connections_of, descriptor_limit};
 use gb_server::ending::end_recorded;
@@ -69,7 +70,7 @@ fn allow(plan: PeerPlan, sessions: SocketAddr) -> Result<(), PeerFault>
     ensures ok { OnOk result (MayServeAt plan sessions) }
     ensures refused { IfErr result (λ fault. (fault ≡ PeerFault.Remote sessions) × (MayServeAt plan sessions → ⊥)) }
 {
-    if plan.remote_sessions || sessions.ip().is_loopback() {
+    if may_reach(plan.remote_sessions, sessions) {
         Ok(())
     } else {
         Err(PeerFault::Remote(sessions))

@@ -1,8 +1,8 @@
 -- The words of gb_peer's command line: the command, as `clap` reads it, and what it makes of the words.
 use Rattle.std.specs.Prelude.{◌≡◌, ◌≤◌, true, false, List, Some, is_some, unwrap_or, codes}
 use Rattle.clap.specs.Words.{App, Row, Rule, Text, first_of, new_app, one_of, with_rule}
-use Rattle.gb_serve_words.specs.Options.{HasFlag, HasNumber, IsAddressOf, connections_rule, flag_rule, given, idle_rule, is_set, named_rule, requests_rule, sessions_rule, status_rule, text_rule}
-use Rattle.gb_serve_words.specs.declared.options.TheConstants.{CONNECTIONS, MOST_CONNECTIONS, MOST_IDLE, MOST_REQUESTS, MOST_SESSIONS}
+use Rattle.gb_serve_words.specs.Options.{HasAddress, HasFlag, HasNumber, IsAddressOf, connections_rule, flag_rule, given, idle_rule, is_set, may_sync, named_rule, names_folder, requests_rule, sessions_rule, status_rule, text_rule}
+use Rattle.gb_serve_words.specs.declared.options.TheConstants.{CONNECTIONS, IDLE, MOST_CONNECTIONS, MOST_IDLE, MOST_REQUESTS, MOST_SESSIONS}
 use Rattle.gb_peer_words.specs.declared.{plan.PeerPlan.PeerPlan, plan.PeerWords.PeerWords, words.TheConstants.LAST_NODE, words.TheConstants.MOST_WAIT, words.TheConstants.WAIT}
 
 -- an option `--name` with a text that must be given
@@ -28,13 +28,20 @@ peer_app = with_rule (with_rule (with_rule (with_rule (with_rule (with_rule (wit
     (flag_rule (codes "record")))
     (flag_rule (codes "sync"))
 
+-- the text that was given for the status writes an address, records are wanted if they are to be on the disk, and the path that was given for
+-- the folder has a byte
+pub record CanServe (rows : List Row) : Type 0 where
+  pub status : HasAddress (one_of (codes "status") rows)
+  pub disk : may_sync (is_set rows (codes "record")) (is_set rows (codes "sync")) ≡ true
+  pub folder : names_folder (first_of (codes "dir") rows) ≡ true
+
 -- each field of the plan is what its option was given in these matches, or else what stands for an option that is left
 -- out; the node was given
 pub record IsPlanOf (rows : List Row) (plan : PeerPlan) : Type 0 where
   pub node : given rows (codes "node") ≡ Some plan.node
   pub wait : plan.wait ≡ unwrap_or (given rows (codes "wait")) WAIT
   pub sessions : plan.sessions ≡ unwrap_or (given rows (codes "sessions")) 0
-  pub idle : plan.idle ≡ unwrap_or (given rows (codes "idle")) 0
+  pub idle : plan.idle ≡ unwrap_or (given rows (codes "idle")) IDLE
   pub connections : plan.connections ≡ unwrap_or (given rows (codes "connections")) CONNECTIONS
   pub session_requests : plan.session_requests ≡ unwrap_or (given rows (codes "session-requests")) 0
   pub remote_sessions : plan.remote_sessions ≡ is_set rows (codes "remote-sessions")

@@ -1,16 +1,16 @@
 //! The words of gb_peer's command line.
 ghost use Rattle.std.specs.Prelude.{◌≡◌, ◌≢◌, ◌⊎◌, IfOk, IfSome, IfNone, None, codes, map, [], true};
 ghost use Rattle.clap.specs.Words.{app_of, found_of, matches_of, one_of, rows_of, takes, fault_of};
-ghost use Rattle.gb_serve_words.specs.Options.{HasAddress, IsAddressOf};
-ghost use Rattle.gb_peer_words.specs.Words.{peer_app, IsGiven, IsPlanOf, IsReadOf, IsWithin};
+ghost use Rattle.gb_serve_words.specs.Options.{IsAddressOf};
+ghost use Rattle.gb_peer_words.specs.Words.{peer_app, CanServe, IsGiven, IsPlanOf, IsReadOf, IsWithin};
 
 use crate::plan::{PeerPlan, PeerWords};
 use clap::{ArgMatches, Command};
 use gb_serve_words::WordFault;
 use gb_serve_words::options::{
-    CONNECTIONS, connections_arg, fault_from, flag_arg, idle_arg, number_arg, quiet_arg,
-    record_arg, requests_arg, sessions_arg, status_arg, status_of, status_refusal, stop_arg,
-    sync_arg, text_arg, text_asked,
+    CONNECTIONS, IDLE, connections_arg, fault_from, flag_arg, folder_refusal, idle_arg, is_folder,
+    may_sync, number_arg, quiet_arg, record_arg, requests_arg, sessions_arg, status_arg, status_of,
+    status_refusal, stop_arg, sync_arg, text_arg, text_asked,
 };
 use gb_types::limits::NODES;
 use std::alloc::{AllocError, Global};
@@ -104,7 +104,7 @@ fn plan_of(matches: &ArgMatches<'_>, status: Option<SocketAddr>) -> PeerPlan
         node,
         wait: wait.unwrap_or(WAIT),
         sessions: sessions.unwrap_or(0),
-        idle: idle.unwrap_or(0),
+        idle: idle.unwrap_or(IDLE),
         connections: connections.unwrap_or(CONNECTIONS),
         session_requests: requests.unwrap_or(0),
         remote_sessions,
@@ -116,31 +116,38 @@ fn plan_of(matches: &ArgMatches<'_>, status: Option<SocketAddr>) -> PeerPlan
     }
 }
 
-// Returns what words name and tell that `clap` took; `None` where their address for the status is none.
+// Returns what words name and tell that `clap` took; `None` where their address for the status is none, the path of their folder is
+// empty, or `--sync` stands without `--record`.
 fn words_of<'a>(matches: &ArgMatches<'a>) -> Option<PeerWords<'a>>
     requires { IsGiven (rows_of (found_of matches.now)) }
     ensures read { IfSome result (IsReadOf (rows_of (found_of matches.now))) }
     ensures within { IfSome result (λ read. IsWithin read.plan) }
-    ensures none { IfNone result (HasAddress (one_of (codes "status") (rows_of (found_of matches.now))) → ⊥) }
+    ensures none { IfNone result (CanServe (rows_of (found_of matches.now)) → ⊥) }
 {
     let status = status_of(matches)?;
     let cluster = matches.get_str("cluster").unwrap();
     let dir = matches.get_str("dir").unwrap();
     let plan = plan_of(matches, status);
+    if !may_sync(plan.records, plan.sync) {
+        return None;
+    }
+    if !is_folder(Some(dir)) {
+        return None;
+    }
     Some(PeerWords { cluster, dir, plan })
 }
 
 /// Returns what the words of a command line name and tell a node to do. The first word is the program's name. `Err` with `Refused`
-/// if `clap` refuses the words, or if the text of their address for the status is no address. `Err` with `OutOfMemory` if memory is
-/// refused.
+/// if `clap` refuses the words, the text of their address for the status is no address, the path of their folder is empty, or `--sync`
+/// stands without `--record`. `Err` with `OutOfMemory` if memory is refused.
 pub fn read_words<'a>(alloc: Global, words: &'a [&'a str]) -> Result<PeerWords<'a>, WordFault>
     ensures given { IfOk result (λ read. IsReadOf (matches_of peer_app (map (λ word. word.now) words.entry.now)) read) }
     ensures within { IfOk result (λ read. IsWithin read.plan) }
     ensures accepted { IfOk result (λ _. fault_of peer_app (map (λ word. word.now) words.entry.now) ≡ []) }
     ensures refused { result ≡ Err WordFault.Refused → (fault_of peer_app (map (λ word. word.now) words.entry.now) ≢ [])
-        ⊎ (HasAddress (one_of (codes "status") (matches_of peer_app (map (λ word. word.now) words.entry.now))) → ⊥) }
+        ⊎ (CanServe (matches_of peer_app (map (λ word. word.now) words.entry.now)) → ⊥) }
     ensures taken { takes peer_app (map (λ word. word.now) words.entry.now) ≡ true
-        → HasAddress (one_of (codes "status") (matches_of peer_app (map (λ word. word.now) words.entry.now))) → result ≢ Err WordFault.Refused }
+        → CanServe (matches_of peer_app (map (λ word. word.now) words.entry.now)) → result ≢ Err WordFault.Refused }
 {
     let command = command(alloc)?;
     match command.try_get_matches_from(words) {
@@ -152,10 +159,18 @@ pub fn read_words<'a>(alloc: Global, words: &'a [&'a str]) -> Result<PeerWords<'
     }
 }
 
+// Returns why words that `clap` took are refused. It is empty if they are not.
+fn words_refusal(alloc: Global, matches: &ArgMatches<'_>) -> Result<String, AllocError> {
+    if status_of(matches).is_none() {
+        return status_refusal(alloc, matches);
+    }
+    folder_refusal(alloc, matches)
+}
+
 /// Returns why `read_words` refuses these words, for the user. The text is empty if it takes them. `Err` if memory is refused.
 pub fn refusal_text(alloc: Global, words: &[&str]) -> Result<String, AllocError> {
     match command(alloc)?.try_get_matches_from(words) {
-        Ok(matches) => status_refusal(alloc, &matches),
+        Ok(matches) => words_refusal(alloc, &matches),
         Err(error) => format!(in alloc; "{error}"),
     }
 }

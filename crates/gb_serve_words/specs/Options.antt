@@ -1,6 +1,6 @@
 -- The options of a command line: the rule of each, as `clap` reads it, and the value of its entry in the matches.
-use Rattle.std.specs.Prelude.{◌≡◌, ◌||◌, ℕ, Bool, true, false, List, Option, None, Some, IfSome, option_map, codes, pos}
-use Rattle.std.specs.{Option.option_map_or, Net.Grammar.IsSocketText, Str.bytes_eq, Str.Parse.digits_value, Str.Parse.without_leading_plus}
+use Rattle.std.specs.Prelude.{◌≡◌, ◌==◌, ◌⊎◌, ◌||◌, not, ℕ, Bool, true, false, List, Option, None, Some, IfSome, option_map, length, codes, pos}
+use Rattle.std.specs.{Option.option_map_or, Net.Addr.IsLoopbackV4, Net.Addr.IsLoopbackV6, Net.Addr.MatchIp, Net.Socket.socket_ip, Net.Grammar.IsSocketText, Str.bytes_eq, Str.Parse.digits_value, Str.Parse.without_leading_plus}
 use Rattle.std.specs.declared.net.socket_addr.SocketAddr.{SocketAddr}
 use Rattle.clap.specs.Words.{IsSignedIn, Row, Rule, Text, new_rule, one_of, without_minus}
 use Rattle.clap.specs.declared.{builder.action.ArgAction.TheVariants.Set, builder.action.ArgAction.TheVariants.SetTrue, builder.value_parser.ValueParser.TheVariants.Signed, builder.value_parser.ValueParser.TheVariants.Bool as Flag, builder.value_parser.ValueParser.TheVariants.String as AnyText}
@@ -71,6 +71,22 @@ IsAddressOf (Some text) address = (a : SocketAddr) × (address ≡ Some a) × Is
 -- no text was given for an address, or the given text writes an address
 abbrev pub HasAddress : Option Text → Type 0
 HasAddress entry = IfSome entry (λ text. (a : SocketAddr) × IsSocketText text a)
+
+-- an address that no other machine reaches: one of 127.0.0.0/8, or ::1
+abbrev pub IsLoopback : SocketAddr → Type 0
+IsLoopback address = MatchIp (socket_ip address) IsLoopbackV4 IsLoopbackV6
+
+-- clients may be served at an address: no other machine reaches it, or that is allowed
+abbrev pub MayReach : Bool → SocketAddr → Type 0
+MayReach is_allowed address = (is_allowed ≡ true) ⊎ IsLoopback address
+
+-- no path was given for a folder, or one that has a byte
+abbrev pub names_folder : Option Text → Bool
+names_folder dir = option_map_or (λ path. not (length path == 0)) dir true
+
+-- what is written is wanted on the disk only where something is written
+abbrev pub may_sync : Bool → Bool → Bool
+may_sync is_wanted is_synced = is_wanted || not is_synced
 
 -- no text, or a text that `clap` made of a number from `least` to `most`
 abbrev pub HasNumber : ℕ → ℕ → Option Text → Type 0

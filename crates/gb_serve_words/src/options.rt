@@ -1,7 +1,7 @@
 //! Options of a command line that gb_serve has in common with other programs, and the texts that its words ask for.
-ghost use Rattle.std.specs.Prelude.{◌≡◌, ◌≢◌, IfSome, IfNone, alloc_error, codes, false};
+ghost use Rattle.std.specs.Prelude.{◌≡◌, ◌≢◌, ◌⊎◌, true, false, IfSome, IfNone, alloc_error, codes, option_map};
 ghost use Rattle.clap.specs.Words.{found_of, kind_of, one_of, rows_of, rule_of};
-ghost use Rattle.gb_serve_words.specs.Options.{number_rule, text_rule, flag_rule, sessions_rule, idle_rule, connections_rule, requests_rule, status_rule, HasAddress, IsAddressOf};
+ghost use Rattle.gb_serve_words.specs.Options.{number_rule, text_rule, flag_rule, sessions_rule, idle_rule, connections_rule, requests_rule, status_rule, may_sync, names_folder, HasAddress, IsAddressOf, MayReach};
 
 use crate::fault::WordFault;
 use clap::builder::ValueParser;
@@ -26,12 +26,15 @@ pub const MOST_REQUESTS: u32 = 4_000_000_000;
 /// The number of connections that a node serves at once if the words give none.
 pub const CONNECTIONS: u16 = 1_024;
 
+/// The seconds without a byte after which a connection is closed if the words give none.
+pub const IDLE: u16 = 300;
+
 // Definitions cite these values.
 const _: () = prove!(MOST_SESSIONS == 1_000 && MOST_IDLE == 60_000);
 
 const _: () = prove!(MOST_CONNECTIONS == 60_000 && MOST_REQUESTS == 4_000_000_000);
 
-const _: () = prove!(CONNECTIONS == 1_024);
+const _: () = prove!(CONNECTIONS == 1_024 && IDLE == 300);
 
 /// Returns an option `--name` for `clap`, whose value is a number from `least` to `most`.
 pub fn number_arg<'a>(alloc: Global, name: &'static str, least: u16, most: u32) -> Arg<'a>
@@ -85,7 +88,7 @@ pub fn idle_arg<'a>(alloc: Global) -> Arg<'a>
     number_arg(alloc, "idle", 0, MOST_IDLE)
         .value_name("SECONDS")
         .help(
-            "after how long without a byte a connection is closed that asked something; 0, or not given: never",
+            "after how long without a byte a connection is closed that asked something; 0: never; 300 if not given",
         )
 }
 
@@ -170,6 +173,32 @@ pub fn status_of(matches: &ArgMatches<'_>) -> Option<Option<SocketAddr>>
     }
 }
 
+/// Returns true if clients may be served at an address: if other machines do not reach it, or if `is_allowed` is true.
+pub fn may_reach(is_allowed: bool, address: SocketAddr) -> bool
+    ensures reached { result ≡ true → MayReach is_allowed address }
+    ensures refused { result ≡ false → MayReach is_allowed address → ⊥ }
+{
+    is_allowed || address.ip().is_loopback()
+}
+
+/// Returns true if no folder is given, or if its path has a byte. Without one it would name the root of the file system, by the stroke
+/// that is put behind it.
+pub fn is_folder(dir: Option<&str>) -> bool
+    ensures { result ≡ names_folder (option_map (λ path. path.now) dir.entry) }
+{
+    match dir {
+        Some(path) => !path.is_empty(),
+        None => true,
+    }
+}
+
+/// Returns false if records are wanted on the disk that are not wanted.
+pub fn may_sync(records: bool, sync: bool) -> bool
+    ensures { result ≡ may_sync records sync }
+{
+    records || !sync
+}
+
 /// Returns the fault for an error of `clap`: `OutOfMemory` if it lacked memory, else `Refused`.
 pub fn fault_from(error: &Error) -> WordFault
     ensures refused { result ≡ WordFault.Refused → kind_of error.now ≢ ErrorKind.OutOfMemory }
@@ -194,6 +223,20 @@ pub fn status_refusal(alloc: Global, matches: &ArgMatches<'_>) -> Result<String,
     format!(in alloc;
         "error: invalid value '{text}' for '--status <ADDR>': an IP address and a port are wanted, as 127.0.0.1:9100 or [::1]:9100{HINT}"
     )
+}
+
+/// Returns the text that says why the values of the options `--dir`, `--record` and `--sync` are refused: the path of the folder is
+/// empty, or `--sync` stands without `--record`. It is empty if neither is so. `Err` if there is no memory.
+pub fn folder_refusal(alloc: Global, matches: &ArgMatches<'_>) -> Result<String, AllocError> {
+    if !is_folder(matches.get_str("dir")) {
+        return format!(in alloc;
+            "error: invalid value '' for '--dir <DIR>': a folder is wanted, as '.' for the one where the program runs{HINT}"
+        );
+    }
+    if !may_sync(matches.get_flag("record"), matches.get_flag("sync")) {
+        return format!(in alloc; "error: the argument '--sync' wants records: '--record'{HINT}");
+    }
+    Ok(String::new(alloc))
 }
 
 /// Returns the text that the words of a command line ask for, which `clap` refused with this error: the help, or, if the word behind

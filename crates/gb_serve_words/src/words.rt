@@ -5,9 +5,9 @@ ghost use Rattle.gb_serve_words.specs.Words.{serve_app, may_record, IsGiven, IsP
 
 use crate::fault::WordFault;
 use crate::options::{
-    CONNECTIONS, HINT, connections_arg, fault_from, flag_arg, idle_arg, number_arg, quiet_arg,
-    record_arg, requests_arg, sessions_arg, status_arg, status_of, status_refusal, stop_arg,
-    sync_arg, text_arg, text_asked,
+    CONNECTIONS, HINT, IDLE, connections_arg, fault_from, flag_arg, folder_refusal, idle_arg,
+    is_folder, may_sync, number_arg, quiet_arg, record_arg, requests_arg, sessions_arg, status_arg,
+    status_of, status_refusal, stop_arg, sync_arg, text_arg, text_asked,
 };
 use crate::plan::{ServePlan, ServeWords};
 use clap::{ArgMatches, Command};
@@ -19,13 +19,13 @@ use std::alloc::{AllocError, Global};
 pub const SILENCE: u16 = 50;
 
 /// The byte of the version of packets if the words give none.
-pub const VERSION: u8 = 1;
+pub const VERSION: u8 = 3;
 
 /// The milliseconds between two ticks if the words give none.
 pub const TICK: u16 = 64;
 
 // Definitions cite these values.
-const _: () = prove!(SILENCE == 50 && VERSION == 1);
+const _: () = prove!(SILENCE == 50 && VERSION == 3);
 
 const _: () = prove!(TICK == 64);
 
@@ -52,7 +52,7 @@ fn command<'a>(alloc: Global) -> Result<Command<'a>, AllocError>
         .long("version")
         .value_name("V")
         .help(
-            "which packets each node sends: 1, for up to 16 nodes and payloads of 1,024 bytes, 2, for up to 32 and 4,096, or 3, as 2 with items that name generations; 1 if not given",
+            "which packets each node sends: 1, for up to 16 nodes and payloads of 1,024 bytes, 2, for up to 32 and 4,096, or 3, as 2 with items that name generations; 3 if not given",
         );
     let with_version = with_port.arg(version)?;
     let silence = number_arg(alloc, "silence", 2, 1_000).value_name("S").help(
@@ -89,7 +89,9 @@ ends the server in order, as gb_ctl's shutdown does.\n\n\
 `gb_serve -V` prints the version of the program.\n\n\
 Example:\n\n\
   key() { od -An -tx1 -N32 /dev/urandom | tr -d ' \\n'; echo; }\n\
-  { key; key; cat; } | gb_serve --nodes 3 --version 2 --base-port 24000 --stop-at-end\n\n\
+  { key; key; } > keys\n\
+  { cat keys; cat; } | gb_serve --nodes 3 --base-port 24000 --stop-at-end\n\n\
+The second line of the file keys is the administrator's key, which gb_ctl wants.\n\n\
 Exit status: 0 when all connections were served, or the server was ended in order, and, with --tape, its tapes were merged; 1 for a fault, 2 for \
 words that are refused.";
 
@@ -127,7 +129,7 @@ fn plan_of(matches: &ArgMatches<'_>) -> Option<ServePlan>
         silence: silence.unwrap_or(SILENCE),
         sessions: sessions.unwrap_or(0),
         tick: tick.unwrap_or(TICK),
-        idle: idle.unwrap_or(0),
+        idle: idle.unwrap_or(IDLE),
         connections: connections.unwrap_or(CONNECTIONS),
         session_requests: requests.unwrap_or(0),
         tape,
@@ -146,7 +148,8 @@ fn may_record(plan: &ServePlan, has_dir: bool) -> bool
     !plan.records || !plan.tape && has_dir
 }
 
-// Returns what words name and tell that `clap` took. `None` if they are no plan, or want records beside tapes or without a folder.
+// Returns what words name and tell that `clap` took. `None` if they are no plan, want records beside tapes or without a folder, want
+// none of them on the disk, or if the path of their folder is empty.
 fn words_of<'a>(matches: &ArgMatches<'a>) -> Option<ServeWords<'a>>
     requires { IsGiven (rows_of (found_of matches.now)) }
     ensures read { IfSome result (IsReadOf (rows_of (found_of matches.now))) }
@@ -158,13 +161,19 @@ fn words_of<'a>(matches: &ArgMatches<'a>) -> Option<ServeWords<'a>>
     if !may_record(&plan, dir.is_some()) {
         return None;
     }
+    if !may_sync(plan.records, plan.sync) {
+        return None;
+    }
+    if !is_folder(dir) {
+        return None;
+    }
     Some(ServeWords { dir, plan })
 }
 
 /// Returns what the words of gb_serve's command line tell a server to do: a plan, and the folder for records. The first word is the
 /// program's name. `Err` with `Refused` if `clap` refuses the words, their version does not exist or cannot name their number of nodes,
-/// their text for the status is no address, or they want records beside tapes or without a folder. `Err` with `OutOfMemory` if there is
-/// no memory.
+/// their text for the status is no address, they want records beside tapes or without a folder, `--sync` stands without `--record`, or
+/// the path of their folder is empty. `Err` with `OutOfMemory` if there is no memory.
 pub fn read_words<'a>(alloc: Global, words: &'a [&'a str]) -> Result<ServeWords<'a>, WordFault>
     ensures given { IfOk result (λ read. IsReadOf (matches_of serve_app (map (λ word. word.now) words.entry.now)) read) }
     ensures within { IfOk result (λ read. IsWithin read.plan) }
@@ -199,14 +208,17 @@ fn plan_refusal(alloc: Global, matches: &ArgMatches<'_>) -> Result<String, Alloc
             "error: invalid value '{nodes}' for '--nodes <N>': packets of version {byte} can name {most}{HINT}"
         );
     }
-    if status_of(matches).is_some() && matches.get_flag("record") {
-        return record_refusal(alloc, matches);
+    if status_of(matches).is_none() {
+        return status_refusal(alloc, matches);
     }
-    status_refusal(alloc, matches)
+    record_refusal(alloc, matches)
 }
 
-// Returns why records cannot be kept. It is empty if they can.
+// Returns why records cannot be kept as they are wanted. It is empty if they can, or if none are wanted and the folder has a path.
 fn record_refusal(alloc: Global, matches: &ArgMatches<'_>) -> Result<String, AllocError> {
+    if !matches.get_flag("record") {
+        return folder_refusal(alloc, matches);
+    }
     if matches.get_flag("tape") {
         return format!(in alloc;
             "error: the argument '--record' cannot be used with '--tape'{HINT}"
@@ -217,7 +229,7 @@ fn record_refusal(alloc: Global, matches: &ArgMatches<'_>) -> Result<String, All
             "error: the argument '--record' wants a folder: '--dir <DIR>'{HINT}"
         );
     }
-    Ok(String::new(alloc))
+    folder_refusal(alloc, matches)
 }
 
 /// Returns the text that says why the words of gb_serve's command line are refused. It is empty if they are a plan. `Err` if there is

@@ -27,7 +27,7 @@ fn plain_plan() -> PeerPlan {
         node: 0,
         wait: 60,
         sessions: 0,
-        idle: 0,
+        idle: 300,
         connections: 1_024,
         session_requests: 0,
         remote_sessions: false,
@@ -75,19 +75,20 @@ fn words_name_a_node_a_file_and_a_folder(rt: HostRuntime) {
 }
 
 // Options with a number, and the wait, the sessions, the idle seconds, the connections and the requests that they are.
-static NUMBERS: [(&str, u16, u16, u16, u16, u32); 9] = [
-    ("--wait 0", 0, 0, 0, 1_024, 0),
-    ("--wait 60000", 60_000, 0, 0, 1_024, 0),
-    ("--wait=59 --sessions 0", 59, 0, 0, 1_024, 0),
-    ("--sessions 1000", 60, 1_000, 0, 1_024, 0),
+static NUMBERS: [(&str, u16, u16, u16, u16, u32); 10] = [
+    ("--wait 0", 0, 0, 300, 1_024, 0),
+    ("--wait 60000", 60_000, 0, 300, 1_024, 0),
+    ("--wait=59 --sessions 0", 59, 0, 300, 1_024, 0),
+    ("--sessions 1000", 60, 1_000, 300, 1_024, 0),
     ("--idle 60000", 60, 0, 60_000, 1_024, 0),
+    ("--idle 1", 60, 0, 1, 1_024, 0),
     ("--connections 1 --idle 0", 60, 0, 0, 1, 0),
-    ("--connections 60000", 60, 0, 0, 60_000, 0),
+    ("--connections 60000", 60, 0, 300, 60_000, 0),
     (
         "--session-requests 4000000000",
         60,
         0,
-        0,
+        300,
         1_024,
         4_000_000_000,
     ),
@@ -191,7 +192,7 @@ fn all_options_at_once_are_a_plan(rt: HostRuntime) {
 }
 
 // Each number's first value outside its range, words that are too few, too many, unknown, or given twice, and addresses that are none.
-static REFUSED: [&str; 36] = [
+static REFUSED: [&str; 39] = [
     "gb_peer",
     "gb_peer --node 0 --dir marks",
     "gb_peer --cluster c.toml --dir marks",
@@ -203,6 +204,9 @@ static REFUSED: [&str; 36] = [
     "gb_peer --cluster c.toml --node --dir marks",
     "gb_peer --cluster --node 0 --dir marks",
     "gb_peer --cluster c.toml --node 0 --dir",
+    "gb_peer --cluster c.toml --node 0 --dir=",
+    "gb_peer --cluster c.toml --node 0 --dir= --record --sync",
+    "gb_peer --cluster c.toml --node 0 --dir marks --sync",
     "gb_peer --cluster c.toml --node 0 --node 0 --dir marks",
     "gb_peer --cluster c.toml --cluster c.toml --node 0 --dir marks",
     "gb_peer --cluster c.toml --node 0 --dir marks --dir marks",
@@ -248,7 +252,7 @@ fn words_of_a_node_are_refused(rt: HostRuntime) {
     }
 }
 
-static EXPLAINED: [(&str, &str); 5] = [
+static EXPLAINED: [(&str, &str); 8] = [
     (
         "gb_peer --cluster c.toml --node 32 --dir marks",
         "error: invalid value '32' for '--node <I>': 32 is not in 0..=31\n\nFor more information, try '--help'.\n",
@@ -264,6 +268,18 @@ static EXPLAINED: [(&str, &str); 5] = [
     (
         "gb_peer --cluster c.toml --node 0 --dir marks --status localhost:9100",
         "error: invalid value 'localhost:9100' for '--status <ADDR>': an IP address and a port are wanted, as 127.0.0.1:9100 or [::1]:9100\n\nFor more information, try '--help'.\n",
+    ),
+    (
+        "gb_peer --cluster c.toml --node 0 --dir marks --sync",
+        "error: the argument '--sync' wants records: '--record'\n\nFor more information, try '--help'.\n",
+    ),
+    (
+        "gb_peer --cluster c.toml --node 0 --dir=",
+        "error: invalid value '' for '--dir <DIR>': a folder is wanted, as '.' for the one where the program runs\n\nFor more information, try '--help'.\n",
+    ),
+    (
+        "gb_peer --cluster c.toml --node 0 --dir marks --record --sync",
+        "",
     ),
     ("gb_peer --cluster c.toml --node 0 --dir marks", ""),
 ];

@@ -20,11 +20,11 @@ fn read(alloc: Global, line: &str) -> Result<ServePlan, WordFault> {
 }
 
 // Lines, and the number of nodes, the version, the base port, the silence and the sessions that they are, and whether there are tapes.
-static PLANS: [(&str, u8, Version, u16, u16, u16, bool); 12] = [
+static PLANS: [(&str, u8, Version, u16, u16, u16, bool); 14] = [
     (
         "gb_serve --nodes 1 --base-port 1024",
         1,
-        Version::One,
+        Version::Three,
         1_024,
         50,
         0,
@@ -33,8 +33,26 @@ static PLANS: [(&str, u8, Version, u16, u16, u16, bool); 12] = [
     (
         "gb_serve --nodes 16 --base-port 65000",
         16,
-        Version::One,
+        Version::Three,
         65_000,
+        50,
+        0,
+        false,
+    ),
+    (
+        "gb_serve --nodes 17 --base-port 42000",
+        17,
+        Version::Three,
+        42_000,
+        50,
+        0,
+        false,
+    ),
+    (
+        "gb_serve --nodes 32 --base-port 42000",
+        32,
+        Version::Three,
+        42_000,
         50,
         0,
         false,
@@ -42,7 +60,7 @@ static PLANS: [(&str, u8, Version, u16, u16, u16, bool); 12] = [
     (
         "gb_serve --base-port=42000 --nodes=2",
         2,
-        Version::One,
+        Version::Three,
         42_000,
         50,
         0,
@@ -51,7 +69,7 @@ static PLANS: [(&str, u8, Version, u16, u16, u16, bool); 12] = [
     (
         "gb_serve --nodes 2 --base-port 42000 --silence 2 --sessions 1",
         2,
-        Version::One,
+        Version::Three,
         42_000,
         2,
         1,
@@ -60,7 +78,7 @@ static PLANS: [(&str, u8, Version, u16, u16, u16, bool); 12] = [
     (
         "gb_serve --nodes 2 --base-port 42000 --silence 1000 --sessions 1000",
         2,
-        Version::One,
+        Version::Three,
         42_000,
         1_000,
         1_000,
@@ -69,7 +87,7 @@ static PLANS: [(&str, u8, Version, u16, u16, u16, bool); 12] = [
     (
         "gb_serve --tape --nodes 2 --base-port 42000",
         2,
-        Version::One,
+        Version::Three,
         42_000,
         50,
         0,
@@ -78,7 +96,7 @@ static PLANS: [(&str, u8, Version, u16, u16, u16, bool); 12] = [
     (
         "gb_serve --nodes +3 --base-port 042000",
         3,
-        Version::One,
+        Version::Three,
         42_000,
         50,
         0,
@@ -141,7 +159,7 @@ fn words_are_plans(rt: HostRuntime) {
             silence: *silence,
             sessions: *sessions,
             tick: 64,
-            idle: 0,
+            idle: 300,
             connections: 1_024,
             session_requests: 0,
             tape: *tape,
@@ -157,12 +175,12 @@ fn words_are_plans(rt: HostRuntime) {
 }
 
 // Lines with options of the loops, and the milliseconds of a tick, the idle seconds, the connections and the requests that they are.
-static BEHAVIOURS: [(&str, u16, u16, u16, u32); 6] = [
-    ("gb_serve --nodes 1 --base-port 1024", 64, 0, 1_024, 0),
+static BEHAVIOURS: [(&str, u16, u16, u16, u32); 7] = [
+    ("gb_serve --nodes 1 --base-port 1024", 64, 300, 1_024, 0),
     (
         "gb_serve --nodes 1 --base-port 1024 --tick 1",
         1,
-        0,
+        300,
         1_024,
         0,
     ),
@@ -181,16 +199,23 @@ static BEHAVIOURS: [(&str, u16, u16, u16, u32); 6] = [
         0,
     ),
     (
+        "gb_serve --nodes 1 --base-port 1024 --idle 1",
+        64,
+        1,
+        1_024,
+        0,
+    ),
+    (
         "gb_serve --nodes 1 --base-port 1024 --connections 60000 --session-requests 1",
         64,
-        0,
+        300,
         60_000,
         1,
     ),
     (
         "gb_serve --session-requests=4000000000 --nodes 1 --base-port 1024",
         64,
-        0,
+        300,
         1_024,
         4_000_000_000,
     ),
@@ -201,7 +226,7 @@ fn words_say_how_loops_behave(rt: HostRuntime) {
     for (line, tick, idle, connections, session_requests) in &BEHAVIOURS {
         let want = ServePlan {
             nodes: 1,
-            version: Version::One,
+            version: Version::Three,
             base_port: 1_024,
             silence: 50,
             sessions: 0,
@@ -298,10 +323,10 @@ static RECORDS: [(&str, bool, bool, &str); 4] = [
         "d",
     ),
     (
-        "gb_serve --nodes 1 --base-port 1024 --sync",
+        "gb_serve --nodes 1 --base-port 1024 --dir=.",
         false,
-        true,
-        "",
+        false,
+        ".",
     ),
 ];
 
@@ -327,14 +352,13 @@ fn words_say_where_records_are_kept(rt: HostRuntime) {
 }
 
 // Each number's first value outside its range, words that are too few, too many, unknown, or given twice.
-static REFUSED: [&str; 58] = [
+static REFUSED: [&str; 62] = [
     "gb_serve ",
     "gb_serve --nodes 2",
     "gb_serve --base-port 42000",
     "gb_serve --nodes 0 --base-port 42000",
-    "gb_serve --nodes 17 --base-port 42000",
     "gb_serve --nodes 17 --base-port 42000 --version 1",
-    "gb_serve --nodes 32 --base-port 42000",
+    "gb_serve --nodes 32 --base-port 42000 --version 1",
     "gb_serve --nodes 33 --base-port 42000",
     "gb_serve --nodes 33 --base-port 42000 --version 2",
     "gb_serve --nodes 2 --base-port 42000 --version 0",
@@ -384,6 +408,11 @@ static REFUSED: [&str; 58] = [
     "gb_serve --nodes 2 --base-port 42000 --dir d --dir d",
     "gb_serve --nodes 2 --base-port 42000 --dir d --record=yes",
     "gb_serve --nodes 2 --base-port 42000 --sync --sync",
+    "gb_serve --nodes 2 --base-port 42000 --sync",
+    "gb_serve --nodes 2 --base-port 42000 --dir d --sync",
+    "gb_serve --nodes 2 --base-port 42000 --dir=",
+    "gb_serve --nodes 2 --base-port 42000 --dir= --record",
+    "gb_serve --nodes 2 --base-port 42000 --dir  --record --sync",
     "gb_serve --nodes 2 --base-port 42000 3",
     "gb_serve --help",
 ];
@@ -396,13 +425,13 @@ fn words_are_refused(rt: HostRuntime) {
     }
 }
 
-static EXPLAINED: [(&str, &str); 11] = [
+static EXPLAINED: [(&str, &str); 14] = [
     (
         "gb_serve --nodes 33 --base-port 42000",
         "error: invalid value '33' for '--nodes <N>': 33 is not in 1..=32\n\nFor more information, try '--help'.\n",
     ),
     (
-        "gb_serve --nodes 17 --base-port 42000",
+        "gb_serve --nodes 17 --base-port 42000 --version 1",
         "error: invalid value '17' for '--nodes <N>': packets of version 1 can name 16\n\nFor more information, try '--help'.\n",
     ),
     (
@@ -428,6 +457,18 @@ static EXPLAINED: [(&str, &str); 11] = [
     (
         "gb_serve --nodes 2 --base-port 42000 --dir d --tape --record",
         "error: the argument '--record' cannot be used with '--tape'\n\nFor more information, try '--help'.\n",
+    ),
+    (
+        "gb_serve --nodes 2 --base-port 42000 --dir d --sync",
+        "error: the argument '--sync' wants records: '--record'\n\nFor more information, try '--help'.\n",
+    ),
+    (
+        "gb_serve --nodes 2 --base-port 42000 --dir= --record",
+        "error: invalid value '' for '--dir <DIR>': a folder is wanted, as '.' for the one where the program runs\n\nFor more information, try '--help'.\n",
+    ),
+    (
+        "gb_serve --nodes 2 --base-port 42000 --dir= --sync",
+        "error: invalid value '' for '--dir <DIR>': a folder is wanted, as '.' for the one where the program runs\n\nFor more information, try '--help'.\n",
     ),
     (
         "gb_serve --nodes 2 --base-port 42000 --dir d --record --sync",
@@ -494,6 +535,14 @@ fn help_and_version_are_asked_for(rt: HostRuntime) {
     assert!(rt; has_line(&help, "\nUsage: gb_serve "));
     assert!(rt; has_line(&help, "--stop-at-end"));
     assert!(rt; has_line(&help, "--status <ADDR>") && has_line(&help, "--quiet"));
+    assert!(rt; has_line(&help, "items that name generations; 3 if not given"));
+    assert!(rt; has_line(&help, "0: never; 300 if not given"));
+    assert!(rt;
+        has_line(
+            &help,
+            "\n{ key; key; } > keys\n{ cat keys; cat; } | gb_serve "
+        )
+    );
     assert!(rt; has_line(&short, "\nUsage: gb_serve "));
     assert!(rt; asks_for(alloc, "gb_serve -V", "gb_serve 0.1.0\n"));
     for line in &UNASKED {

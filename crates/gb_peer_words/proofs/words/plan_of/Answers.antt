@@ -1,7 +1,7 @@
 use Rattle.gb_types.specs.Common.{◌∙◌, ◌≤◌, ℕ, Option, sym, ap, subst, arith, codes, IfSome, unwrap_or}
 use Rattle.std.specs.Str.Parse.{ParsesUnsigned, ExplainsUnsignedError, HasUnsignedDigitsIfOk}
 use Rattle.clap.specs.Words.{found_of, one_of, rows_of}
-use Rattle.gb_serve_words.specs.declared.options.TheConstants.{CONNECTIONS, MOST_CONNECTIONS, MOST_IDLE, MOST_REQUESTS, MOST_SESSIONS}
+use Rattle.gb_serve_words.specs.declared.options.TheConstants.{CONNECTIONS, IDLE, MOST_CONNECTIONS, MOST_IDLE, MOST_REQUESTS, MOST_SESSIONS}
 use Rattle.gb_serve_words.proofs.NumberLemmas.{is_there, reads, reads_flag, within_or}
 use Rattle.gb_peer_words.specs.declared.words.TheConstants.{LAST_NODE, MOST_WAIT, WAIT}
 use Rattle.gb_peer_words.proofs.words.plan_of.Goals as goal
@@ -33,7 +33,7 @@ returns c =
         node = sym node.0 ∙ c.unwrap-node.ensures;
         wait = c.unwrap_or.ensures ∙ ap (λ (o : Option ℕ). unwrap_or o WAIT) wait.0;
         sessions = c.unwrap_or-2.ensures ∙ ap (λ (o : Option ℕ). unwrap_or o 0) sessions.0;
-        idle = c.unwrap_or-3.ensures ∙ ap (λ (o : Option ℕ). unwrap_or o 0) idle.0;
+        idle = c.unwrap_or-3.ensures ∙ ap (λ (o : Option ℕ). unwrap_or o IDLE) idle.0;
         connections = c.unwrap_or-4.ensures ∙ ap (λ (o : Option ℕ). unwrap_or o CONNECTIONS) connections.0;
         session_requests = c.unwrap_or-5.ensures ∙ ap (λ (o : Option ℕ). unwrap_or o 0) requests.0;
         remote_sessions = reads_flag f (codes "remote-sessions") c.get_flag-remote_sessions.result c.requires.given.remote_sessions c.get_flag-remote_sessions.ensures.none c.get_flag-remote_sessions.ensures.value c.get_flag-remote_sessions.ensures.other;
@@ -47,7 +47,7 @@ returns c =
         node = (subst (λ (o : Option ℕ). IfSome o (λ n. (0 ≤ n) × (n ≤ LAST_NODE))) c.unwrap-node.ensures node.1).1;
         wait = rw c.unwrap_or.ensures (within_or 0 MOST_WAIT WAIT c.get_one-wait.result (omega arith) (omega arith) wait.1).1;
         sessions = rw c.unwrap_or-2.ensures (within_or 0 MOST_SESSIONS 0 c.get_one-sessions.result (omega arith) (omega arith) sessions.1).1;
-        idle = rw c.unwrap_or-3.ensures (within_or 0 MOST_IDLE 0 c.get_one-idle.result (omega arith) (omega arith) idle.1).1;
+        idle = rw c.unwrap_or-3.ensures (within_or 0 MOST_IDLE IDLE c.get_one-idle.result (omega arith) (omega arith) idle.1).1;
         connections = rw c.unwrap_or-4.ensures (within_or 1 MOST_CONNECTIONS CONNECTIONS c.get_one-connections.result (omega arith) (omega arith) connections.1);
         session_requests = rw c.unwrap_or-5.ensures (within_or 0 MOST_REQUESTS 0 c.get_one-requests.result (omega arith) (omega arith) requests.1).1;
       };

@@ -1,9 +1,8 @@
-use Rattle.gb_types.specs.Common.{◌≡◌, ◌∙◌, ap, codes, List, refl, sym, subst, map, true, rules, inl, inr}
-use Rattle.clap.specs.Words.{App, Row, fault_of, is_simple, is_simple_and_free, matches_of, one_of, takes}
+use Rattle.gb_types.specs.Common.{◌≡◌, ◌∙◌, ap, List, refl, sym, subst, map, true, rules, inl, inr}
+use Rattle.clap.specs.Words.{App, Row, fault_of, is_simple, is_simple_and_free, matches_of, takes}
 use Rattle.clap.specs.Kinds.{HasKind, Kinds}
 use Rattle.clap.proofs.OnLiterals.{clap_on_literals}
-use Rattle.gb_serve_words.specs.Options.{HasAddress}
-use Rattle.gb_peer_words.specs.Words.{IsReadOf, peer_app}
+use Rattle.gb_peer_words.specs.Words.{CanServe, IsReadOf, peer_app}
 use Rattle.gb_serve_words.specs.declared.fault.WordFault.TheVariants.{Refused}
 use Rattle.gb_peer_words.proofs.EntryLemmas.{given_by}
 use Rattle.gb_peer_words.proofs.words.read_words.Goals as goal
@@ -34,13 +33,13 @@ pub returns-in-Ok-clause-refused : goal.returns-in-Ok-clause-refused
 returns-in-Ok-clause-refused c = λ _.
     let read = (c.in-Ok.ensures.matches (ap is_simple c.in_ok-command.ensures ∙ is_read)).0
     ∙ ap (λ (a : App). matches_of a (map (λ word. word.now) c.args.words.now)) c.in_ok-command.ensures in
-    inr (subst (λ (rows : List Row). HasAddress (one_of (codes "status") rows) → ⊥) read c.in-None.ensures.none)
+    inr (subst (λ (rows : List Row). CanServe rows → ⊥) read c.in-None.ensures.none)
 
 pub returns-in-Ok-clause-taken : goal.returns-in-Ok-clause-taken
 returns-in-Ok-clause-taken c = λ _ can _.
     let read = (c.in-Ok.ensures.matches (ap is_simple c.in_ok-command.ensures ∙ is_read)).0
     ∙ ap (λ (a : App). matches_of a (map (λ word. word.now) c.args.words.now)) c.in_ok-command.ensures in
-    subst (λ (rows : List Row). HasAddress (one_of (codes "status") rows) → ⊥) read c.in-None.ensures.none can
+    subst (λ (rows : List Row). CanServe rows → ⊥) read c.in-None.ensures.none can
 
 pub returns-clause-refused : goal.returns-clause-refused
 returns-clause-refused c = λ is. inl (λ none.

@@ -1,7 +1,8 @@
-use Rattle.gb_types.specs.Common.{◌∙◌, Option, ap, codes, option_map, sym}
+use Rattle.gb_types.specs.Common.{◌∙◌, Option, ap, codes, option_map, sym, true≢false}
 use Rattle.std.specs.Borrow.{Bor}
 use Rattle.clap.specs.Words.{Text, first_of, found_of, rows_of}
 use Rattle.clap.proofs.{CallerLemmas.some_of_text, WalkLemmas.first_value-rows}
+use Rattle.gb_serve_words.specs.Options.{may_sync, names_folder}
 use Rattle.gb_peer_words.proofs.words.words_of.Goals as goal
 
 pub unwrap-cluster-requires : goal.unwrap-cluster-requires
@@ -24,4 +25,15 @@ returns-clause-read c =
     }
 
 pub returns-in_err-status-clause-none : goal.returns-in_err-status-clause-none
-returns-in_err-status-clause-none c = rw c.from_residual.ensures c.in_err-status.ensures.none
+returns-in_err-status-clause-none c = rw c.from_residual.ensures (λ can. c.in_err-status.ensures.none can.status)
+
+pub returns-then-not-may_sync-clause-none : goal.returns-then-not-may_sync-clause-none
+returns-then-not-may_sync-clause-none c = λ can.
+    let plan = c.plan_of-plan.ensures.read in
+    true≢false (sym can.disk ∙ ((λ i. may_sync (sym plan.records i) (sym plan.sync i)) ∙ (sym c.may_sync.ensures ∙ c.if-not-may_sync.true)))
+
+pub returns-then-not-is_folder-clause-none : goal.returns-then-not-is_folder-clause-none
+returns-then-not-is_folder-clause-none c = λ can.
+    let f = found_of c.args.matches.now in
+    let dir = sym (c.get_str-2.ensures ∙ first_value-rows f (codes "dir")) ∙ ap (λ (o : Option (Bor Text)). option_map (λ s. s.now) o) c.unwrap-dir.ensures in
+    true≢false (sym can.folder ∙ (ap names_folder dir ∙ (sym c.is_folder.ensures ∙ c.if-not-is_folder.true)))

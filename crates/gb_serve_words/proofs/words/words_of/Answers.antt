@@ -2,6 +2,7 @@ use Rattle.gb_types.specs.Common.{◌≡◌, ◌∙◌, Option, Some, None, ap, 
 use Rattle.std.specs.Borrow.{Bor}
 use Rattle.clap.specs.Words.{Text, first_of, found_of, rows_of}
 use Rattle.clap.proofs.WalkLemmas.{first_value-rows}
+use Rattle.gb_serve_words.specs.Options.{may_sync, names_folder}
 use Rattle.gb_serve_words.specs.Words.{may_record}
 use Rattle.gb_serve_words.proofs.words.words_of.Goals as goal
 
@@ -28,3 +29,14 @@ returns-then-not-may_record-clause-none c = λ can.
     let dir : first_of (codes "dir") (rows_of f) ≡ option_map (λ (s : Bor Text). s.now) c.get_str-dir.result = sym (c.get_str-dir.ensures ∙ first_value-rows f (codes "dir")) in
     let has_dir : is_some (first_of (codes "dir") (rows_of f)) ≡ c.is_some.result = ap is_some dir ∙ (some_mapped (λ (s : Bor Text). s.now) c.get_str-dir.result ∙ sym c.is_some.ensures) in
     true≢false (sym can.records ∙ ((λ i. may_record (sym plan.records i) (sym plan.tape i) (has_dir i)) ∙ (sym c.may_record.ensures ∙ c.if-not-may_record.true)))
+
+pub returns-then-not-may_sync-clause-none : goal.returns-then-not-may_sync-clause-none
+returns-then-not-may_sync-clause-none c = λ can.
+    let plan = c.in_ok-plan.ensures.read in
+    true≢false (sym can.disk ∙ ((λ i. may_sync (sym plan.records i) (sym plan.sync i)) ∙ (sym c.may_sync.ensures ∙ c.if-not-may_sync.true)))
+
+pub returns-then-not-is_folder-clause-none : goal.returns-then-not-is_folder-clause-none
+returns-then-not-is_folder-clause-none c = λ can.
+    let f = found_of c.args.matches.now in
+    let dir : first_of (codes "dir") (rows_of f) ≡ option_map (λ (s : Bor Text). s.now) c.get_str-dir.result = sym (c.get_str-dir.ensures ∙ first_value-rows f (codes "dir")) in
+    true≢false (sym can.folder ∙ (ap names_folder dir ∙ (sym c.is_folder.ensures ∙ c.if-not-is_folder.true)))
