@@ -3,13 +3,34 @@
 #![tactic(auto)]
 
 mod run;
+mod words;
 
 use crate::run::run_schedule;
+use crate::words::{Asked, answer_words, asked_by};
+use std::env::{Env, FillError};
 use std::io;
 use std::process::ExitCode;
 
-/// Status 0: all lines were read; 1: a read or a write failed; 2: a bad line; 3: no memory.
+// Returns what the words of the command line ask for. Takes no memory.
+fn asked_of(rt: &HostRuntime) -> Asked {
+    let mut word = [0u8; 16];
+    let mut other = [0u8; 1];
+    let is_alone = matches!(rt.arg(2, &mut other), Err(FillError::NotPresent));
+    match rt.arg(1, &mut word) {
+        Ok(count) => asked_by(Some(&word[..count]), is_alone),
+        Err(FillError::NotPresent) => asked_by(None, is_alone),
+        Err(FillError::TooLong) => Asked::Refused,
+    }
+}
+
+/// Status 0: all lines were read, or help or the version was asked for; 1: a read or a write failed; 2: a bad line, or words that are
+/// refused; 3: no memory.
 fn main(rt: HostRuntime) -> ExitCode {
+    let asked = asked_of(&rt);
+    if asked != Asked::Schedule {
+        let status = answer_words(asked, &mut io::writer(&rt), &mut rt.stderr());
+        return ExitCode::from(status);
+    }
     let ended = run_schedule(
         rt.alloc(),
         &mut rt.reader(),
