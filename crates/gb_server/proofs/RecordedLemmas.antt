@@ -1,7 +1,9 @@
 -- The recorders of a host that was just opened.
 use Rattle.gb_types.specs.Common.{◌≡◌, ◌∙◌, ◌<◌, ◌++◌, ◌∷◌, ℕ, Bool, true, false, List, [], length, Option, Some, None, IfSome, ap, arith, refl, subst, nat_cmp}
 use Rattle.std.specs.FinSet as set
+use Rattle.gb_past.specs.Story.{Known}
 use Rattle.gb_host.specs.Common.{AreOpened, IsOpened, RecorderValue, TapeEntry}
+use Rattle.gb_host.specs.Pasts.{past_at}
 use Rattle.gb_host.specs.declared.plan.HostPlan.{HostPlan}
 use Rattle.gb_host.proofs.ReplayLemmas.{placed_next}
 
@@ -9,20 +11,20 @@ use Rattle.gb_host.proofs.ReplayLemmas.{placed_next}
 abbrev pub IsFresh : RecorderValue → Type 0
 IsFresh r = (length r.entries ≡ 0) × (r.is_whole ≡ false)
 
-fresh_if : (p : HostPlan) (is_here : Bool) (k : ℕ) (place : Option RecorderValue) → IsOpened p is_here k place → IfSome place IsFresh
-fresh_if p true k None opened = tt
-fresh_if p true k (Some r) opened = (ap length opened.2, opened.3)
-fresh_if p false k None opened = tt
-fresh_if p false k (Some r) opened = absurd cc
+fresh_if : (p : HostPlan) (is_here : Bool) (k : ℕ) (before : List TapeEntry) (place : Option RecorderValue) → IsOpened p is_here k before place → IfSome place IsFresh
+fresh_if p true k before None opened = tt
+fresh_if p true k before (Some r) opened = (ap length opened.3, opened.4)
+fresh_if p false k before None opened = tt
+fresh_if p false k before (Some r) opened = absurd cc
 
 -- what stands at the place of the next item
-pub fresh_at : (p : HostPlan) (here : set.FinSet nat_cmp) (n : ℕ) (all yielded rest : List (Option RecorderValue)) (place : Option RecorderValue)
-    → all ≡ yielded ++ place ∷ rest → length all ≡ n → AreOpened p here n all → IfSome place IsFresh
-fresh_at p here n all yielded rest place split len opened =
+pub fresh_at : (p : HostPlan) (here : set.FinSet nat_cmp) (n : ℕ) (pasts : List (Known TapeEntry)) (all yielded rest : List (Option RecorderValue)) (place : Option RecorderValue)
+    → all ≡ yielded ++ place ∷ rest → length all ≡ n → AreOpened p here n pasts all → IfSome place IsFresh
+fresh_at p here n pasts all yielded rest place split len opened =
     let k = length yielded in
     let at = placed_next all yielded rest place k split refl in
     let under : k < n = subst (λ m. k < m) len at.0 in
-    fresh_if p (set.contains here k) k place (subst (IsOpened p (set.contains here k) k) (at.1 place) (opened k place under))
+    fresh_if p (set.contains here k) k (past_at pasts k) place (subst (IsOpened p (set.contains here k) k (past_at pasts k)) (at.1 place) (opened k place under))
 
 -- a list without elements
 pub none_of : (es : List TapeEntry) → length es ≡ 0 → es ≡ []

@@ -1,6 +1,7 @@
 //! What the loop of a node records by, which is its log (a recorder and a file), and what is left of it.
-ghost use Rattle.std.specs.Prelude.{◌≡◌, [], false, IfSome, length, vec_len};
-ghost use Rattle.gb_host.specs.Common.{AreOpened};
+ghost use Rattle.std.specs.Prelude.{◌≡◌, List, [], false, IfSome, length, vec_len};
+ghost use Rattle.gb_past.specs.Story.{Known};
+ghost use Rattle.gb_host.specs.Common.{AreOpened, TapeEntry};
 
 use crate::record_file::RecordFile;
 use crate::signals::Signals;
@@ -87,7 +88,7 @@ pub fn logs_of<L: Tapes>(
     files: Vec<RecordFile>,
 ) -> Result<Vec<NodeLog<L>>, OutOfMemory>
     requires count { vec_len recorders ≡ plan.now.cluster.nodes }
-    requires opened { AreOpened plan.now here.now plan.now.cluster.nodes recorders.items }
+    requires opened { (pasts : List (Known TapeEntry)) × AreOpened plan.now here.now plan.now.cluster.nodes pasts recorders.items }
 {
     let mut files = files;
     let mut logs = Vec::with_capacity(alloc, recorders.len())?;

@@ -11,7 +11,7 @@ log_of-requires g c =
     let items = c.args.recorders.items in
     let rest = c.next.new.self.rest.items in
     let split : items ≡ c.loop-place.yielded ++ place ∷ rest = c.loop-place.invariant ∙ ap (λ xs. c.loop-place.yielded ++ xs) c.in-Some.ensures.steps.0 in
-    fresh_at c.args.plan.now c.args.here.now c.args.plan.now.cluster.nodes items c.loop-place.yielded rest place split (sym c.args.recorders.ok.0 ∙ c.requires.count) c.requires.opened
+    fresh_at c.args.plan.now c.args.here.now c.args.plan.now.cluster.nodes c.requires.opened.0 items c.loop-place.yielded rest place split (sym c.args.recorders.ok.0 ∙ c.requires.count) c.requires.opened.1
 
 pub loop-place-preserved : goal.loop-place-preserved
 loop-place-preserved g c =
