@@ -5,7 +5,7 @@ ghost use Rattle.gb_types.specs.declared.limits.TheConstants.{NODES};
 ghost use Rattle.gb_host.specs.Happened.{ArePastsTo, GoesOn};
 ghost use Rattle.gb_host.specs.HostValue.{AreHere, AreNew, AreOpened, IsOpened, IsRefused};
 ghost use Rattle.gb_host.specs.Listed.{IsListed};
-ghost use Rattle.gb_host.specs.Nothing.{gives_nothing, GaveNothing};
+ghost use Rattle.gb_host.specs.Nothing.{is_no_event, WasNoEvent};
 ghost use Rattle.gb_host.specs.Begun.{AreBegun, pasts_begun};
 ghost use Rattle.gb_host.specs.Pasts.{AreBlank, book_at, books_of};
 ghost use Rattle.gb_host.specs.Plans.{IsPlan};
@@ -186,22 +186,22 @@ impl<L: Tapes> Host<L> {
         hosted.step(seat, event)
     }
 
-    /// Makes one event happen at a node as `call_at` does, unless it gives nothing: a pack or an again at a node that has nothing to
-    /// send. Then it is no event, and `None` is returned: nothing has changed, and neither the node's past nor the seat has it.
-    pub fn call_to_send<R: Wait, G: Gate>(
+    /// Makes one event happen at a node as `call_at` does, and returns its answer, unless the answer says that it is no event: a request
+    /// is Denied, bytes are no packet for the node, a pack, an again or an acknowledgement gives nothing, or the node lacks memory. Then
+    /// nothing has changed, and neither the node's past nor the seat has it.
+    pub fn call_or_skip<R: Wait, G: Gate>(
         &self,
         rt: &R,
         seat: &mut Seat<L>,
         node: NodeId,
         event: NodeEvent,
         gate: &mut G,
-    ) -> Result<Option<NodeAnswer>, HostFault>
+    ) -> Result<NodeAnswer, HostFault>
         ensures here { OnOk result (set.contains self.now.here node.number ≡ true) }
-        ensures past { IfOk result (λ o. IfSome o (λ a. GoesOn L.plan node seat.old seat.new event a)) }
-        ensures calls { IfOk result (λ o. IfSome o (λ a. seat.new.calls ≡ seat.old.calls ++ record { node = node; event = event; answer = a } ∷ [])) }
-        ensures something { IfOk result (λ o. IfSome o (λ a. gives_nothing event a ≡ false)) }
-        ensures nothing { IfOk result (λ o. IfNone o (GaveNothing L.plan node seat.old event)) }
-        ensures same { IfOk result (λ o. IfNone o (seat.new ≡ seat.old)) }
+        ensures past { IfOk result (λ a. is_no_event a ≡ false → GoesOn L.plan node seat.old seat.new event a) }
+        ensures calls { IfOk result (λ a. is_no_event a ≡ false → seat.new.calls ≡ seat.old.calls ++ record { node = node; event = event; answer = a } ∷ []) }
+        ensures no_event { IfOk result (λ a. is_no_event a ≡ true → WasNoEvent L.plan node seat.old event a) }
+        ensures same { IfOk result (λ a. is_no_event a ≡ true → seat.new ≡ seat.old) }
         ensures number { seat.new.number ≡ seat.old.number }
         ensures fault { IfErr result (IsRefused L.plan self.now.here seat.old node) }
         ensures err { OnErr result (seat.new ≡ seat.old) }
@@ -216,7 +216,7 @@ impl<L: Tapes> Host<L> {
             never(rt);
         }
         let _ = gate.pass();
-        hosted.step_to_send(seat, event)
+        hosted.step_or_skip(seat, event)
     }
 
     /// Lists at most `most` of a node's groups from the place `from` on, in the order in which they were made. The token has to

@@ -1,11 +1,11 @@
 //! A node under its lock.
-ghost use Rattle.std.specs.Prelude.{◌≡◌, ◌&&◌, ◌+◌, ◌-◌, ◌<◌, ◌≤◌, ◌^◌, ◌++◌, ◌∷◌, [], List, true, false, length, vec_len, IfOk, IfErr, IfNone, IfSome, OnOk, OnErr, OnSome, IsSome, Option, cond, slice_index, slice_set, vec_capacity};
+ghost use Rattle.std.specs.Prelude.{◌≡◌, ◌&&◌, ◌+◌, ◌-◌, ◌<◌, ◌≤◌, ◌^◌, ◌++◌, ◌∷◌, [], List, true, false, length, vec_len, IfOk, IfErr, OnOk, OnErr, cond, slice_index, slice_set, vec_capacity};
 ghost use Rattle.gb_node.specs.Common.{IsTurn, IsSpelt};
 ghost use Rattle.gb_host.specs.Happened.{GoesOn};
 ghost use Rattle.gb_host.specs.HostValue.{IsUnkept};
 ghost use Rattle.gb_host.specs.KeptPast.{kept_entries, IsKeptAt};
 ghost use Rattle.gb_host.specs.Listed.{IsListed};
-ghost use Rattle.gb_host.specs.Nothing.{is_nothing, gives_nothing, GaveNothing, GivesNothing};
+ghost use Rattle.gb_host.specs.Nothing.{is_no_event, is_vain, WasNoEvent};
 ghost use Rattle.gb_host.specs.Pasts.{book_at};
 ghost use Rattle.gb_host.specs.Plans.{is_kept};
 ghost use Rattle.gb_host.specs.Replay.{IsReplay};
@@ -21,9 +21,9 @@ use crate::plan::HostPlan;
 use crate::seat::Seat;
 use gb_cap::Token;
 use gb_node::past::pasts_say;
-use gb_node::{Node, NodeAnswer, NodeEvent, Sent, Tape};
+use gb_node::{Node, NodeAnswer, NodeEvent, PacketAnswer, Sent, Tape};
 use gb_table::Listing;
-use gb_types::{NodeId, Refusal};
+use gb_types::{NodeId, Refusal, Reply};
 use std::alloc::Global;
 use std::marker::Model;
 use std::sync::Wait;
@@ -130,32 +130,35 @@ impl<L: Tapes> Hosted<L> {
     }
 }
 
-// Returns true if the answer is that nothing is sent.
-fn is_nothing(answer: &NodeAnswer) -> bool
-    ensures { result ≡ is_nothing answer.now }
+// Returns true if the answer says that what was asked is no event.
+fn is_no_event(answer: &NodeAnswer) -> bool
+    ensures { result ≡ is_no_event answer.now }
 {
     match answer {
+        NodeAnswer::Reply(Reply::Refused(why)) => is_vain(*why),
+        NodeAnswer::Taken(PacketAnswer::Fault(_)) => true,
         NodeAnswer::Sent(Sent::Nothing) => true,
+        NodeAnswer::Sent(Sent::Refused(Refusal::OutOfMemory)) => true,
         _ => false,
     }
 }
 
-// Returns true if the event is a pack or an again, and its answer is that nothing is sent.
-fn gives_nothing(event: &NodeEvent, answer: &NodeAnswer) -> bool
-    ensures { result ≡ gives_nothing event.now answer.now }
+// Returns true if a request that is refused so is no event.
+fn is_vain(why: Refusal) -> bool
+    ensures { result ≡ is_vain why }
 {
-    match event {
-        NodeEvent::Pack(_) => is_nothing(answer),
-        NodeEvent::Again { .. } => is_nothing(answer),
+    match why {
+        Refusal::Denied => true,
+        Refusal::OutOfMemory => true,
         _ => false,
     }
 }
 
-// Returns true if an event is left out: it gives nothing, and those that give nothing are left out.
-fn is_left_out(skips: bool, event: &NodeEvent, answer: &NodeAnswer) -> bool
-    ensures { result ≡ (skips && gives_nothing event.now answer.now) }
+// Returns true if an event is left out: its answer says that it is none, and those are left out.
+fn is_left_out(skips: bool, answer: &NodeAnswer) -> bool
+    ensures { result ≡ (skips && is_no_event answer.now) }
 {
-    skips && gives_nothing(event, answer)
+    skips && is_no_event(answer)
 }
 
 impl<L: Tapes> Hosted<L> {
@@ -173,55 +176,52 @@ impl<L: Tapes> Hosted<L> {
         ensures fault { IfErr result (λ why. IsUnkept L.plan (slice_index seat.old.counts self.old.me.number) why) }
         ensures err { OnErr result ((self.new ≡ self.old) × (seat.new ≡ seat.old)) }
     {
-        match self.step_or_skip(seat, event, false) {
-            Ok(Some(answer)) => Ok(answer),
-            Ok(None) => unreachable!(),
+        match self.step_with(seat, event, false) {
+            Ok(answer) => Ok(answer),
             Err(fault) => Err(fault),
         }
     }
 
-    /// One event as by `step`, unless it gives nothing: a pack or an again at a node that has nothing to send. Then it is no event,
-    /// and `None` is returned: nothing has changed, and neither the past, a tape, a ring nor the seat has it.
-    pub fn step_to_send(
+    /// One event as by `step`, unless its answer says that it is none: a request is Denied, bytes are no packet for the node, nothing is
+    /// sent, or the node lacks memory. Then nothing has changed, and neither the past, a tape, a ring nor the seat has it.
+    pub fn step_or_skip(
         &mut self,
         seat: &mut Seat<L>,
         event: NodeEvent,
-    ) -> Result<Option<NodeAnswer>, HostFault>
-        ensures turn { IfOk result (λ o. IfSome o (λ a. IsTurn self.old.node event a self.new.node)) }
-        ensures spelt { IfOk result (λ o. IfSome o (λ a. IsSpelt self.old.node event a)) }
-        ensures something { IfOk result (λ o. IfSome o (λ a. gives_nothing event a ≡ false)) }
-        ensures past { IfOk result (λ o. IfSome o (λ a. self.new.past ≡ self.old.past ++ record { seat = seat.old.number; count = slice_index seat.old.counts self.old.me.number; event = event; answer = a } ∷ [])) }
-        ensures goes_on { IfOk result (λ o. IfSome o (λ a. GoesOn L.plan self.old.me seat.old seat.new event a)) }
-        ensures calls { IfOk result (λ o. IfSome o (λ a. seat.new.calls ≡ seat.old.calls ++ record { node = self.old.me; event = event; answer = a } ∷ [])) }
-        ensures counts { IfOk result (λ o. OnSome o (seat.new.counts ≡ slice_set seat.old.counts self.old.me.number (slice_index seat.old.counts self.old.me.number + 1))) }
-        ensures nothing { IfOk result (λ o. IfNone o (GivesNothing self.old.node event)) }
-        ensures gave_nothing { IfOk result (λ o. IfNone o (GaveNothing L.plan self.old.me seat.old event)) }
-        ensures same { IfOk result (λ o. IfNone o ((self.new ≡ self.old) × (seat.new ≡ seat.old))) }
+    ) -> Result<NodeAnswer, HostFault>
+        ensures turn { IfOk result (λ a. IsTurn self.old.node event a self.new.node) }
+        ensures spelt { IfOk result (λ a. IsSpelt self.old.node event a) }
+        ensures past { IfOk result (λ a. is_no_event a ≡ false → self.new.past ≡ self.old.past ++ record { seat = seat.old.number; count = slice_index seat.old.counts self.old.me.number; event = event; answer = a } ∷ []) }
+        ensures goes_on { IfOk result (λ a. is_no_event a ≡ false → GoesOn L.plan self.old.me seat.old seat.new event a) }
+        ensures calls { IfOk result (λ a. is_no_event a ≡ false → seat.new.calls ≡ seat.old.calls ++ record { node = self.old.me; event = event; answer = a } ∷ []) }
+        ensures counts { IfOk result (λ a. is_no_event a ≡ false → seat.new.counts ≡ slice_set seat.old.counts self.old.me.number (slice_index seat.old.counts self.old.me.number + 1)) }
+        ensures no_event { IfOk result (λ a. is_no_event a ≡ true → WasNoEvent L.plan self.old.me seat.old event a) }
+        ensures same { IfOk result (λ a. is_no_event a ≡ true → (self.new ≡ self.old) × (seat.new ≡ seat.old)) }
         ensures numbers { (self.new.me ≡ self.old.me) × (self.new.book ≡ self.old.book) × (seat.new.number ≡ seat.old.number) }
         ensures fault { IfErr result (λ why. IsUnkept L.plan (slice_index seat.old.counts self.old.me.number) why) }
         ensures err { OnErr result ((self.new ≡ self.old) × (seat.new ≡ seat.old)) }
     {
-        self.step_or_skip(seat, event, true)
+        match self.step_with(seat, event, true) {
+            Ok(answer) => Ok(answer),
+            Err(fault) => Err(fault),
+        }
     }
 
-    // One event. If `skips`, one that gives nothing is left out, and `None` is returned.
-    fn step_or_skip(
+    // One event. If `skips`, what is no event by its answer is left out.
+    fn step_with(
         &mut self,
         seat: &mut Seat<L>,
         event: NodeEvent,
         skips: bool,
-    ) -> Result<Option<NodeAnswer>, HostFault>
-        ensures turn { IfOk result (λ o. IfSome o (λ a. IsTurn self.old.node event a self.new.node)) }
-        ensures spelt { IfOk result (λ o. IfSome o (λ a. IsSpelt self.old.node event a)) }
-        ensures something { IfOk result (λ o. IfSome o (λ a. (skips && gives_nothing event a) ≡ false)) }
-        ensures past { IfOk result (λ o. IfSome o (λ a. self.new.past ≡ self.old.past ++ record { seat = seat.old.number; count = slice_index seat.old.counts self.old.me.number; event = event; answer = a } ∷ [])) }
-        ensures goes_on { IfOk result (λ o. IfSome o (λ a. GoesOn L.plan self.old.me seat.old seat.new event a)) }
-        ensures calls { IfOk result (λ o. IfSome o (λ a. seat.new.calls ≡ seat.old.calls ++ record { node = self.old.me; event = event; answer = a } ∷ [])) }
-        ensures counts { IfOk result (λ o. OnSome o (seat.new.counts ≡ slice_set seat.old.counts self.old.me.number (slice_index seat.old.counts self.old.me.number + 1))) }
-        ensures skips { IfOk result (λ o. IfNone o (skips ≡ true)) }
-        ensures nothing { IfOk result (λ o. IfNone o (GivesNothing self.old.node event)) }
-        ensures gave_nothing { IfOk result (λ o. IfNone o (GaveNothing L.plan self.old.me seat.old event)) }
-        ensures same { IfOk result (λ o. IfNone o ((self.new ≡ self.old) × (seat.new ≡ seat.old))) }
+    ) -> Result<NodeAnswer, HostFault>
+        ensures turn { IfOk result (λ a. IsTurn self.old.node event a self.new.node) }
+        ensures spelt { IfOk result (λ a. IsSpelt self.old.node event a) }
+        ensures past { IfOk result (λ a. (skips && is_no_event a) ≡ false → self.new.past ≡ self.old.past ++ record { seat = seat.old.number; count = slice_index seat.old.counts self.old.me.number; event = event; answer = a } ∷ []) }
+        ensures goes_on { IfOk result (λ a. (skips && is_no_event a) ≡ false → GoesOn L.plan self.old.me seat.old seat.new event a) }
+        ensures calls { IfOk result (λ a. (skips && is_no_event a) ≡ false → seat.new.calls ≡ seat.old.calls ++ record { node = self.old.me; event = event; answer = a } ∷ []) }
+        ensures counts { IfOk result (λ a. (skips && is_no_event a) ≡ false → seat.new.counts ≡ slice_set seat.old.counts self.old.me.number (slice_index seat.old.counts self.old.me.number + 1)) }
+        ensures no_event { IfOk result (λ a. (skips && is_no_event a) ≡ true → WasNoEvent L.plan self.old.me seat.old event a) }
+        ensures same { IfOk result (λ a. (skips && is_no_event a) ≡ true → (self.new ≡ self.old) × (seat.new ≡ seat.old)) }
         ensures numbers { (self.new.me ≡ self.old.me) × (self.new.book ≡ self.old.book) × (seat.new.number ≡ seat.old.number) }
         ensures fault { IfErr result (λ why. IsUnkept L.plan (slice_index seat.old.counts self.old.me.number) why) }
         ensures err { OnErr result ((self.new ≡ self.old) × (seat.new ≡ seat.old)) }
@@ -266,14 +266,13 @@ impl<L: Tapes> Hosted<L> {
                 return Err(fault);
             }
         };
-        if is_left_out(skips, &event, &answer) {
-            // The node is as it was, and the copies of such an answer hold no memory.
+        if is_left_out(skips, &answer) {
+            // The node is as it was.
             nothing_changes();
             drop(event);
-            drop(answer);
             drop(copies);
             show(past, &seen[at]);
-            return Ok(None);
+            return Ok(answer);
         }
         counts[at] = count + 1;
         let made = Made {
@@ -291,6 +290,6 @@ impl<L: Tapes> Hosted<L> {
             event,
         };
         keep(kept, list, call, copies, past);
-        Ok(Some(answer))
+        Ok(answer)
     }
 }

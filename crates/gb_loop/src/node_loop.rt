@@ -4,6 +4,7 @@ ghost use Rattle.gb_mail.specs.Mailed.{HasCalled, HasMailed};
 
 use crate::clock::LoopClock;
 use crate::connection::Connection;
+use crate::crowd::Crowd;
 use crate::links::Link;
 use crate::options::LoopOptions;
 use crate::parked::Parked;
@@ -22,7 +23,6 @@ use std::io;
 use std::net::Net;
 use std::os::fd::RawFd;
 use std::sync::Wait;
-use std::sync::atomic::Ordering;
 use std::time::{Clock, Duration};
 
 /// The bytes that one read takes at most.
@@ -74,7 +74,7 @@ pub struct NodeLoop<'a, L: Tapes, H, P: Port, S> {
     pub(crate) next_tick: u64,
     pub(crate) links: Vec<Link>,
     pub(crate) connections: Slab<Connection>,
-    pub(crate) listed: Vec<usize>,
+    pub(crate) crowd: Crowd,
     pub(crate) parked: Parked,
     // Bytes read, replies made and groups of items that came in one call.
     pub(crate) space: Vec<u8>,
@@ -151,7 +151,7 @@ impl<'a, L: Tapes, H: Wait + Clock, P: Port, S: Settle + Copy> NodeLoop<'a, L, H
             next_tick: options.tick,
             links,
             connections: Slab::new(alloc),
-            listed: Vec::new(alloc),
+            crowd: Crowd::new(alloc, options.rates),
             parked: Parked::new(alloc),
             space,
             out: Vec::new(alloc),
@@ -222,13 +222,15 @@ impl<'a, L: Tapes, H: Wait + Clock, P: Port, S: Settle + Copy> NodeLoop<'a, L, H
         if self.has_clients {
             self.accept(poll);
         }
+        self.release();
         self.look_all();
         if self.next_tick <= self.now {
             self.tick();
         }
-        if self.mail.is_touched {
+        if self.mail.is_touched() {
             self.wake_touched();
         }
+        self.wake_some();
         if self.is_dirty {
             self.pack_all();
         }
@@ -245,7 +247,7 @@ impl<'a, L: Tapes, H: Wait + Clock, P: Port, S: Settle + Copy> NodeLoop<'a, L, H
         self.hear_all(events);
         self.work(poll);
         let _ = self.settle.settle();
-        if self.mail.ends.load(Ordering::SeqCst) {
+        if self.mail.is_end_asked() {
             ending.asked();
         }
         if self.has_ticked {
@@ -293,7 +295,7 @@ impl<'a, L: Tapes, H: Wait + Clock, P: Port, S: Settle + Copy> NodeLoop<'a, L, H
     fn into_parts(self) -> Parts<L, P>
         ensures node { result.node ≡ self.entry.mail.origin.node }
         ensures here { ∥ HasCalled result.node self.entry.mail.origin.seat.value.calls result.seat.calls ∥₁ }
-        ensures mailed { ∥ HasMailed P.sends P.receives result.lost self.entry.mail.origin.port.value result.port self.entry.mail.origin.seat.value.calls result.seat.calls ∥₁ }
+        ensures mailed { ∥ HasMailed L.plan result.node P.sends P.receives 0 result.lost self.entry.mail.origin.port.value result.port self.entry.mail.origin.seat.value.calls result.seat.calls ∥₁ }
     {
         let NodeLoop {
             rt: _,
@@ -308,7 +310,7 @@ impl<'a, L: Tapes, H: Wait + Clock, P: Port, S: Settle + Copy> NodeLoop<'a, L, H
             next_tick: _,
             links: _,
             connections: _,
-            listed: _,
+            crowd: _,
             parked: _,
             space: _,
             out: _,
@@ -345,7 +347,7 @@ pub fn run_loop<L: Tapes, H: Wait + Clock, N: Net, P: Port, S: Settle + Copy, E:
 ) -> Parts<L, P>
     ensures node { result.node ≡ sockets.node }
     ensures here { ∥ HasCalled sockets.node seat.calls result.seat.calls ∥₁ }
-    ensures mailed { ∥ HasMailed P.sends P.receives result.lost sockets.port result.port seat.calls result.seat.calls ∥₁ }
+    ensures mailed { ∥ HasMailed L.plan sockets.node P.sends P.receives 0 result.lost sockets.port result.port seat.calls result.seat.calls ∥₁ }
 {
     let LoopSockets {
         node,

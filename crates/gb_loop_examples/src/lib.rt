@@ -13,6 +13,8 @@ mod clients;
 #[cfg(test)]
 mod crowds;
 #[cfg(test)]
+mod denied;
+#[cfg(test)]
 mod fullest;
 #[cfg(test)]
 mod limits;
@@ -21,4 +23,12 @@ mod lists;
 #[cfg(test)]
 mod loops;
 #[cfg(test)]
+mod rates;
+#[cfg(test)]
+mod rules;
+#[cfg(test)]
+mod strangers;
+#[cfg(test)]
 mod ticks;
+#[cfg(test)]
+mod waiters;

@@ -1,3 +1,5 @@
 pub mod AskedLemmas
 pub mod FailedLemmas
 pub mod MailLemmas
+pub mod PacketLemmas
+pub mod OperatedLemmas

@@ -1,9 +1,10 @@
 //! A node with its port, and its clients, as values that a loop drives. `mail::Mail` is the node with its port: every call and every
 //! packet goes through it. `client::Client` is a client's session with the replies that are not sent yet. `settle` is what is done before
 //! replies leave, `operate` answers an administrator, `hint` says what the bytes of a packet say before it is known that they are one, and
-//! `counts` which figures a call counts. Read `mail` and `client` first. Nothing here waits for the system; gb_loop does.
+//! `counts` which figures a call counts, and `admitted` which requests. Read `mail` and `client` first. Nothing here waits for the system; gb_loop does.
 #![tactic(auto)]
 
+pub mod admitted;
 pub mod client;
 mod counts;
 pub mod hint;
@@ -11,6 +12,7 @@ pub mod mail;
 mod operate;
 pub mod settle;
 
+pub use admitted::Admitted;
 pub use client::{Client, Turn, Way};
 pub use mail::{Mail, Parts};
 pub use settle::{Settle, Unsettled};

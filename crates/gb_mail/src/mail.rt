@@ -1,25 +1,27 @@
 //! A node with its port: all that is asked of it, comes to it and goes from it.
 ghost use Rattle.std.specs.Prelude.{◌≡◌, ◌++◌, ◌∷◌, [], true, false, Ok, Some, IfOk, IfErr, OnOk, OnErr, IfSome, IfNone};
-ghost use Rattle.gb_node.specs.declared.{answer.NodeAnswer.NodeAnswer as AnswerValue, answer.NodeAnswer.TheVariants.Sent as WasSent, answer.Sent.TheVariants.Nothing as SentNothing, answer.Sent.TheVariants.Packet as SentPacket, event.NodeEvent.TheVariants.Packet as PacketEvent};
-ghost use Rattle.gb_host.specs.Common.{IsRefused, GaveNothing};
-ghost use Rattle.gb_worker.specs.{Answered.destination, Answered.gives_packet, Asked.reply_at, Asked.reply_of, Carried.GivesNothing, Carried.HasCarried, Gained.noted};
-ghost use Rattle.gb_mail.specs.Mailed.{HasCalled, HasMailed, WasAskedToSend, is_handed};
+ghost use Rattle.gb_node.specs.declared.{answer.NodeAnswer.TheVariants.Sent as WasSent, answer.Sent.TheVariants.Packet as SentPacket};
+ghost use Rattle.gb_worker.specs.{Answered.destination, Answered.gives_packet, Asked.reply_at, Asked.reply_of, Carried.GivesNothing};
+ghost use Rattle.gb_mail.specs.Mailed.{HasAnswer, HasCalled, HasCounted, HasMailed, HasMoved, IsTakenOrNot, WasAskedToSend, is_handed};
+ghost use Rattle.gb_mail.specs.Replied.{is_admitted, is_admitting, is_done, needs_admin};
 
+use crate::admitted::{Admitted, tenant_of};
 use crate::counts::{
     asked_figure, count_packet, count_reply, count_tick, places_asked, sent_figure,
 };
 use crate::hint::{Hint, hint_of, put_addresses};
-use crate::operate::operate;
+use crate::operate::{Orders, Told, operate};
 use gb_host::{Host, HostFault, Open, Seat, Tapes};
+use gb_node::past::pasts_say;
 use gb_node::{Good, NodeAnswer, NodeEvent, PacketAnswer, PacketText, Sent};
 use gb_port::{Port, PortFault};
 use gb_session::{Answers, Operation};
 use gb_status::{Figure, Figures};
 use gb_types::{Action, Addr, GroupCommand, NodeId, OutOfMemory, Refusal, Reply, Request};
+use indexmap::IndexSet;
 use std::alloc::Global;
 use std::snapshot::Snapshot;
 use std::sync::Wait;
-use std::sync::atomic::AtomicBool;
 
 /// A node, and its port and its seat as they were at first.
 pub struct Origin<L: Tapes, P> {
@@ -33,6 +35,15 @@ pub struct Arrival {
     /// None if it was no packet for this node, or there was no memory for it.
     pub good: Option<Good>,
     pub hint: Hint,
+}
+
+/// What requests and operations showed of the client that made them.
+#[derive(Clone, Copy)]
+pub struct Shown {
+    /// One came with the token that it needs.
+    pub is_admitted: bool,
+    /// One came with the administrator's token, and needs it.
+    pub is_admin: bool,
 }
 
 /// What is left when no more is asked of a node: the node, its seat and its port. `lost` is the number of packets that came and for
@@ -53,18 +64,27 @@ pub struct Mail<'a, L: Tapes, H, P: Port> {
     pub seat: Seat<L>,
     pub port: P,
     pub lost: u64,
-    /// The groups that requests changed, and whether some could not be noted. The loop empties this.
-    pub touched: Vec<Addr>,
-    pub is_touched: bool,
+    // The groups that requests changed since the last of them was begun to be returned, and those that are being returned.
+    touched: IndexSet<Addr>,
+    returned: IndexSet<Addr>,
+    // What the requests showed that were answered since it was last taken.
+    shown: Shown,
+    // What the node admitted of what clients asked since it was last taken.
+    admitted: Admitted,
+    orders: Orders,
     /// Something was left undone since the last tick for which there was no memory. The loop empties this, and looks at all again.
     pub is_short: bool,
-    /// An administrator has asked for the end of the server.
-    pub ends: AtomicBool,
     /// What the node counted since the server's start. The loop adds what it counts of its connections.
     pub figures: Figures,
     pub ghost here: { ∥ HasCalled origin.node origin.seat.value.calls seat.calls ∥₁ },
-    pub ghost mailed: { ∥ HasMailed P.sends P.receives lost origin.port.value port origin.seat.value.calls seat.calls ∥₁ },
+    pub ghost mailed: { ∥ HasMailed L.plan origin.node P.sends P.receives 0 lost origin.port.value port origin.seat.value.calls seat.calls ∥₁ },
 }
+
+/// Nothing was shown.
+const NOTHING_SHOWN: Shown = Shown {
+    is_admitted: false,
+    is_admin: false,
+};
 
 // What came of an event by which a node sends to another.
 #[derive(Drop)]
@@ -77,7 +97,7 @@ enum Outcome {
     Handed(Result<bool, PortFault>),
 }
 
-// One event at a node.
+// Asks a node for one event, which is left out of its past where its answer says that it is none.
 fn ask<L: Tapes, H: Wait>(
     rt: &H,
     host: &Host<L>,
@@ -85,43 +105,10 @@ fn ask<L: Tapes, H: Wait>(
     node: NodeId,
     event: NodeEvent,
 ) -> Result<NodeAnswer, HostFault>
-    ensures made { IfOk result (λ a. seat.new.calls ≡ seat.old.calls ++ noted node event a ∷ []) }
-    ensures none { OnErr result (seat.new.calls ≡ seat.old.calls) }
-    ensures err { OnErr result (seat.new ≡ seat.old) }
-    ensures fault { IfErr result (IsRefused L.plan host.now.here seat.old node) }
+    ensures answer { HasAnswer L.plan host.now.here node event seat.old seat.new result }
     ensures here { HasCalled node seat.old.calls seat.new.calls }
 {
-    host.call(rt, seat, node, event)
-}
-
-// One event by which a node sends to another, unless it gives nothing. Returns its answer, or `None` if it gave nothing: then no event
-// has happened.
-fn ask_to_send<L: Tapes, H: Wait>(
-    rt: &H,
-    host: &Host<L>,
-    seat: &mut Seat<L>,
-    node: NodeId,
-    event: NodeEvent,
-) -> Result<Option<NodeAnswer>, HostFault>
-    ensures made { IfOk result (λ o. IfSome o (λ a. seat.new.calls ≡ seat.old.calls ++ noted node event a ∷ [])) }
-    ensures nothing { IfOk result (λ o. IfNone o (seat.new.calls ≡ seat.old.calls)) }
-    ensures gave_nothing { IfOk result (λ o. IfNone o (GaveNothing L.plan node seat.old event)) }
-    ensures none { OnErr result (seat.new.calls ≡ seat.old.calls) }
-    ensures fault { IfErr result (IsRefused L.plan host.now.here seat.old node) }
-    ensures here { HasCalled node seat.old.calls seat.new.calls }
-{
-    host.call_to_send(rt, seat, node, event, &mut Open)
-}
-
-// Returns the answer to an event by which a node sends: that nothing is sent, if the event gave nothing.
-fn answer_of(asked: Option<NodeAnswer>) -> NodeAnswer
-    ensures some { IfSome asked (λ a. result ≡ a) }
-    ensures none { IfNone asked (result ≡ WasSent SentNothing) }
-{
-    match asked {
-        Some(answer) => answer,
-        None => NodeAnswer::Sent(Sent::Nothing),
-    }
+    host.call_or_skip(rt, seat, node, event, &mut Open)
 }
 
 // What a client is told of a call.
@@ -142,6 +129,44 @@ fn changed_by(request: &Request) -> Option<Addr> {
     match &request.what {
         Action::AddTenant(_) | Action::Group(_, GroupCommand::Fetch { .. }) => None,
         Action::Group(address, _) => Some(*address),
+    }
+}
+
+// Returns true if a request needs the administrator's token.
+fn needs_admin(request: &Request) -> bool
+    ensures { result ≡ needs_admin request.now }
+{
+    matches!(&request.what, Action::AddTenant(_))
+}
+
+// Returns true if a request was done that is answered so.
+fn is_done(reply: &Reply) -> bool
+    ensures { result ≡ is_done reply.now }
+{
+    matches!(reply, Reply::Done | Reply::Said(_))
+}
+
+// Returns true if a request that is answered so came with the token that it needs. One that the host refused, or that came to a node
+// which had stopped, did not show it.
+fn is_admitted(reply: &Reply) -> bool
+    ensures { result ≡ is_admitted reply.now }
+{
+    match reply {
+        Reply::Refused(why) => is_admitting(*why),
+        _ => true,
+    }
+}
+
+// Returns true if a refusal comes only behind the right token.
+fn is_admitting(why: Refusal) -> bool
+    ensures { result ≡ is_admitting why }
+{
+    match why {
+        Refusal::Denied => false,
+        Refusal::Malformed => false,
+        Refusal::Stopped => false,
+        Refusal::OutOfMemory => false,
+        _ => true,
     }
 }
 
@@ -180,8 +205,17 @@ fn good_of(answer: NodeAnswer) -> Option<Good> {
     }
 }
 
-// A packet that came is one event at a node. Returns what the node made of it if it was a good one. If the host refuses the call,
-// the packet is lost and counted.
+// Counts one more packet that was lost, up to 2^64 - 1.
+fn count_lost(lost: &mut u64)
+    ensures { HasCounted lost.old 1 lost.new }
+{
+    if *lost < u64::MAX {
+        *lost += 1;
+    }
+}
+
+// A packet that came is one event at a node, unless it is no packet for it. Returns what the node made of it if it was a good one. If the
+// host refuses the call, the packet is lost and counted.
 fn take_packet<L: Tapes, H: Wait>(
     rt: &H,
     host: &Host<L>,
@@ -191,11 +225,11 @@ fn take_packet<L: Tapes, H: Wait>(
     lost: &mut u64,
     figures: &mut Figures,
 ) -> Option<Good>
-    ensures made { lost.new ≡ 0 → (a : AnswerValue)
-        × (seat.new.calls ≡ seat.old.calls ++ noted node (PacketEvent bytes.items) a ∷ []) }
-    ensures lost { lost.new ≡ 0 → lost.old ≡ 0 }
+    ensures taken { IsTakenOrNot L.plan node bytes.items seat.old seat.new lost.old lost.new }
     ensures here { HasCalled node seat.old.calls seat.new.calls }
 {
+    // A node by its past has the key, the number and the cluster of its plan.
+    pasts_say();
     let event = NodeEvent::Packet(PacketText::from(bytes));
     match ask(rt, host, seat, node, event) {
         Ok(answer) => {
@@ -203,15 +237,15 @@ fn take_packet<L: Tapes, H: Wait>(
             good_of(answer)
         }
         Err(_) => {
-            *lost = lost.saturating_add(1);
+            count_lost(lost);
             figures.add(Figure::Lost, 1);
             None
         }
     }
 }
 
-// One event by which a node sends to another. What it gives is handed to the port at once. Returns what came of it. A pack or an again
-// that gives nothing is no event.
+// One event by which a node sends to another. What it gives is handed to the port at once. Returns what came of it. If it gives nothing,
+// or the node has no memory for the packet, it is no event.
 fn send_at<L: Tapes, H: Wait, P: Port>(
     rt: &H,
     host: &Host<L>,
@@ -223,14 +257,13 @@ fn send_at<L: Tapes, H: Wait, P: Port>(
 ) -> Outcome
     requires { destination event ≡ Some to }
     ensures asked { WasAskedToSend L.plan host.now.here node event seat.old seat.new (is_handed result) }
-    ensures carried { HasCarried P.sends P.receives port.old port.new seat.old.calls seat.new.calls }
+    ensures moved { HasMoved L.plan node P.sends P.receives 0 port.old port.new seat.old.calls seat.new.calls }
     ensures here { HasCalled node seat.old.calls seat.new.calls }
 {
-    let asked = match ask_to_send(rt, host, seat, node, event) {
-        Ok(asked) => asked,
+    let answer = match ask(rt, host, seat, node, event) {
+        Ok(answer) => answer,
         Err(_) => return Outcome::Short,
     };
-    let answer = answer_of(asked);
     let text = match packet_of(answer) {
         Ok(text) => text,
         Err(outcome) => return outcome,
@@ -291,10 +324,12 @@ impl<'a, L: Tapes, H: Wait, P: Port> Mail<'a, L, H, P> {
             seat,
             port,
             lost: 0,
-            touched: Vec::new(alloc),
-            is_touched: false,
+            touched: IndexSet::new(alloc),
+            returned: IndexSet::new(alloc),
+            shown: NOTHING_SHOWN,
+            admitted: Admitted::new(),
+            orders: Orders::new(),
             is_short: false,
-            ends: AtomicBool::new(false),
             figures,
         }
     }
@@ -303,7 +338,7 @@ impl<'a, L: Tapes, H: Wait, P: Port> Mail<'a, L, H, P> {
     pub fn into_parts(self) -> Parts<L, P>
         ensures node { result.node ≡ self.entry.origin.node }
         ensures here { ∥ HasCalled result.node self.entry.origin.seat.value.calls result.seat.calls ∥₁ }
-        ensures mailed { ∥ HasMailed P.sends P.receives result.lost self.entry.origin.port.value result.port self.entry.origin.seat.value.calls result.seat.calls ∥₁ }
+        ensures mailed { ∥ HasMailed L.plan result.node P.sends P.receives 0 result.lost self.entry.origin.port.value result.port self.entry.origin.seat.value.calls result.seat.calls ∥₁ }
     {
         let Mail {
             rt: _,
@@ -313,9 +348,11 @@ impl<'a, L: Tapes, H: Wait, P: Port> Mail<'a, L, H, P> {
             port,
             lost,
             touched: _,
-            is_touched: _,
+            returned: _,
+            shown: _,
+            admitted: _,
+            orders: _,
             is_short: _,
-            ends: _,
             figures: _,
         } = self;
         let Origin {
@@ -354,11 +391,10 @@ impl<'a, L: Tapes, H: Wait, P: Port> Mail<'a, L, H, P> {
         count_tick(&mut self.figures, answer);
     }
 
-    /// Takes the next packet that came, which is one event at the node, and returns what it was. If `is_wanted`, the groups of its items
+    /// Takes the next packet that came, which is one event at the node unless it is no packet for it, and returns what it was. If `is_wanted`, the groups of its items
     /// are put into `came`. `None` if no packet came, or the port failed.
     pub fn receive(&mut self, is_wanted: bool, came: &mut Vec<Addr>) -> Option<Arrival>
-        ensures mailed { HasMailed P.sends P.receives self.new.lost self.old.port self.new.port self.old.seat.calls self.new.seat.calls }
-        ensures lost { self.new.lost ≡ 0 → self.old.lost ≡ 0 }
+        ensures mailed { HasMailed L.plan self.old.origin.node P.sends P.receives self.old.lost self.new.lost self.old.port self.new.port self.old.seat.calls self.new.seat.calls }
         ensures origin { self.new.origin ≡ self.old.origin }
     {
         let bytes = match next_packet(&mut self.port, &mut self.figures) {
@@ -386,11 +422,11 @@ impl<'a, L: Tapes, H: Wait, P: Port> Mail<'a, L, H, P> {
     /// node's lock; the host may take memory to keep the call. If the node answers with a packet, it is handed to the port at once; the
     /// port may lose it, as a network may. `lost`, which counts packets that came and were not handed in, stays as it was, and so does
     /// `origin`, the seat and the port as they were at first. Returns true if the node answered with a packet; false if it answered
-    /// otherwise or the host refused the call. A pack or a frame once more that gives nothing is no event.
+    /// otherwise or the host refused the call. What gives nothing, and what the node has no memory for, is no event.
     pub fn send(&mut self, event: NodeEvent, to: NodeId) -> bool
         requires { destination event ≡ Some to }
         ensures asked { WasAskedToSend L.plan self.old.host.now.here self.old.origin.node event self.old.seat self.new.seat result }
-        ensures mailed { HasMailed P.sends P.receives self.new.lost self.old.port self.new.port self.old.seat.calls self.new.seat.calls }
+        ensures moved { HasMoved L.plan self.old.origin.node P.sends P.receives 0 self.old.port self.new.port self.old.seat.calls self.new.seat.calls }
         ensures lost { self.new.lost ≡ self.old.lost }
         ensures origin { self.new.origin ≡ self.old.origin }
     {
@@ -426,63 +462,116 @@ impl<'a, L: Tapes, H: Wait, P: Port> Mail<'a, L, H, P> {
     fn touch(&mut self, address: Addr)
         ensures seat { self.new.seat ≡ self.old.seat }
         ensures origin { self.new.origin ≡ self.old.origin }
+        ensures shown { self.new.shown ≡ self.old.shown }
     {
-        self.is_touched = true;
-        if self.touched.last() != Some(&address) && self.touched.push(address).is_err() {
+        if self.touched.insert(address).is_err() {
             self.is_short = true;
         }
+    }
+
+    /// Returns true if requests changed groups that were not returned yet.
+    pub fn is_touched(&self) -> bool {
+        !self.touched.is_empty() || !self.returned.is_empty()
+    }
+
+    /// Takes out and returns a group that requests changed. Each is returned once, until a request changes it again. All that were
+    /// changed before some call are returned before those that are changed after it. `None` if there is none.
+    pub fn next_touched(&mut self) -> Option<Addr>
+        ensures origin { self.new.origin ≡ self.old.origin }
+    {
+        if self.returned.is_empty() {
+            std::mem::swap(&mut self.touched, &mut self.returned);
+        }
+        self.returned.pop()
     }
 
     /// Forgets the groups that requests changed.
     pub fn forget_touched(&mut self)
         ensures origin { self.new.origin ≡ self.old.origin }
     {
-        self.is_touched = false;
         self.touched.clear();
+        self.returned.clear();
     }
 
-    /// Takes and returns the groups that requests changed since the last call.
-    pub fn take_touched(&mut self, alloc: Global) -> Vec<Addr>
+    /// Returns what the requests and operations showed that were answered since the last call. So a loop that calls it after each turn
+    /// of a client knows whether this client may stay.
+    pub fn take_shown(&mut self) -> Shown
         ensures origin { self.new.origin ≡ self.old.origin }
     {
-        self.is_touched = false;
-        std::mem::replace(&mut self.touched, Vec::new(alloc))
+        let is_admin = self.orders.take_note();
+        let shown = Shown {
+            is_admitted: self.shown.is_admitted || is_admin,
+            is_admin: self.shown.is_admin || is_admin,
+        };
+        self.shown = NOTHING_SHOWN;
+        shown
+    }
+
+    /// Returns what was admitted since the last call, and forgets it.
+    pub fn take_admitted(&mut self) -> Admitted
+        ensures origin { self.new.origin ≡ self.old.origin }
+    {
+        let admitted = self.admitted;
+        self.admitted = Admitted::new();
+        admitted
+    }
+
+    /// Returns true if an administrator has asked for the end of the server.
+    pub fn is_end_asked(&self) -> bool {
+        self.orders.is_end_asked()
     }
 }
 
 impl<'a, L: Tapes, H: Wait, P: Port> Answers for Mail<'a, L, H, P> {
-    ghost use Rattle.std.specs.Prelude.{◌≡◌, true};
+    ghost use Rattle.std.specs.Prelude.{◌≡◌, true, false};
     ghost use Rattle.gb_mail.specs.Operated.{MayTell};
-    ghost use Rattle.gb_worker.specs.Asked.{AnswersAt};
+    ghost use Rattle.gb_mail.specs.Replied.{HasReplied, is_done, shown_with};
 
     ghost answers = { record {
-      replies = λ s request reply t. (t.origin ≡ s.origin) × AnswersAt L.plan s.origin.node s.seat.calls request reply t.seat.calls;
+      replies = λ s request reply t. (t.origin ≡ s.origin) × HasReplied L.plan s.host.now.here s.origin.node s.seat request reply t.seat
+          × (is_done reply ≡ false → t.touched ≡ s.touched) × (t.shown ≡ shown_with request reply s.shown);
       tells = MayTell L.plan.cluster.admin_key;
     } };
 
     fn answer(&mut self, request: Request) -> Reply {
         let address = changed_by(&request);
+        let is_admin = needs_admin(&request);
         let asked = asked_figure(&request);
         let places = places_asked(&request);
+        let tenant = tenant_of(&request);
         let event = NodeEvent::Request(request);
         let reply = reply_of(ask(self.rt, self.host, &mut self.seat, self.origin.node, event));
         count_reply(&mut self.figures, asked, places, &reply);
-        if let Some(address) = address {
+        let is_admitted = is_admitted(&reply);
+        self.admitted.note(tenant, is_admitted);
+        self.shown = Shown {
+            is_admitted: self.shown.is_admitted || is_admitted,
+            is_admin: self.shown.is_admin || is_admin && is_admitted,
+        };
+        if let Some(address) = address
+            && is_done(&reply)
+        {
             self.touch(address);
         }
         reply
     }
 
     fn operate(&self, operation: Operation, out: &mut Vec<u8>) -> Result<(), OutOfMemory> {
-        operate(
+        let told = operate(
             self.rt,
             *out.allocator(),
             self.host,
             self.origin.node,
             &self.figures,
-            &self.ends,
-            operation,
+            &operation,
             out,
-        )
+        )?;
+        let key = self.host.plan().cluster.admin_key;
+        match told {
+            Told::Denied => {}
+            Told::Done => self.orders.note(&key, &operation.token),
+            Told::Ends => self.orders.end(&key, &operation.token),
+        }
+        Ok(())
     }
 }

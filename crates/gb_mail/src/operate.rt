@@ -1,8 +1,8 @@
 //! What an administrator is told of a node, and the end that an administrator asks for.
-ghost use Rattle.std.specs.Prelude.{◌≡◌, ◌++◌, ℕ, List, OnOk, OnErr};
+ghost use Rattle.std.specs.Prelude.{◌≡◌, ◌++◌, ℕ, List, true, IfOk, OnOk, OnErr};
 ghost use Rattle.gb_cap.specs.declared.token.Need.TheVariants.{Admin};
 ghost use Rattle.gb_table.specs.Common.{is_token};
-ghost use Rattle.gb_mail.specs.Operated.{MayTell};
+ghost use Rattle.gb_mail.specs.Operated.{MayTell, is_stop, told_of};
 
 use gb_cap::{HmacKey, Key, Need, Token};
 use gb_host::{Host, Tapes};
@@ -140,50 +140,113 @@ fn put_list<L: Tapes, H: Wait>(
     }
 }
 
-// Does what an administrator asks, and appends the text of the reply.
+/// What an operation came to.
+#[derive(Clone, Copy)]
+pub(crate) enum Told {
+    /// Its token is not the administrator's.
+    Denied,
+    /// It was answered.
+    Done,
+    /// The end of the server is asked for.
+    Ends,
+}
+
+/// What was asked with the administrator's token.
+#[derive(Drop)]
+pub(crate) struct Orders {
+    has_come: AtomicBool,
+    ends: AtomicBool,
+}
+
+impl Orders {
+    /// Returns that nothing was asked.
+    pub(crate) fn new() -> Orders {
+        Orders {
+            has_come: AtomicBool::new(false),
+            ends: AtomicBool::new(false),
+        }
+    }
+
+    /// Notes that something was asked with this token.
+    pub(crate) fn note(&self, key: &Key, token: &Token)
+        requires { is_token key.now Admin token.now ≡ true }
+    {
+        let _ = token;
+        self.has_come.store(true, Ordering::SeqCst);
+    }
+
+    /// Notes that the end of the server was asked for with this token.
+    pub(crate) fn end(&self, key: &Key, token: &Token)
+        requires { is_token key.now Admin token.now ≡ true }
+    {
+        self.note(key, token);
+        self.ends.store(true, Ordering::SeqCst);
+    }
+
+    /// Returns true if something was noted since the last call.
+    pub(crate) fn take_note(&self) -> bool {
+        self.has_come.swap(false, Ordering::SeqCst)
+    }
+
+    /// Returns true if the end of the server was asked for.
+    pub(crate) fn is_end_asked(&self) -> bool {
+        self.ends.load(Ordering::SeqCst)
+    }
+}
+
+// Does what an administrator asks, and appends the text of the reply. Returns true if that is the end of the server.
 fn put_told<L: Tapes, H: Wait>(
     rt: &H,
     alloc: Global,
     host: &Host<L>,
     node: NodeId,
     figures: &Figures,
-    ends: &AtomicBool,
-    operation: Operation,
+    operation: &Operation,
     out: &mut Vec<u8>,
-) -> Result<(), OutOfMemory>
+) -> Result<bool, OutOfMemory>
     ensures ok { OnOk result ((told : List ℕ) × (out.new.items ≡ out.old.items ++ told)) }
+    ensures ends { IfOk result (λ ends. ends ≡ is_stop operation.now.what) }
     ensures err { OnErr result (out.new.items ≡ out.old.items) }
 {
     match operation.what {
-        Operating::Status => put_text(out, status_text(alloc, figures)),
+        Operating::Status => {
+            put_text(out, status_text(alloc, figures))?;
+            Ok(false)
+        }
         Operating::List(from, most) => {
-            put_list(rt, alloc, host, node, &operation.token, from, most, out)
+            put_list(rt, alloc, host, node, &operation.token, from, most, out)?;
+            Ok(false)
         }
         Operating::Stop => {
-            ends.store(true, Ordering::SeqCst);
-            put_bytes(out, b"ok")
+            put_bytes(out, b"ok")?;
+            Ok(true)
         }
     }
 }
 
-/// Appends the text of the reply to an operation at a node: `refused 1 Denied` unless it comes with the administrator's token. An end that is
-/// asked for is noted in `ends`. Without memory nothing is appended.
+/// Appends the text of the reply to an operation at a node, and returns what it came to: `refused 1 Denied` unless it comes with the
+/// administrator's token. Without memory nothing is appended, and no end is asked for.
 pub(crate) fn operate<L: Tapes, H: Wait>(
     rt: &H,
     alloc: Global,
     host: &Host<L>,
     node: NodeId,
     figures: &Figures,
-    ends: &AtomicBool,
-    operation: Operation,
+    operation: &Operation,
     out: &mut Vec<u8>,
-) -> Result<(), OutOfMemory>
-    ensures told { OnOk result ((text : List ℕ) × MayTell L.plan.cluster.admin_key operation text × (out.new.items ≡ out.old.items ++ text)) }
+) -> Result<Told, OutOfMemory>
+    ensures told { OnOk result ((text : List ℕ) × MayTell L.plan.cluster.admin_key operation.now text × (out.new.items ≡ out.old.items ++ text)) }
+    ensures outcome { IfOk result (λ told. told ≡ told_of L.plan.cluster.admin_key operation.now) }
     ensures err { OnErr result (out.new.items ≡ out.old.items) }
 {
     let plan = host.plan();
     if !is_admin(&plan.cluster.admin_key, &operation.token) {
-        return put_refusal(out, Refusal::Denied);
+        put_refusal(out, Refusal::Denied)?;
+        return Ok(Told::Denied);
     }
-    put_told(rt, alloc, host, node, figures, ends, operation, out)
+    if put_told(rt, alloc, host, node, figures, operation, out)? {
+        Ok(Told::Ends)
+    } else {
+        Ok(Told::Done)
+    }
 }

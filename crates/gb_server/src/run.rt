@@ -6,6 +6,7 @@ use crate::crew::{Held, hold_beside};
 use crate::desk::Desk;
 use crate::given::{Given, Server};
 use crate::input::Input;
+use crate::pulse::{Cluster, patience_of};
 use crate::server_log::{ServerLog, first_line};
 use crate::signals::Signals;
 use crate::status::StatusServer;
@@ -65,6 +66,7 @@ fn desk_of<H: Clock>(
     rt: &H,
     alloc: Global,
     service: &Service,
+    cluster: Cluster,
     listener: Option<TcpListener>,
 ) -> Result<Desk, OutOfMemory> {
     let log = ServerLog::new(
@@ -75,7 +77,7 @@ fn desk_of<H: Clock>(
         service.is_quiet,
     )?;
     let status = match listener {
-        Some(listener) => Some(StatusServer::new(rt, alloc, listener)),
+        Some(listener) => Some(StatusServer::new(rt, alloc, listener, cluster)),
         None => None,
     };
     let address = match &status {
@@ -112,7 +114,13 @@ pub fn run<
     ensures read { OnOk result ((bytes : List ℕ) × Consumes (R.remaining reader.old) (R.remaining reader.new) bytes) }
 {
     let signals = Signals::new(alloc, service.first, service.nodes)?;
-    let desk = desk_of(rt, alloc, service, listener)?;
+    let cluster = Cluster {
+        first: service.first,
+        served: service.nodes,
+        nodes: host.plan().cluster.nodes,
+        patience: patience_of(options.tick),
+    };
+    let desk = desk_of(rt, alloc, service, cluster, listener)?;
     let attending = Attending { desk, errors };
     let server = Server {
         host,

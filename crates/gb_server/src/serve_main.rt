@@ -25,7 +25,7 @@ use gb_host::pasts::new_pasts;
 use gb_host::{Host, HostPlan, NodePast, Tapes};
 use gb_keys::Keys;
 use gb_keys::keys::{keys_of_run, read_keys};
-use gb_loop::LoopOptions;
+use gb_loop::{LoopOptions, RateLimits};
 use gb_rules::room::ROOMS;
 use gb_serve_words::words::read_words;
 use gb_serve_words::{ServePlan, ServeWords};
@@ -74,10 +74,12 @@ fn host_plan(plan: ServePlan, keys: Keys, run: u64) -> HostPlan
 // The name of the program.
 const NAME: &[u8] = b"gb_serve";
 
-/// How long a connection may be silent that asked nothing yet, in microseconds.
+/// Within what time a message comes whole, in microseconds: while nothing was admitted of a connection, and later.
 pub const FIRST: u64 = 10_000_000;
 
-const _: () = prove!(FIRST == 10_000_000);
+pub const LATER: u64 = 60_000_000;
+
+const _: () = prove!(FIRST == 10_000_000 && LATER == 60_000_000);
 
 /// Returns two times in microseconds. The first is that between two ticks; `tick` is in milliseconds. The second is how long nothing
 /// may be sent to a node before it is sent a sign of life: an eighth of `silence` ticks, rounded down to ticks, or half a tick if
@@ -105,6 +107,7 @@ fn options_of(plan: ServePlan, connections: u64) -> LoopOptions
         beat,
         idle: u64::from(plan.idle) * 1_000_000,
         first: FIRST,
+        later: LATER,
         sessions: u64::from(plan.sessions),
         connections,
         requests: if plan.session_requests == 0 {
@@ -113,6 +116,7 @@ fn options_of(plan: ServePlan, connections: u64) -> LoopOptions
             u64::from(plan.session_requests)
         },
         wait: 0,
+        rates: RateLimits::none(),
     }
 }
 

@@ -1,7 +1,8 @@
 //! Who asks for the status of a server by HTTP, and how they are answered: a thread looks at them now and then, and waits for none.
+use crate::pulse::{Cluster, Pulses};
 use gb_loop::LoopClock;
-use gb_status::Board;
-use gb_status::http::{all_run, reply};
+use gb_status::http::reply;
+use gb_status::{Board, Health};
 use gb_types::OutOfMemory;
 use gb_types::memory::put_bytes;
 use std::alloc::Global;
@@ -55,6 +56,7 @@ pub struct StatusServer {
     listener: TcpListener,
     clock: LoopClock,
     clients: Vec<StatusClient>,
+    pulses: Pulses,
 }
 
 // Returns the answer to the bytes of a request, by what stands at a board; None: more are waited for.
@@ -63,16 +65,15 @@ fn reply_by(
     bytes: &[u8],
     may_come: bool,
     board: &Board,
-    is_over: bool,
+    health: Health,
 ) -> Result<Option<Vec<u8>>, OutOfMemory> {
     let all = board.all(alloc)?;
-    let is_serving = all_run(&all) && !is_over;
-    reply(alloc, bytes, may_come, &all, is_serving)
+    reply(alloc, bytes, may_come, &all, health)
 }
 
 impl StatusClient {
     // Reads what came of the request, and makes the answer once it is whole. Returns false if the client is lost.
-    fn hear(&mut self, alloc: Global, board: &Board, is_over: bool) -> bool {
+    fn hear(&mut self, alloc: Global, board: &Board, health: Health) -> bool {
         let mut space = [0u8; MOST];
         let mut reader = &self.stream;
         let count = match reader.read(&mut space) {
@@ -86,7 +87,7 @@ impl StatusClient {
             return false;
         }
         let may_come = count > 0 && self.bytes.len() < MOST;
-        match reply_by(alloc, &self.bytes, may_come, board, is_over) {
+        match reply_by(alloc, &self.bytes, may_come, board, health) {
             Ok(Some(answer)) => {
                 self.bytes = answer;
                 self.stage = Stage::IsTold;
@@ -134,11 +135,11 @@ impl StatusClient {
     }
 
     // Does what there is to do. Returns false if the client is served or lost.
-    fn look(&mut self, alloc: Global, board: &Board, is_over: bool, now: u64) -> bool {
+    fn look(&mut self, alloc: Global, board: &Board, health: Health, now: u64) -> bool {
         if now >= self.until {
             return false;
         }
-        if self.stage == Stage::Asks && !self.hear(alloc, board, is_over) {
+        if self.stage == Stage::Asks && !self.hear(alloc, board, health) {
             return false;
         }
         if self.stage == Stage::IsTold && !self.tell() {
@@ -149,13 +150,19 @@ impl StatusClient {
 }
 
 impl StatusServer {
-    /// Returns a server of the status by HTTP, at this listener, without clients. The calls of the listener do not wait.
-    pub fn new<H: Clock>(rt: &H, alloc: Global, listener: TcpListener) -> StatusServer {
+    /// Returns a server of the status by HTTP of these nodes, at this listener, without clients. The calls of the listener do not wait.
+    pub fn new<H: Clock>(
+        rt: &H,
+        alloc: Global,
+        listener: TcpListener,
+        cluster: Cluster,
+    ) -> StatusServer {
         StatusServer {
             alloc,
             listener,
             clock: LoopClock::new(rt),
             clients: Vec::new(alloc),
+            pulses: Pulses::new(cluster),
         }
     }
 
@@ -198,10 +205,11 @@ impl StatusServer {
     pub fn look<H: Clock>(&mut self, rt: &H, board: &Board, is_over: bool) {
         let now = self.clock.now(rt);
         self.accept(now);
+        let health = self.pulses.look(board, is_over, now);
         let clients = std::mem::replace(&mut self.clients, Vec::new(self.alloc));
         for client in clients {
             let mut client = client;
-            if client.look(self.alloc, board, is_over, now) {
+            if client.look(self.alloc, board, health, now) {
                 let _ = self.clients.push(client);
             }
         }

@@ -5,7 +5,7 @@ use crate::texts::has;
 use gb_status::figure::{COUNT, FIGURES};
 use gb_status::http::{answer, asked_for};
 use gb_status::text::{metrics_text, status_text};
-use gb_status::{Asked, Board, Figure, Figures, NodeFigures};
+use gb_status::{Asked, Board, Figure, Figures, Health, NodeFigures};
 use gb_types::{NodeId, NodeSet};
 use std::alloc::Global;
 use std::rt::HostRuntime;
@@ -101,36 +101,46 @@ fn heads_ask_for_figures(rt: HostRuntime) {
 }
 
 // Whether the answer to what is asked for is this.
-fn is_answered(alloc: Global, asked: Asked, is_serving: bool, want: &[u8]) -> bool {
-    match answer(alloc, asked, &[], is_serving) {
+fn is_answered(alloc: Global, asked: Asked, health: Health, want: &[u8]) -> bool {
+    match answer(alloc, asked, &[], health) {
         Ok(text) => text.as_slice() == want,
         Err(_) => false,
     }
 }
 
-// What is asked for, whether all is served, and the answer.
-static ANSWERS: [(Asked, bool, &[u8]); 3] = [
+// What is asked for, how the server is, and the answer.
+static ANSWERS: [(Asked, Health, &[u8]); 5] = [
     (
         Asked::Health,
-        true,
+        Health::Well,
         b"HTTP/1.1 200 OK\r\nContent-Type: text/plain; version=0.0.4; charset=utf-8\r\nConnection: close\r\nContent-Length: 3\r\n\r\nok\n",
     ),
     (
         Asked::Health,
-        false,
+        Health::Stalled,
+        b"HTTP/1.1 503 Service Unavailable\r\nContent-Type: text/plain; charset=utf-8\r\nConnection: close\r\nContent-Length: 8\r\n\r\nstalled\n",
+    ),
+    (
+        Asked::Health,
+        Health::Apart,
+        b"HTTP/1.1 503 Service Unavailable\r\nContent-Type: text/plain; charset=utf-8\r\nConnection: close\r\nContent-Length: 6\r\n\r\napart\n",
+    ),
+    (
+        Asked::Health,
+        Health::Ended,
         b"HTTP/1.1 503 Service Unavailable\r\nContent-Type: text/plain; charset=utf-8\r\nConnection: close\r\nContent-Length: 6\r\n\r\nended\n",
     ),
     (
         Asked::OtherMethod,
-        true,
+        Health::Well,
         b"HTTP/1.1 405 Method Not Allowed\r\nAllow: GET\r\nContent-Type: text/plain; charset=utf-8\r\nConnection: close\r\nContent-Length: 9\r\n\r\nonly GET\n",
     ),
 ];
 
 #[test]
 fn answers_are_whole(rt: HostRuntime) {
-    for (asked, is_serving, want) in &ANSWERS {
-        assert!(rt; is_answered(rt.alloc(), *asked, *is_serving, want));
+    for (asked, health, want) in &ANSWERS {
+        assert!(rt; is_answered(rt.alloc(), *asked, *health, want));
     }
 }
 

@@ -10,7 +10,7 @@ use gb_server::record_file::record_name;
 use gb_types::NodeId;
 use std::alloc::{AllocGlobal, Global};
 use std::fs::{File, Files};
-use std::net::{Net, TcpListener, TcpStream};
+use std::net::{Ipv4Addr, Net, SocketAddr, SocketAddrV4, TcpListener, TcpStream, UdpSocket};
 use std::rt::HostRuntime;
 use std::sync::Wait;
 use std::thread::Threads;
@@ -52,6 +52,24 @@ fn text_of<R: Files + AllocGlobal>(rt: &R, alloc: Global, dir: &str, node: u8) -
     fs::read(rt, name).ok()
 }
 
+// Returns true if a record has a line of a request that was Denied, or of bytes that are no packet.
+fn has_strangers(text: &[u8]) -> bool {
+    match str::from_utf8(text) {
+        Ok(text) => text.contains("Denied") || text.contains("fault"),
+        Err(_) => true,
+    }
+}
+
+// Sends bytes that are no packet to the port of a node. Returns true if the system took them.
+fn sends_noise<H: Net>(rt: &H, port: u16) -> bool {
+    let here = SocketAddr::V4(SocketAddrV4::new(Ipv4Addr::LOCALHOST, 0));
+    let there = SocketAddr::V4(SocketAddrV4::new(Ipv4Addr::LOCALHOST, port));
+    match UdpSocket::bind(rt, here) {
+        Ok(socket) => socket.send_to(b"no packet", there).is_ok(),
+        Err(_) => false,
+    }
+}
+
 // Audits two records under the key of a run. Returns the verdict, and whether more than 8 events are one run.
 fn audited(alloc: Global, first: &[u8], second: &[u8], run: u64) -> Option<(Verdict, bool)> {
     let sources = [
@@ -87,7 +105,7 @@ fn what_a_server_records_is_one_run(rt: HostRuntime) {
             b"serving 2 nodes from port 31400\nclosed\n",
         ),
         || {
-            let first = is_told(&rt, alloc, 31_464, OPEN, DENIED);
+            let first = is_told(&rt, alloc, 31_464, OPEN, DENIED) && sends_noise(&rt, 31_401);
             thread::sleep(&rt, Duration::from_millis(300));
             let second = is_told(&rt, alloc, 31_465, OPEN, DENIED);
             (first, second)
@@ -96,6 +114,9 @@ fn what_a_server_records_is_one_run(rt: HostRuntime) {
     assert!(rt; is_served && first && second);
     let first = text_of(&rt, alloc, &dir, 0).expect(&rt, "a record");
     let second = text_of(&rt, alloc, &dir, 1).expect(&rt, "a record");
+    // Neither a request without its token nor bytes that are no packet stand there.
+    let is_clean = !has_strangers(&first) && !has_strangers(&second);
+    assert!(rt; is_clean);
     let found = audited(alloc, &first, &second, RUN);
     assert!(rt; found == Some((Verdict::Whole, true)));
     // Under the key of another run their packets are none.

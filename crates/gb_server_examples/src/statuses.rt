@@ -6,6 +6,7 @@ use crate::socket_clients::{address, connect, told};
 use crate::texts::has;
 use gb_client::ClientFault;
 use gb_loop::Ending;
+use gb_server::pulse::Cluster;
 use gb_server::{ServerLog, Signals, StatusServer, Why};
 use gb_session::Head;
 use gb_spelling::CommandHead;
@@ -191,7 +192,13 @@ fn tells<H: Net<Listener = TcpListener, Stream = TcpStream> + Wait + Clock>(
     if listener.set_nonblocking(true).is_err() {
         return false;
     }
-    let mut status = StatusServer::new(rt, alloc, listener);
+    let cluster = Cluster {
+        first: NodeId::new(0),
+        served: 1,
+        nodes: 3,
+        patience: 60_000_000,
+    };
+    let mut status = StatusServer::new(rt, alloc, listener, cluster);
     for _ in 0..100_000 {
         if is_done.load(Ordering::SeqCst) {
             return true;

@@ -16,6 +16,8 @@ pub struct Board {
     numbers: Vec<AtomicU64>,
     // The bit with a noticed node's number is 1.
     noticed: Vec<AtomicU64>,
+    // How often the node's figures were put.
+    puts: Vec<AtomicU64>,
 }
 
 // Returns a set of nodes as a number: the bit with a node's number is 1.
@@ -46,8 +48,10 @@ impl Board {
     pub fn new(alloc: Global, first: NodeId, count: u8) -> Result<Board, OutOfMemory> {
         let mut numbers = Vec::new(alloc);
         let mut noticed = Vec::new(alloc);
+        let mut puts = Vec::new(alloc);
         for _ in 0..count {
             noticed.push(AtomicU64::new(0))?;
+            puts.push(AtomicU64::new(0))?;
             for _ in 0..COUNT {
                 numbers.push(AtomicU64::new(0))?;
             }
@@ -57,6 +61,7 @@ impl Board {
             count,
             numbers,
             noticed,
+            puts,
         })
     }
 
@@ -84,6 +89,20 @@ impl Board {
             if let Some(number) = self.numbers.get(row + figure) {
                 number.store(figures.numbers[figure], Ordering::SeqCst);
             }
+        }
+        if let Some(puts) = self.puts.get(usize::from(place)) {
+            puts.fetch_add(1, Ordering::SeqCst);
+        }
+    }
+
+    /// Returns how often figures were stored for a node, modulo 2^64: once a tick of its loop. It is 0 if the node has no row on the board.
+    pub fn puts(&self, node: NodeId) -> u64 {
+        match self.place(node) {
+            Some(place) => match self.puts.get(usize::from(place)) {
+                Some(puts) => puts.load(Ordering::SeqCst),
+                None => 0,
+            },
+            None => 0,
         }
     }
 

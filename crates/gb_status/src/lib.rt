@@ -1,11 +1,12 @@
 //! The figures of a server's nodes, and how they are written: in a session's reply, and in the text that Prometheus reads, by HTTP.
 //! `figures::Figures` is what a node counts, `text` writes it, `board::Board` is where each node's thread puts its figures for
-//! other threads to read, `http` answers requests by HTTP, and `news` writes the lines of the log. Read `figure` first.
+//! other threads to read, `http` answers requests by HTTP, `health` says whether a server is well, and `news` writes the lines of the log. Read `figure` first.
 #![tactic(auto)]
 
 pub mod board;
 pub mod figure;
 pub mod figures;
+pub mod health;
 pub mod http;
 pub mod news;
 pub mod text;
@@ -13,5 +14,6 @@ pub mod text;
 pub use board::Board;
 pub use figure::Figure;
 pub use figures::{Figures, NodeFigures};
+pub use health::{Health, NodeHealth};
 pub use http::Asked;
 pub use news::Told;

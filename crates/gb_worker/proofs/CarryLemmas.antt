@@ -19,16 +19,16 @@ Sends P = P → NodeId → List ℕ → Result Bool PortFault → P → Type 0
 abbrev Receives : Type 0 → Type 1
 Receives P = P → Result (Option (Vec ℕ Global)) PortFault → P → Type 0
 
-calls_append : {P : Type 0} (sends : Sends P) (receives : Receives P) (p q r : P) (xs ys : List PortCall) → AreCalls sends receives p xs q → AreCalls sends receives q ys r → AreCalls sends receives p (xs ++ ys) r
+pub calls_append : {P : Type 0} (sends : Sends P) (receives : Receives P) (p q r : P) (xs ys : List PortCall) → AreCalls sends receives p xs q → AreCalls sends receives q ys r → AreCalls sends receives p (xs ++ ys) r
 calls_append sends receives p q r [] ys x y = subst (λ s. AreCalls sends receives s ys r) (sym x) y
 calls_append sends receives p q r (Received result ∷ xs) ys x y = (x.0, x.1, calls_append sends receives x.0 q r xs ys x.2 y)
 calls_append sends receives p q r (Handed to bytes result ∷ xs) ys x y = (x.0, x.1, calls_append sends receives x.0 q r xs ys x.2 y)
 
-travels_append : (xs ys : List PortCall) → travels (xs ++ ys) ≡ travels xs ++ travels ys
+pub travels_append : (xs ys : List PortCall) → travels (xs ++ ys) ≡ travels xs ++ travels ys
 travels_append [] ys = refl
 travels_append (x ∷ xs) ys = ap (λ zs. travels_in x ++ zs) (travels_append xs ys) ∙ sym (append_assoc (travels_in x) (travels xs) (travels ys))
 
-traffic_append : (xs ys : List NodeStep) → traffic (xs ++ ys) ≡ traffic xs ++ traffic ys
+pub traffic_append : (xs ys : List NodeStep) → traffic (xs ++ ys) ≡ traffic xs ++ traffic ys
 traffic_append [] ys = refl
 traffic_append (x ∷ xs) ys = ap (λ zs. traffic_of x.event x.answer ++ zs) (traffic_append xs ys) ∙ sym (append_assoc (traffic_of x.event x.answer) (traffic xs) (traffic ys))
 

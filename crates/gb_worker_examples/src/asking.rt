@@ -139,8 +139,8 @@ fn tell<L: Tapes, R: Wait + Clock>(
     let _ = answer(rt, alloc, host, seat, node, request);
 }
 
-/// Returns the administrator's request that adds tenant 7 with 4 groups. It makes no call.
-pub fn add_tenant() -> Request {
+// Returns the request that adds tenant 7 with 4 groups, with a token made under this key.
+fn add_tenant_under(key: &Key) -> Request {
     let row = TenantRow {
         tenant: 7,
         key: TENANT_KEY,
@@ -150,9 +150,19 @@ pub fn add_tenant() -> Request {
         window: 4,
     };
     Request {
-        token: token(&ADMIN_KEY, Need::Admin),
+        token: token(key, Need::Admin),
         what: Action::AddTenant(row),
     }
+}
+
+/// Returns the administrator's request that adds tenant 7 with 4 groups. It makes no call.
+pub fn add_tenant() -> Request {
+    add_tenant_under(&ADMIN_KEY)
+}
+
+/// Returns the same request with a token that is not the administrator's. It makes no call.
+pub fn add_tenant_wrongly() -> Request {
+    add_tenant_under(&TENANT_KEY)
 }
 
 // Returns the request that makes a group at a node.

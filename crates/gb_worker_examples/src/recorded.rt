@@ -2,13 +2,15 @@
 ghost use Rattle.std.specs.Prelude.{◌≡◌, vec_len};
 ghost use Rattle.gb_host.specs.Common.{AreHere, AreBlank, books_of, IsPlan};
 
-use crate::asking::{ALONE, BOTH, Unanswered, WORDS, add_tenant, call, log, prepare, say};
+use crate::asking::{
+    ALONE, BOTH, Unanswered, WORDS, add_tenant, add_tenant_wrongly, call, log, prepare, say,
+};
 use crate::plans::{FIRST, SECOND, two_nodes, two_recorded};
 use gb_host::here::only;
 use gb_host::pasts::new_pasts;
 use gb_host::{Host, HostPlan, NodePast, Open, Recorder, Seat, Taken, Tapes};
-use gb_node::{NodeAnswer, NodeEvent, Sent};
-use gb_types::{NodeId, Reply, Version};
+use gb_node::{NodeAnswer, NodeEvent, PacketAnswer, PacketText, Sent};
+use gb_types::{NodeId, Refusal, Reply, Version};
 use std::alloc::Global;
 use std::marker::Brand;
 use std::rt::HostRuntime;
@@ -25,6 +27,8 @@ enum Trial {
     InOrder,
     // It is asked for packets, before and after it has one to send.
     Sending,
+    // It is asked for what changes nothing, and for what does.
+    Vain,
     // Its ring is filled with entries, and one entry is taken.
     Full,
 }
@@ -78,9 +82,9 @@ fn sends<L: Tapes, R: Wait>(
     seat: &mut Seat<L>,
     event: NodeEvent,
 ) -> Option<bool> {
-    match host.call_to_send(rt, seat, SECOND, event, &mut Open) {
-        Ok(Some(NodeAnswer::Sent(Sent::Packet(_)))) => Some(true),
-        Ok(None) => Some(false),
+    match host.call_or_skip(rt, seat, SECOND, event, &mut Open) {
+        Ok(NodeAnswer::Sent(Sent::Packet(_))) => Some(true),
+        Ok(NodeAnswer::Sent(Sent::Nothing)) => Some(false),
         _ => None,
     }
 }
@@ -129,6 +133,64 @@ fn send<L: Tapes, R: Wait + Clock>(
         && again == Some(true)
         && is_ticked
         && left == (7, 6)
+}
+
+// Makes an event happen at node 1, which is left out if its answer says that it is none. Returns its answer, if it was answered.
+fn skipped<L: Tapes, R: Wait>(
+    rt: &R,
+    host: &Host<L>,
+    seat: &mut Seat<L>,
+    event: NodeEvent,
+) -> Option<NodeAnswer> {
+    host.call_or_skip(rt, seat, SECOND, event, &mut Open).ok()
+}
+
+// Returns true if the answer is a refusal for this reason.
+fn is_refusal(answer: &Option<NodeAnswer>, why: Refusal) -> bool {
+    match answer {
+        Some(NodeAnswer::Reply(Reply::Refused(found))) => *found == why,
+        _ => false,
+    }
+}
+
+// Returns true if the answer is that bytes are no packet for the node.
+fn is_fault(answer: &Option<NodeAnswer>) -> bool {
+    match answer {
+        Some(NodeAnswer::Taken(PacketAnswer::Fault(_))) => true,
+        _ => false,
+    }
+}
+
+// Returns the event of four bytes that came.
+fn noise(alloc: Global) -> Option<NodeEvent> {
+    let bytes = Vec::from_slice(alloc, b"\x00\x00\x00\x00".as_slice()).ok()?;
+    Some(NodeEvent::Packet(PacketText::from(bytes)))
+}
+
+// Asks for a tenant with a wrong token, and sends bytes that are no packet: these are no entries. The tenant is added, and asked for
+// again, which is refused behind the right token; and it is asked for with the wrong token by a call that leaves nothing out. Returns
+// true if exactly these three are entries, and the last one has its number among these.
+fn ask_in_vain<L: Tapes, R: Wait>(
+    rt: &R,
+    alloc: Global,
+    host: &Host<L>,
+    seat: &mut Seat<L>,
+    recorder: &mut Recorder<L>,
+) -> bool {
+    let Some(noise) = noise(alloc) else {
+        return false;
+    };
+    let denied = skipped(rt, host, seat, NodeEvent::Request(add_tenant_wrongly()));
+    let noted = skipped(rt, host, seat, noise);
+    let is_empty = recorder.take().is_none();
+    let _ = skipped(rt, host, seat, NodeEvent::Request(add_tenant()));
+    let there = skipped(rt, host, seat, NodeEvent::Request(add_tenant()));
+    let called = made(rt, host, seat, NodeEvent::Request(add_tenant_wrongly()));
+    let are_refused = is_refusal(&denied, Refusal::Denied)
+        && is_refusal(&there, Refusal::TenantThere)
+        && is_refusal(&called, Refusal::Denied);
+    let left = drain(recorder);
+    are_refused && is_fault(&noted) && is_empty && left == (3, 2)
 }
 
 // Asks for `times` ticks. Returns the number of ticks that are answered.
@@ -210,6 +272,7 @@ fn run<L: Tapes, R: Wait + Clock>(
     let is_right = match trial {
         Trial::InOrder => take_in_order(rt, &host, &mut first, &mut second, &mut recorder),
         Trial::Sending => send(rt, alloc, &host, &mut first, &mut recorder),
+        Trial::Vain => ask_in_vain(rt, alloc, &host, &mut first, &mut recorder),
         Trial::Full => fill(rt, &host, &mut first, &mut recorder),
     };
     let is_open = recorder.take().is_none();
@@ -283,6 +346,12 @@ fn a_recorder_takes_what_a_node_did(rt: HostRuntime) {
 #[test]
 fn a_pack_or_an_again_that_gives_nothing_is_no_entry(rt: HostRuntime) {
     let tried = tried(&rt, rt.alloc(), Trial::Sending);
+    assert!(rt; tried == Some((true, true, true)));
+}
+
+#[test]
+fn what_changes_nothing_is_no_entry(rt: HostRuntime) {
+    let tried = tried(&rt, rt.alloc(), Trial::Vain);
     assert!(rt; tried == Some((true, true, true)));
 }
 

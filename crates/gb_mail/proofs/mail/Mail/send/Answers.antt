@@ -1,4 +1,4 @@
-use Rattle.gb_mail.proofs.MailLemmas.{called_more, mailed_more}
+use Rattle.gb_mail.proofs.MailLemmas.{called_more, moved_then}
 use Rattle.gb_mail.proofs.mail.Mail.send.Goals as goal
 
 pub invariant_of-self-clause-here : goal.invariant_of-self-clause-here
@@ -9,8 +9,4 @@ invariant_of-self-clause-here g c =
 pub invariant_of-self-clause-mailed : goal.invariant_of-self-clause-mailed
 invariant_of-self-clause-mailed g c =
     let s = c.args.self.now in
-    mailed_more g.P.Port.sends g.P.Port.receives s.lost s.lost s.origin.port.value s.port c.send_at-outcome.new.port s.origin.seat.value.calls s.seat.calls c.send_at-outcome.new.seat.calls s.mailed (λ none. none)
-    (λ _. c.send_at-outcome.ensures.carried)
-
-pub returns-clause-mailed : goal.returns-clause-mailed
-returns-clause-mailed g c = λ _. c.send_at-outcome.ensures.carried
+    moved_then g.L.Tapes.plan s.origin.node g.P.Port.sends g.P.Port.receives s.lost s.origin.port.value s.port c.send_at-outcome.new.port s.origin.seat.value.calls s.seat.calls c.send_at-outcome.new.seat.calls s.mailed c.send_at-outcome.ensures.moved

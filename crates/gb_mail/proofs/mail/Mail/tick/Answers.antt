@@ -1,6 +1,6 @@
 use Rattle.gb_types.specs.Common.{refl}
 use Rattle.gb_node.specs.declared.event.NodeEvent.TheVariants as events
-use Rattle.gb_mail.proofs.MailLemmas.{called_more, mailed_more, quiet_call}
+use Rattle.gb_mail.proofs.MailLemmas.{called_more, moved_then, never, quiet_answer}
 use Rattle.gb_mail.proofs.mail.Mail.tick.Goals as goal
 
 pub invariant_of-self-clause-here : goal.invariant_of-self-clause-here
@@ -11,5 +11,5 @@ invariant_of-self-clause-here g c =
 pub invariant_of-self-clause-mailed : goal.invariant_of-self-clause-mailed
 invariant_of-self-clause-mailed g c =
     let s = c.args.self.now in
-    mailed_more g.P.Port.sends g.P.Port.receives s.lost s.lost s.origin.port.value s.port s.port s.origin.seat.value.calls s.seat.calls c.ask.new.seat.calls s.mailed (λ none. none)
-    (quiet_call g.P.Port.sends g.P.Port.receives s.lost s.port s.seat.calls c.ask.new.seat.calls s.origin.node events.Tick c.ask.result (λ _. refl) c.ask.ensures.made c.ask.ensures.none)
+    moved_then g.L.Tapes.plan s.origin.node g.P.Port.sends g.P.Port.receives s.lost s.origin.port.value s.port s.port s.origin.seat.value.calls s.seat.calls c.ask.new.seat.calls s.mailed
+    (quiet_answer g.L.Tapes.plan s.host.now.here s.origin.node g.P.Port.sends g.P.Port.receives s.port events.Tick s.seat c.ask.new.seat c.ask.result (never events.Tick c.ask.result (λ _. refl)) c.ask.ensures.answer)

@@ -7,8 +7,8 @@ use Rattle.gb_host.specs.Fits.{HostedFits}
 use Rattle.gb_host.specs.Happened.{GoesOn}
 use Rattle.gb_host.specs.HostedValue.{HostedValue}
 use Rattle.gb_host.specs.KeptPast.{kept_entries, way_of, IsKeptAt}
-use Rattle.gb_node.specs.Common.{ComesTo}
-use Rattle.gb_host.specs.Nothing.{gives_nothing, GaveNothing, GivesNothing}
+use Rattle.gb_node.specs.Common.{ComesTo, IsTurn, NodeValue}
+use Rattle.gb_host.specs.Nothing.{is_no_event, WasNoEvent}
 use Rattle.gb_host.specs.Pasts.{no_book, seen_at}
 use Rattle.gb_host.specs.Plans.{plan_of}
 use Rattle.gb_host.specs.Replay.{past_of}
@@ -17,7 +17,7 @@ use Rattle.gb_host.specs.declared.{copies.Way.Way, plan.HostPlan.HostPlan}
 use Rattle.gb_host.proofs.KeptLemmas.{are_for, list_kept, noted, same_way, tape_kept}
 use Rattle.gb_host.proofs.ReplayLemmas.{any_default, goes_on, hosted_fits_more, seat_fits_more, NotedMore}
 use Rattle.gb_host.proofs.RingLemmas.{past_more}
-use Rattle.gb_host.proofs.hosted.Hosted.step_or_skip.Goals as goal
+use Rattle.gb_host.proofs.hosted.Hosted.step_with.Goals as goal
 
 pub keep-requires-clause-copies : goal.keep-requires-clause-copies
 keep-requires-clause-copies g c =
@@ -109,7 +109,7 @@ invariant_of-seat-2 g c =
     seat_fits_more p g.L.Tapes.books old new e x h.past.log others h.node c.answers.new.node h.past.book c.seat.invariant noted
 
 pub returns-clause-goes_on : goal.returns-clause-goes_on
-returns-clause-goes_on g c =
+returns-clause-goes_on g c = λ _.
     let h = c.self.inside in
     let s = c.seat.inside in
     let p : HostPlan = g.L.Tapes.plan in
@@ -154,14 +154,14 @@ returns-clause-goes_on g c =
     subst (λ (v : SeatValue). GoesOn p c.args.self.now.me v new c.args.event answer) c.seat.view_is
     (subst (λ (v : HostedValue). GoesOn p v.me old new c.args.event answer) c.self.view_is goes)
 
--- what the law says of an event that is left out
+-- what the law says of what is left out
 pub invariant_of-self-then-is_left_out : goal.invariant_of-self-then-is_left_out
 invariant_of-self-then-is_left_out g c =
     let h = c.self.inside in
     let p : HostPlan = g.L.Tapes.plan in
     let answer = c.in-Ok-answers.answers.0 in
-    let none : gives_nothing c.args.event answer ≡ true = and_right c.args.skips (gives_nothing c.args.event answer) (sym c.is_left_out.ensures ∙ c.if-is_left_out.true) in
-    let same : c.answers.new.node ≡ h.node = (c.nothing_changes.ensures h.node c.answers.new.node c.args.event answer c.in-Ok-answers.ensures.turn none).0 in
+    let none : is_no_event answer ≡ true = and_right c.args.skips (is_no_event answer) (sym c.is_left_out.ensures ∙ c.if-is_left_out.true) in
+    let same : c.answers.new.node ≡ h.node = c.nothing_changes.ensures h.node c.answers.new.node c.args.event answer c.in-Ok-answers.ensures.turn none in
     let old : HostedValue = record { me = h.me; node = h.node; book = h.past.book; past = h.past.log; tape = kept_entries h.kept } in
     let new : HostedValue = record { me = h.me; node = c.answers.new.node; book = c.show.new.past.book; past = c.show.new.past.log; tape = kept_entries c.make_room.new.kept } in
     let is : new ≡ old = λ i. record { me = h.me; node = same i; book = (c.show.ensures.past i).book; past = (c.show.ensures.past i).log; tape = c.make_room.ensures.kept.0 i } in (
@@ -170,33 +170,41 @@ invariant_of-self-then-is_left_out g c =
       same_way p h.me h.kept c.make_room.new.kept c.self.invariant.2 c.make_room.ensures.kept.1,
     )
 
-pub returns-then-is_left_out-clause-nothing : goal.returns-then-is_left_out-clause-nothing
-returns-then-is_left_out-clause-nothing g c =
-    let h = c.self.inside in
-    let answer = c.in-Ok-answers.answers.0 in
-    let none : gives_nothing c.args.event answer ≡ true = and_right c.args.skips (gives_nothing c.args.event answer) (sym c.is_left_out.ensures ∙ c.if-is_left_out.true) in
-    let gives : GivesNothing h.node c.args.event = (c.nothing_changes.ensures h.node c.answers.new.node c.args.event answer c.in-Ok-answers.ensures.turn none).1 in
-    subst (λ (v : HostedValue). GivesNothing v.node c.args.event) c.self.view_is gives
-
-pub returns-then-is_left_out-clause-gave_nothing : goal.returns-then-is_left_out-clause-gave_nothing
-returns-then-is_left_out-clause-gave_nothing g c =
+pub returns-then-is_left_out-clause-no_event : goal.returns-then-is_left_out-clause-no_event
+returns-then-is_left_out-clause-no_event g c = λ _.
     let h = c.self.inside in
     let s = c.seat.inside in
     let p : HostPlan = g.L.Tapes.plan in
     let me = h.me.number in
     let at_is : c.index-at.result ≡ me = c.index-at.ensures.value in
     let answer = c.in-Ok-answers.answers.0 in
-    let none : gives_nothing c.args.event answer ≡ true = and_right c.args.skips (gives_nothing c.args.event answer) (sym c.is_left_out.ensures ∙ c.if-is_left_out.true) in
+    let none : is_no_event answer ≡ true = and_right c.args.skips (is_no_event answer) (sym c.is_left_out.ensures ∙ c.if-is_left_out.true) in
+    let same : c.answers.new.node ≡ h.node = c.nothing_changes.ensures h.node c.answers.new.node c.args.event answer c.in-Ok-answers.ensures.turn none in
     let old : SeatValue = record { number = s.number; counts = s.counts; calls = s.calls.log; list = s.list.items; seen = s.seen.items } in
     let there : me < length s.seen.items = let m = c.self.invariant.1.member in let l = c.seat.invariant.seen in omega (arith, m, l) in
     let was : c.index.result.now ≡ seen_at s.seen.items me =
     c.index.ensures ∙ (ap (λ k. get_or s.seen.items k c.index.result.now) at_is ∙ any_default s.seen.items me c.index.result.now (record { book = no_book; log = [] }) there) in
     let others = c.show.ensures.before.0 in
-    let gave : GaveNothing p h.me old c.args.event = record {
+    let left_out : WasNoEvent p h.me old c.args.event answer = record {
       others = others;
       state = h.node;
       comes = subst (λ (xs : List TapeEntry). ComesTo (plan_of p h.me) (past_of xs) h.node) (c.show.ensures.before.1 ∙ ap (λ (k : Known TapeEntry). k.log ++ others) was) c.self.invariant.1.comes;
-      gives = (c.nothing_changes.ensures h.node c.answers.new.node c.args.event answer c.in-Ok-answers.ensures.turn none).1;
+      stays = subst (λ (v : NodeValue). IsTurn h.node c.args.event answer v) same c.in-Ok-answers.ensures.turn;
     } in
-    subst (λ (v : SeatValue). GaveNothing p c.args.self.now.me v c.args.event) c.seat.view_is
-    (subst (λ (v : HostedValue). GaveNothing p v.me old c.args.event) c.self.view_is gave)
+    subst (λ (v : SeatValue). WasNoEvent p c.args.self.now.me v c.args.event answer) c.seat.view_is
+    (subst (λ (v : HostedValue). WasNoEvent p v.me old c.args.event answer) c.self.view_is left_out)
+
+pub returns-then-is_left_out-clause-same : goal.returns-then-is_left_out-clause-same
+returns-then-is_left_out-clause-same g c = λ _.
+    let h = c.self.inside in
+    let s = c.seat.inside in
+    let answer = c.in-Ok-answers.answers.0 in
+    let none : is_no_event answer ≡ true = and_right c.args.skips (is_no_event answer) (sym c.is_left_out.ensures ∙ c.if-is_left_out.true) in
+    let same : c.answers.new.node ≡ h.node = c.nothing_changes.ensures h.node c.answers.new.node c.args.event answer c.in-Ok-answers.ensures.turn none in
+    let old : HostedValue = record { me = h.me; node = h.node; book = h.past.book; past = h.past.log; tape = kept_entries h.kept } in
+    let new : HostedValue = record { me = h.me; node = c.answers.new.node; book = c.show.new.past.book; past = c.show.new.past.log; tape = kept_entries c.make_room.new.kept } in
+    let is : new ≡ old = λ i. record { me = h.me; node = same i; book = (c.show.ensures.past i).book; past = (c.show.ensures.past i).log; tape = c.make_room.ensures.kept.0 i } in
+    let before : SeatValue = record { number = s.number; counts = s.counts; calls = s.calls.log; list = s.list.items; seen = s.seen.items } in
+    let after : SeatValue = record { number = s.number; counts = s.counts; calls = s.calls.log; list = c.make_room.new.list.items; seen = s.seen.items } in
+    let stays : after ≡ before = λ i. record { number = s.number; counts = s.counts; calls = s.calls.log; list = c.make_room.ensures.list i; seen = s.seen.items } in
+    (is ∙ c.self.view_is, stays ∙ c.seat.view_is)
