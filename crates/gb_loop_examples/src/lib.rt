@@ -21,4 +21,6 @@ mod lists;
 #[cfg(test)]
 mod loops;
 #[cfg(test)]
+mod pairs;
+#[cfg(test)]
 mod ticks;

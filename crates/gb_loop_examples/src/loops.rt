@@ -9,7 +9,7 @@ use gb_host::pasts::new_pasts;
 use gb_host::{Host, HostPlan, NodePast, Seat, Tapes};
 use gb_loop::node_loop::run_loop;
 use gb_loop::{Ending, LoopOptions, LoopSockets, Parts, Unsettled};
-use gb_port::UdpPort;
+use gb_port::{Port, UdpPort};
 use gb_status::{Figure, Figures};
 use gb_types::limits::NODES;
 use gb_types::{NodeId, NodeSet, Plan, Version};
@@ -139,8 +139,8 @@ fn plan_of(alone: Alone) -> HostPlan
     }
 }
 
-// Returns the options of its loop: it serves for ever, and gives a sign of life once a second.
-fn options_of(alone: Alone) -> LoopOptions {
+/// Returns the options of its loop: it serves for ever, and gives a sign of life once a second.
+pub fn options_of(alone: Alone) -> LoopOptions {
     LoopOptions {
         tick: alone.tick,
         beat: 1_000_000,
@@ -153,8 +153,8 @@ fn options_of(alone: Alone) -> LoopOptions {
     }
 }
 
-// Returns a listener for clients on a port.
-fn listen<N: Net<Listener = TcpListener, Stream = TcpStream>>(
+/// Returns a listener for clients on a port.
+pub fn listen<N: Net<Listener = TcpListener, Stream = TcpStream>>(
     net: &N,
     port: u16,
 ) -> Option<mio::net::TcpListener> {
@@ -174,11 +174,9 @@ fn open_sockets<N: Net<Listener = TcpListener, Stream = TcpStream>>(
 {
     let port = UdpPort::bind_loopback(net, alloc, ME, alone.nodes, alone.port).ok()?;
     let listener = listen(net, alone.port + 64)?;
-    let fd = port.raw_fd();
     Some(LoopSockets {
         node: ME,
         port,
-        fd,
         listener,
     })
 }
@@ -188,15 +186,16 @@ fn run_host<
     L: Tapes,
     H: Wait + Clock,
     N: Net<Listener = TcpListener, Stream = TcpStream>,
+    P: Port + Drop,
     E: Ending,
 >(
     rt: &H,
     net: &N,
     alloc: Global,
-    alone: Alone,
+    options: LoopOptions,
     plan: HostPlan,
     pasts: Vec<NodePast>,
-    sockets: LoopSockets<UdpPort>,
+    sockets: LoopSockets<P>,
     ending: &E,
 ) -> Option<bool>
     requires plan { plan ≡ L.plan }
@@ -205,9 +204,8 @@ fn run_host<
     requires pasts { (vec_len pasts ≡ plan.cluster.nodes) × AreBlank pasts.items }
     requires books { books_of pasts.items ≡ L.books }
 {
-    let (host, mut seats, _) = Host::<L>::open(alloc, plan, only(ME), 1, pasts).ok()?;
+    let (host, mut seats, _) = Host::<L>::open(alloc, plan, only(sockets.node), 1, pasts).ok()?;
     let seat = seats.pop()?;
-    let options = options_of(alone);
     let Parts { seat, .. } = run_loop(
         rt, net, alloc, &host, seat, sockets, options, &Unsettled, ending,
     );
@@ -231,11 +229,35 @@ pub fn runs<H: Wait + Clock, N: Net<Listener = TcpListener, Stream = TcpStream>,
     let Some(sockets) = open_sockets(net, alloc, alone) else {
         return false;
     };
+    runs_on(rt, net, alloc, alone, options_of(alone), sockets, ending)
+}
+
+/// Runs the loop of a node on these sockets, until `ending` ends it. Returns true if the host was closed well, and false if it was not, or
+/// memory was refused.
+pub fn runs_on<
+    H: Wait + Clock,
+    N: Net<Listener = TcpListener, Stream = TcpStream>,
+    P: Port + Drop,
+    E: Ending,
+>(
+    rt: &H,
+    net: &N,
+    alloc: Global,
+    alone: Alone,
+    options: LoopOptions,
+    sockets: LoopSockets<P>,
+    ending: &E,
+) -> bool
+    requires nodes { (1 ≤ alone.nodes) × (alone.nodes ≤ 16) }
+    requires silence { (2 ≤ alone.silence) × (alone.silence ≤ 1000) }
+{
     let Ok(pasts) = new_pasts(alloc, alone.nodes) else {
         return false;
     };
     let plan = plan_of(alone);
-    run_host::<Brand, H, N, E>(rt, net, alloc, alone, plan, pasts, sockets, ending).unwrap_or(false)
+    run_host::<Brand, H, N, P, E>(rt, net, alloc, options, plan, pasts, sockets, ending).unwrap_or(
+        false,
+    )
 }
 
 // A node of a cluster of one node that ticks in each round.

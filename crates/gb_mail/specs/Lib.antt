@@ -1,3 +1,4 @@
 pub mod Mailed
 pub mod Turned
 pub mod Operated
+pub mod Misfits

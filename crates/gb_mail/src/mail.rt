@@ -9,6 +9,7 @@ use crate::counts::{
     asked_figure, count_packet, count_reply, count_tick, places_asked, sent_figure,
 };
 use crate::hint::{Hint, hint_of, put_addresses};
+use crate::misfits::{NodeMisfit, misfit_of};
 use crate::operate::operate;
 use gb_host::{Host, HostFault, Open, Seat, Tapes};
 use gb_node::{Good, NodeAnswer, NodeEvent, PacketAnswer, PacketText, Sent};
@@ -17,6 +18,7 @@ use gb_session::{Answers, Operation};
 use gb_status::{Figure, Figures};
 use gb_types::{Action, Addr, GroupCommand, NodeId, OutOfMemory, Refusal, Reply, Request};
 use std::alloc::Global;
+use std::os::fd::RawFd;
 use std::snapshot::Snapshot;
 use std::sync::Wait;
 use std::sync::atomic::AtomicBool;
@@ -33,6 +35,8 @@ pub struct Arrival {
     /// None if it was no packet for this node, or there was no memory for it.
     pub good: Option<Good>,
     pub hint: Hint,
+    /// What does not fit, if it came from a node's address.
+    pub misfit: Option<NodeMisfit>,
 }
 
 /// What is left when no more is asked of a node: the node, its seat and its port. `lost` is the number of packets that came and for
@@ -172,16 +176,23 @@ fn packet_of(answer: NodeAnswer) -> Result<PacketText, Outcome>
     }
 }
 
-// Returns what a node made of a good packet.
-fn good_of(answer: NodeAnswer) -> Option<Good> {
+// Returns what a node made of bytes that came.
+fn taken_of(answer: NodeAnswer) -> Option<PacketAnswer> {
     match answer {
-        NodeAnswer::Taken(PacketAnswer::Good(good)) => Some(good),
+        NodeAnswer::Taken(taken) => Some(taken),
         _ => None,
     }
 }
 
-// A packet that came is one event at a node. Returns what the node made of it if it was a good one. If the host refuses the call,
-// the packet is lost and counted.
+// Returns what a node made of a good packet.
+fn good_of(taken: Option<PacketAnswer>) -> Option<Good> {
+    match taken {
+        Some(PacketAnswer::Good(good)) => Some(good),
+        _ => None,
+    }
+}
+
+// A packet that came is one event at a node. Returns what the node made of it. If the host refuses the call, the packet is lost and counted.
 fn take_packet<L: Tapes, H: Wait>(
     rt: &H,
     host: &Host<L>,
@@ -190,7 +201,7 @@ fn take_packet<L: Tapes, H: Wait>(
     bytes: Vec<u8>,
     lost: &mut u64,
     figures: &mut Figures,
-) -> Option<Good>
+) -> Option<PacketAnswer>
     ensures made { lost.new ≡ 0 → (a : AnswerValue)
         × (seat.new.calls ≡ seat.old.calls ++ noted node (PacketEvent bytes.items) a ∷ []) }
     ensures lost { lost.new ≡ 0 → lost.old ≡ 0 }
@@ -200,7 +211,7 @@ fn take_packet<L: Tapes, H: Wait>(
     match ask(rt, host, seat, node, event) {
         Ok(answer) => {
             count_packet(figures, &answer);
-            good_of(answer)
+            taken_of(answer)
         }
         Err(_) => {
             *lost = lost.saturating_add(1);
@@ -365,12 +376,13 @@ impl<'a, L: Tapes, H: Wait, P: Port> Mail<'a, L, H, P> {
             Some(bytes) => bytes,
             None => return None,
         };
+        let from = self.port.news().from;
         let hint = hint_of(&bytes);
         if is_wanted && !put_addresses(&bytes, came) {
             self.is_short = true;
         }
         let node = self.origin.node;
-        let good = take_packet(
+        let taken = take_packet(
             self.rt,
             self.host,
             &mut self.seat,
@@ -379,7 +391,35 @@ impl<'a, L: Tapes, H: Wait, P: Port> Mail<'a, L, H, P> {
             &mut self.lost,
             &mut self.figures,
         );
-        Some(Arrival { good, hint })
+        Some(Arrival {
+            good: good_of(taken),
+            hint,
+            misfit: misfit_of(from, taken),
+        })
+    }
+
+    /// Returns the descriptor of a source of the node's port, which is looked at only after `wake` from now on, as `Port::watch` says.
+    pub fn watch(&mut self, source: u8) -> Option<RawFd>
+        ensures origin { self.new.origin ≡ self.old.origin }
+    {
+        self.port.watch(source)
+    }
+
+    /// Notes that something may have come at a source of the node's port.
+    pub fn wake(&mut self, source: u8)
+        ensures origin { self.new.origin ≡ self.old.origin }
+    {
+        self.port.wake(source);
+    }
+
+    /// Counts what the node's port says beside its packets, and returns whether it has more of strangers than it takes in a row.
+    pub fn count_port(&mut self) -> bool
+        ensures origin { self.new.origin ≡ self.old.origin }
+    {
+        let news = self.port.news();
+        self.figures.set(Figure::Strangers, news.strangers);
+        self.figures.set(Figure::Unreached, news.unreached);
+        news.has_more
     }
 
     /// Makes one event happen at the node by which it sends to node `to`: a pack, an acknowledgement, or a frame once more. Waits for the

@@ -33,7 +33,7 @@ use gb_server::record_file::open_records;
 use gb_server::recorded::logs_of;
 use gb_server::run::run;
 use gb_server::server_log::put_address;
-use gb_server::sockets::open_status;
+use gb_server::sockets::{open_status, port_sockets};
 use gb_server::{Given, Held, Input, Keys, Opened, RecordFile, RecordPlace, ServeFault, Service};
 use gb_spelling::number::put_number;
 use gb_types::memory::put_bytes;
@@ -292,7 +292,10 @@ fn serve_node<
     begin(rt, alloc, words.dir, file.run, me)?;
     let host = host_plan(file, keys, plan.records);
     let files = open_files(rt, alloc, words, file.run, &host, me)?;
-    let descriptors = descriptor_limit().saturating_sub(files.len() as u64);
+    let own = port_sockets(&sockets).own;
+    let descriptors = descriptor_limit()
+        .saturating_sub(files.len() as u64)
+        .saturating_sub(own);
     let connections = connections_of(u64::from(plan.connections), 1, descriptors);
     let options = options_of(file, plan, connections);
     let opened = Opened {

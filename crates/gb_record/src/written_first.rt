@@ -6,9 +6,10 @@ ghost use Rattle.gb_record.specs.Recorded.{is_sent};
 use crate::name::RecordName;
 use crate::shared::SharedRecording;
 use gb_host::{NodeSeen, Tapes};
-use gb_port::{Port, PortFault};
+use gb_port::{Port, PortFault, PortNews};
 use gb_types::NodeId;
 use std::io::Write;
+use std::os::fd::RawFd;
 
 /// A port round a node's port. Before a packet is handed on, all that was noted at the node is written; a packet that no entry sent
 /// which was written since the last send is lost, and counted as a failure of the device. So is each packet after a fault of the
@@ -125,5 +126,21 @@ impl<R: RecordName, L: Tapes, W: Write, P: Port> Port for WrittenFirst<'_, R, L,
         ensures { result ≡ self.now.failures }
     {
         self.failures
+    }
+
+    fn watch(&mut self, source: u8) -> Option<RawFd>
+        ensures same { self.new ≡ self.old }
+    {
+        self.port.watch(source)
+    }
+
+    fn wake(&mut self, source: u8)
+        ensures same { self.new ≡ self.old }
+    {
+        self.port.wake(source);
+    }
+
+    fn news(&self) -> PortNews {
+        self.port.news()
     }
 }

@@ -1,5 +1,5 @@
 //! How many connections the descriptors of the process allow.
-ghost use Rattle.std.specs.Prelude.{◌≤◌, ◌<◌, ◌+◌, ◌*◌};
+ghost use Rattle.std.specs.Prelude.{◌≤◌, ◌<◌, ◌+◌, ◌*◌, ◌↔◌, IsTrue};
 
 use libc::types::rlimit;
 use libc::{RLIMIT_NOFILE, getrlimit};
@@ -28,6 +28,20 @@ pub fn connections_of(wanted: u64, nodes: u8, descriptors: u64) -> u64
     let nodes = u64::from(nodes);
     let room = descriptors.saturating_sub(SPARE + BESIDE * nodes) / nodes;
     room.min(wanted).max(1)
+}
+
+/// How many connections each node keeps at least where each other node has an own socket for its packets.
+pub const LEAST: u64 = 16;
+
+const _: () = prove!(LEAST == 16);
+
+/// Returns true if each of `nodes` nodes of a process may have an own socket for each other one, beside what it holds otherwise and 16
+/// connections, where the process may hold this number of descriptors.
+pub fn may_part(nodes: u8, descriptors: u64) -> bool
+    ensures { IsTrue result ↔ (16 + (20 + nodes) * nodes ≤ descriptors) }
+{
+    let nodes = u64::from(nodes);
+    SPARE + (BESIDE + LEAST + nodes) * nodes <= descriptors
 }
 
 /// Asks the system, and returns the number of descriptors that the process may hold at once. It is 2^64 - 1 if the system does not say

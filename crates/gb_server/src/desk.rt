@@ -6,7 +6,7 @@ use gb_loop::Ending;
 use std::io::Write;
 use std::time::Clock;
 
-/// A log with its first line, and who answers requests for the status, if anybody does.
+/// A log with its first two lines, and who answers requests for the status, if anybody does.
 #[derive(Drop)]
 pub struct Desk {
     pub log: ServerLog,
@@ -15,7 +15,7 @@ pub struct Desk {
 }
 
 impl Desk {
-    /// Writes the first line of the server's log to `errors`, unless the log is quiet. A line that cannot be written is lost.
+    /// Writes the first two lines of the server's log to `errors`, unless the log is quiet. Lines that cannot be written are lost.
     pub fn begin<E: Write>(&self, errors: &mut E) {
         self.log.begin(&self.first, errors);
     }

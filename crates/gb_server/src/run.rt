@@ -6,12 +6,15 @@ use crate::crew::{Held, hold_beside};
 use crate::desk::Desk;
 use crate::given::{Given, Server};
 use crate::input::Input;
-use crate::server_log::{ServerLog, first_line};
+use crate::server_log::{ServerLog, first_line, sockets_line};
 use crate::signals::Signals;
+use crate::sockets::port_sockets;
 use crate::status::StatusServer;
 use crate::watch::{Attending, watch};
 use gb_host::{Host, Tapes};
 use gb_loop::LoopOptions;
+use gb_port::PortSockets;
+use gb_types::memory::put_bytes;
 use gb_types::{NodeId, OutOfMemory};
 use std::alloc::Global;
 use std::io::Write;
@@ -65,6 +68,7 @@ fn desk_of<H: Clock>(
     rt: &H,
     alloc: Global,
     service: &Service,
+    sockets: PortSockets,
     listener: Option<TcpListener>,
 ) -> Result<Desk, OutOfMemory> {
     let log = ServerLog::new(
@@ -82,7 +86,8 @@ fn desk_of<H: Clock>(
         Some(status) => status.address(),
         None => None,
     };
-    let first = first_line(alloc, &service.front, address)?;
+    let mut first = first_line(alloc, &service.front, address)?;
+    put_bytes(&mut first, &sockets_line(alloc, service.name, sockets)?)?;
     Ok(Desk { log, first, status })
 }
 
@@ -112,7 +117,7 @@ pub fn run<
     ensures read { OnOk result ((bytes : List ℕ) × Consumes (R.remaining reader.old) (R.remaining reader.new) bytes) }
 {
     let signals = Signals::new(alloc, service.first, service.nodes)?;
-    let desk = desk_of(rt, alloc, service, listener)?;
+    let desk = desk_of(rt, alloc, service, port_sockets(&given.sockets), listener)?;
     let attending = Attending { desk, errors };
     let server = Server {
         host,

@@ -18,7 +18,7 @@ use crate::record_file::{RecordPlace, open_records};
 use crate::recorded::logs_of;
 use crate::run::{Service, run};
 use crate::server_log::begin_front;
-use crate::sockets::{open_sockets, open_status};
+use crate::sockets::{open_sockets, open_status, port_sockets};
 use crate::told::{serving_line, status_of, tell_end};
 use gb_host::here::all_nodes;
 use gb_host::pasts::new_pasts;
@@ -172,7 +172,10 @@ fn serve_host<
     let seats = u32::from(plan.cluster.nodes);
     let here = all_nodes(plan.cluster.nodes);
     let (host, seats, recorders) = Host::<L>::open(alloc, plan, here, seats, pasts)?;
-    let descriptors = descriptor_limit().saturating_sub(files.len() as u64);
+    let own = port_sockets(&sockets).own;
+    let descriptors = descriptor_limit()
+        .saturating_sub(files.len() as u64)
+        .saturating_sub(own);
     let logs = logs_of(alloc, &plan, host.here(), recorders, files)?;
     let wanted = u64::from(serve.connections);
     let connections = connections_of(wanted, serve.nodes, descriptors);

@@ -77,7 +77,7 @@ fn metrics_are_told_of_each_node(rt: HostRuntime) {
         assert!(rt; has(&text, part));
     }
     assert!(rt; text.ends_with(b"foqradesh_node_running{node=\"1\"} 0\n"));
-    assert!(rt; text.iter().filter(|byte| **byte == b'#').count() == 2 * 22);
+    assert!(rt; text.iter().filter(|byte| **byte == b'#').count() == 2 * 24);
 }
 
 // Heads, and what they ask for.

@@ -54,7 +54,7 @@ static DENIED_OPEN: [(Head, &str, &str); 1] = [(
 )];
 
 // Lines of the text of figures after this traffic, and after three bytes that are no packet came to node 1.
-static FIGURES: [&[u8]; 13] = [
+static FIGURES: [&[u8]; 15] = [
     b"\nfoqradesh_requests_total{node=\"0\",kind=\"tenant\"} 1\n",
     b"\nfoqradesh_requests_total{node=\"0\",kind=\"make\"} 1\n",
     b"\nfoqradesh_requests_total{node=\"0\",kind=\"say\"} 3\n",
@@ -63,7 +63,9 @@ static FIGURES: [&[u8]; 13] = [
     b"\nfoqradesh_refusals_total{node=\"0\",refusal=\"NoGroup\"} 1\n",
     b"\nfoqradesh_messages_said_total{node=\"0\"} 1\n",
     b"\nfoqradesh_packet_faults_total{node=\"0\",fault=\"short\"} 0\n",
-    b"\nfoqradesh_packet_faults_total{node=\"1\",fault=\"short\"} 1\n",
+    b"\nfoqradesh_packet_faults_total{node=\"1\",fault=\"short\"} 0\n",
+    b"\nfoqradesh_strangers_total{node=\"0\"} 0\n",
+    b"\nfoqradesh_strangers_total{node=\"1\"} 1\n",
     b"\nfoqradesh_places_left{node=\"0\"} 1000\n",
     b"\nfoqradesh_places_left{node=\"1\"} 1024\n",
     b"\nfoqradesh_node_running{node=\"0\"} 1\n",
@@ -124,7 +126,7 @@ static WATCHED: [&str; 8] = [
 ];
 
 static WATCHED_BEGIN: &[u8] =
-    b"gb_serve 0.1.0: 2 nodes, packets at UDP 127.0.0.1:24700 to 24701, sessions at TCP 127.0.0.1:24764 to 24765, status at http://127.0.0.1:24790/metrics\n";
+    b"gb_serve 0.1.0: 2 nodes, packets at UDP 127.0.0.1:24700 to 24701, sessions at TCP 127.0.0.1:24764 to 24765, status at http://127.0.0.1:24790/metrics\ngb_serve: 2 of 2 links have an own socket, each receive buffer has ";
 
 static WATCHED_END: &[u8] = b"gb_serve: ends: all connections were served\n";
 
@@ -134,6 +136,14 @@ fn is_log(errors: &[u8]) -> bool {
     let Some(rest) = errors.strip_prefix(WATCHED_BEGIN) else {
         return false;
     };
+    // How many bytes a receive buffer has is the system's.
+    let Some(end) = rest.iter().position(|byte| *byte == b'\n') else {
+        return false;
+    };
+    let (buffer, rest) = rest.split_at(end + 1);
+    if !buffer.ends_with(b" of 4194304 bytes\n") {
+        return false;
+    }
     rest == WATCHED_END || has(rest, WATCHED_END) && has(rest, b" as crashed\n")
 }
 

@@ -2,3 +2,4 @@ pub mod Names
 pub mod Figures
 pub mod Http
 pub mod News
+pub mod Misfits

@@ -1,6 +1,7 @@
 //! Where each node's thread puts the node's figures for other threads to read.
 use crate::figure::COUNT;
 use crate::figures::{Figures, NodeFigures};
+use crate::misfit::Misfit;
 use gb_types::limits::NODES;
 use gb_types::{NodeId, NodeSet, OutOfMemory};
 use std::alloc::Global;
@@ -16,6 +17,20 @@ pub struct Board {
     numbers: Vec<AtomicU64>,
     // The bit with a noticed node's number is 1.
     noticed: Vec<AtomicU64>,
+    // For each node and each other one, how many lines are due of each misfit.
+    misfits: Vec<AtomicU64>,
+}
+
+// The number of misfits.
+const MISFITS: usize = 2;
+
+// The place of a misfit among those of a node.
+fn misfit_place(other: NodeId, misfit: Misfit) -> usize {
+    let kind = match misfit {
+        Misfit::Key => 0,
+        Misfit::Node => 1,
+    };
+    other.index().saturating_mul(MISFITS).saturating_add(kind)
 }
 
 // Returns a set of nodes as a number: the bit with a node's number is 1.
@@ -46,8 +61,12 @@ impl Board {
     pub fn new(alloc: Global, first: NodeId, count: u8) -> Result<Board, OutOfMemory> {
         let mut numbers = Vec::new(alloc);
         let mut noticed = Vec::new(alloc);
+        let mut misfits = Vec::new(alloc);
         for _ in 0..count {
             noticed.push(AtomicU64::new(0))?;
+            for _ in 0..NODES * MISFITS {
+                misfits.push(AtomicU64::new(0))?;
+            }
             for _ in 0..COUNT {
                 numbers.push(AtomicU64::new(0))?;
             }
@@ -57,6 +76,7 @@ impl Board {
             count,
             numbers,
             noticed,
+            misfits,
         })
     }
 
@@ -111,6 +131,29 @@ impl Board {
                 None => NodeSet::new(),
             },
             None => NodeSet::new(),
+        }
+    }
+
+    // The number of lines that are due of a misfit.
+    fn misfit(&self, node: NodeId, other: NodeId, misfit: Misfit) -> Option<&AtomicU64> {
+        let row = usize::from(self.place(node)?) * (NODES * MISFITS);
+        self.misfits
+            .get(row.saturating_add(misfit_place(other, misfit)))
+    }
+
+    /// Notes that the log is to have one more line of packets that come to a node from the address of another one and do not fit. If the
+    /// node has no row on the board, nothing is noted.
+    pub fn note_misfit(&self, node: NodeId, other: NodeId, misfit: Misfit) {
+        if let Some(count) = self.misfit(node, other, misfit) {
+            count.fetch_add(1, Ordering::SeqCst);
+        }
+    }
+
+    /// Returns how many such lines the log is to have had so far. It is 0 if the node has no row on the board.
+    pub fn misfits(&self, node: NodeId, other: NodeId, misfit: Misfit) -> u64 {
+        match self.misfit(node, other, misfit) {
+            Some(count) => count.load(Ordering::SeqCst),
+            None => 0,
         }
     }
 

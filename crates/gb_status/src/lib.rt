@@ -1,12 +1,13 @@
 //! The figures of a server's nodes, and how they are written: in a session's reply, and in the text that Prometheus reads, by HTTP.
 //! `figures::Figures` is what a node counts, `text` writes it, `board::Board` is where each node's thread puts its figures for
-//! other threads to read, `http` answers requests by HTTP, and `news` writes the lines of the log. Read `figure` first.
+//! other threads to read, `http` answers requests by HTTP, and `news` and `misfit` write the lines of the log. Read `figure` first.
 #![tactic(auto)]
 
 pub mod board;
 pub mod figure;
 pub mod figures;
 pub mod http;
+pub mod misfit;
 pub mod news;
 pub mod text;
 
@@ -14,4 +15,5 @@ pub use board::Board;
 pub use figure::Figure;
 pub use figures::{Figures, NodeFigures};
 pub use http::Asked;
+pub use misfit::Misfit;
 pub use news::Told;

@@ -17,18 +17,18 @@ returns-in-None-clause-mailed g c = λ _.
 pub invariant_of-self-2-clause-here : goal.invariant_of-self-2-clause-here
 invariant_of-self-2-clause-here g c =
     let s = c.args.self.now in
-    called_more s.origin.node s.origin.seat.value.calls s.seat.calls c.take_packet-good.new.seat.calls s.here c.take_packet-good.ensures.here
+    called_more s.origin.node s.origin.seat.value.calls s.seat.calls c.take_packet-taken.new.seat.calls s.here c.take_packet-taken.ensures.here
 
 pub invariant_of-self-2-clause-mailed : goal.invariant_of-self-2-clause-mailed
 invariant_of-self-2-clause-mailed g c =
     let s = c.args.self.now in
-    mailed_more g.P.Port.sends g.P.Port.receives s.lost c.take_packet-good.new.lost s.origin.port.value s.port c.next_packet.new.port s.origin.seat.value.calls s.seat.calls c.take_packet-good.new.seat.calls s.mailed c.take_packet-good.ensures.lost
+    mailed_more g.P.Port.sends g.P.Port.receives s.lost c.take_packet-taken.new.lost s.origin.port.value s.port c.next_packet.new.port s.origin.seat.value.calls s.seat.calls c.take_packet-taken.new.seat.calls s.mailed c.take_packet-taken.ensures.lost
     (λ none.
-    let m = c.take_packet-good.ensures.made none in
-    carried_in g.P.Port.sends g.P.Port.receives s.port c.next_packet.new.port s.seat.calls c.take_packet-good.new.seat.calls s.origin.node c.in-Some.bytes c.in-Some.bytes.items m.0 c.in-Some.ensures.some refl m.1)
+    let m = c.take_packet-taken.ensures.made none in
+    carried_in g.P.Port.sends g.P.Port.receives s.port c.next_packet.new.port s.seat.calls c.take_packet-taken.new.seat.calls s.origin.node c.in-Some.bytes c.in-Some.bytes.items m.0 c.in-Some.ensures.some refl m.1)
 
 pub returns-clause-mailed : goal.returns-clause-mailed
 returns-clause-mailed g c = λ none.
     let s = c.args.self.now in
-    let m = c.take_packet-good.ensures.made none in
-    carried_in g.P.Port.sends g.P.Port.receives s.port c.next_packet.new.port s.seat.calls c.take_packet-good.new.seat.calls s.origin.node c.in-Some.bytes c.in-Some.bytes.items m.0 c.in-Some.ensures.some refl m.1
+    let m = c.take_packet-taken.ensures.made none in
+    carried_in g.P.Port.sends g.P.Port.receives s.port c.next_packet.new.port s.seat.calls c.take_packet-taken.new.seat.calls s.origin.node c.in-Some.bytes c.in-Some.bytes.items m.0 c.in-Some.ensures.some refl m.1
