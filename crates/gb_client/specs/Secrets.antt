@@ -1,5 +1,5 @@
 -- The keys and the token that a client is given.
-use Rattle.std.specs.Prelude.{ℕ, ◌==◌, List, codes, length, drop, fold, nat_eq, Option, Some, None, if◌then◌else◌, option_map, option_and_then}
+use Rattle.std.specs.Prelude.{ℕ, ◌==◌, ◌+◌, Bool, not, is_some, position, List, codes, length, drop, fold, nat_eq, Option, Some, None, if◌then◌else◌, option_map, option_and_then}
 use Rattle.std.specs.List.{starts_with, slice_split}
 use Rattle.gb_spelling.specs.TokenWord.{token_of as word_token}
 use Rattle.gb_cap.specs.Token.{token_of}
@@ -25,6 +25,14 @@ no_secrets = record { admin = None; tenant = None; token = None }
 -- the secrets of a text, line by line; none where a line is bad
 abbrev pub secrets_of : List ℕ → Option Secrets
 secrets_of text = fold with_next (Some no_secrets) (slice_split (λ byte. byte == 10) text)
+
+-- a line that is neither empty nor one of the three
+abbrev pub is_bad : List ℕ → Bool
+is_bad line = not (is_some (with_line no_secrets line))
+
+-- the number of the first bad line of a text, from 1; none if each line is good
+abbrev pub bad_line : List ℕ → Option ℕ
+bad_line text = option_map (λ place. place + 1) (position is_bad (slice_split (λ byte. byte == 10) text))
 
 -- the key under which the token for a need is made
 abbrev pub key_for : Secrets → Need → Option (List ℕ)

@@ -1,5 +1,5 @@
 //! The secrets that a client is given: keys of which it makes tokens, or a token.
-ghost use Rattle.std.specs.Prelude.{◌≡◌, ◌==◌, None, Some, IfOk, IfErr, fold, map};
+ghost use Rattle.std.specs.Prelude.{◌≡◌, ◌==◌, ◌<◌, ◌+◌, None, Some, IfOk, IfErr, IfSome, fold, length, map, option_map, position};
 ghost use Rattle.std.specs.List.{slice_split};
 
 use crate::fault::ClientFault;
@@ -20,7 +20,7 @@ pub struct Secrets {
     pub token: Option<[u8; 32]>,
 }
 
-ghost use Rattle.gb_client.specs.Secrets.{with_line, with_next, no_secrets, secrets_of, token_for};
+ghost use Rattle.gb_client.specs.Secrets.{bad_line, is_bad, with_line, with_next, no_secrets, secrets_of, token_for};
 
 // The secrets with those of one more line. None where the line is bad.
 fn add_line(secrets: Secrets, line: &[u8]) -> Option<Secrets>
@@ -85,6 +85,38 @@ pub fn read_secrets(alloc: Global, text: &[u8]) -> Result<Option<Secrets>, OutOf
 {
     let lines = split_lines(alloc, text)?;
     Ok(add_lines(&lines))
+}
+
+// Returns true if a line is none of a text of secrets.
+fn is_bad(line: &[u8]) -> bool
+    ensures { result ≡ is_bad line.now }
+{
+    let none = Secrets {
+        admin: None,
+        tenant: None,
+        token: None,
+    };
+    add_line(none, line).is_none()
+}
+
+// Returns the place of the first line that is none of a text of secrets.
+fn first_bad(lines: &[&[u8]]) -> Option<usize>
+    ensures place { result ≡ position (λ line. is_bad line.now) lines.now }
+    ensures there { IfSome result (λ place. place < length lines.now) }
+{
+    lines.iter().position(|line| is_bad(line))
+}
+
+/// Returns the number, from 1, of the first line of `text` for which `read_secrets` returns `None`. `None` if each line is good. `Err`
+/// if memory runs out.
+pub fn bad_line(alloc: Global, text: &[u8]) -> Result<Option<usize>, OutOfMemory>
+    ensures { IfOk result (λ found. found ≡ bad_line text.now) }
+{
+    let lines = split_lines(alloc, text)?;
+    match first_bad(&lines) {
+        Some(place) => Ok(Some(place + 1)),
+        None => Ok(None),
+    }
 }
 
 impl Secrets {

@@ -1,4 +1,5 @@
-//! The client, as tests: what it asks of nodes and what it prints of their replies, how its runs end, logs that are followed, and directory files. This crate has
+//! The client, as tests: what it asks of nodes and what it prints of their replies, how its runs end, logs that are followed, and directory files, and
+//! texts of secrets. This crate has
 //! tests only.
 #![tactic(auto)]
 
@@ -12,3 +13,5 @@ mod followed;
 mod replies;
 #[cfg(test)]
 mod runs;
+#[cfg(test)]
+mod secret_texts;

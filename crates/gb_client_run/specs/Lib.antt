@@ -6,3 +6,4 @@ pub mod Groups
 pub mod Importing
 pub mod Listing
 pub mod Running
+pub mod SecretTexts

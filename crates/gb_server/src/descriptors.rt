@@ -1,6 +1,8 @@
-//! How many connections the descriptors of the process allow.
-ghost use Rattle.std.specs.Prelude.{◌≤◌, ◌<◌, ◌+◌, ◌*◌};
+//! How many connections the descriptors of the process allow, and whether they are enough for its nodes.
+ghost use Rattle.std.specs.Prelude.{◌≡◌, ◌≤◌, ◌<◌, ◌+◌, ◌*◌, IfErr, OnOk};
+ghost use Rattle.gb_server.specs.Descriptors.{descriptors_needed};
 
+use crate::fault::ServeFault;
 use libc::types::rlimit;
 use libc::{RLIMIT_NOFILE, getrlimit};
 
@@ -28,6 +30,29 @@ pub fn connections_of(wanted: u64, nodes: u8, descriptors: u64) -> u64
     let nodes = u64::from(nodes);
     let room = descriptors.saturating_sub(SPARE + BESIDE * nodes) / nodes;
     room.min(wanted).max(1)
+}
+
+/// Returns the descriptors that a server of `nodes` nodes holds at least: 16 that belong to no node, and for each node 4 beside its
+/// connections, one connection, and the file of its record if `are_recorded`.
+pub fn descriptors_needed(nodes: u8, are_recorded: bool) -> u64
+    ensures { result ≡ descriptors_needed nodes are_recorded }
+{
+    let each: u64 = if are_recorded { 6 } else { 5 };
+    SPARE + each * u64::from(nodes)
+}
+
+/// Returns whether a process that may hold `limit` descriptors may serve this number of nodes. `Err` with `Descriptors`, the number that
+/// they need and the limit, if it has too few.
+pub fn allow_nodes(limit: u64, nodes: u8, are_recorded: bool) -> Result<(), ServeFault>
+    ensures ok { OnOk result (descriptors_needed nodes are_recorded ≤ limit) }
+    ensures refused { IfErr result (λ fault. (fault ≡ ServeFault.Descriptors (descriptors_needed nodes are_recorded) limit)
+        × (limit < descriptors_needed nodes are_recorded)) }
+{
+    let needed = descriptors_needed(nodes, are_recorded);
+    if limit < needed {
+        return Err(ServeFault::Descriptors { needed, limit });
+    }
+    Ok(())
 }
 
 /// Asks the system, and returns the number of descriptors that the process may hold at once. It is 2^64 - 1 if the system does not say

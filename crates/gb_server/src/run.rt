@@ -14,6 +14,7 @@ use gb_host::{Host, Tapes};
 use gb_loop::LoopOptions;
 use gb_types::{NodeId, OutOfMemory};
 use std::alloc::Global;
+use std::fs::Files;
 use std::io::Write;
 use std::net::{Net, TcpListener, TcpStream};
 use std::sync::Wait;
@@ -92,7 +93,7 @@ fn desk_of<H: Clock>(
 /// `Write` if the line could not be written; and with `Unrecorded` if a record could not be written.
 pub fn run<
     L: Tapes + Send + Sync,
-    H: Net<Listener = TcpListener, Stream = TcpStream> + Threads + Wait + Clock + Sync,
+    H: Net<Listener = TcpListener, Stream = TcpStream> + Threads + Wait + Clock + Sync + Files,
     R: Input,
     W: Write,
     E: Write + Send,

@@ -9,7 +9,7 @@ ghost use Rattle.gb_server.specs.Ended.{EndsSo, has_closed};
 
 use crate::complaint::complain;
 use crate::crew::Held;
-use crate::descriptors::{connections_of, descriptor_limit};
+use crate::descriptors::{allow_nodes, connections_of, descriptor_limit};
 use crate::ending::{Ended, end, end_recorded};
 use crate::fault::ServeFault;
 use crate::given::{Given, Opened};
@@ -138,7 +138,7 @@ fn service_of(alloc: Global, plan: ServePlan) -> Result<Service, OutOfMemory>
 // Serves on sockets that are bound.
 fn serve_host<
     L: Tapes + Send + Sync,
-    H: Net<Listener = TcpListener, Stream = TcpStream> + Threads + Wait + Clock + Sync,
+    H: Net<Listener = TcpListener, Stream = TcpStream> + Threads + Wait + Clock + Sync + Files,
     R: Input,
     W: Write,
     E: Write + Send,
@@ -231,6 +231,7 @@ fn serve_plan<
 {
     let serve = words.plan;
     let plan = host_plan(serve, keys, run);
+    allow_nodes(descriptor_limit(), serve.nodes, serve.records)?;
     let sockets = open_sockets(rt, alloc, serve.nodes, serve.base_port)?;
     let listener = open_status(rt, serve.status)?;
     let place = place_of(words, run);
@@ -249,7 +250,7 @@ fn serve_plan<
 /// Runs a whole server by the words of a command line, in the run with the number `run`. Reads the keys from `reader`, and behind them
 /// the line `stop`. Writes the line that tells what is served to `writer`, and the log to `errors`. Binds sockets, makes threads and,
 /// if the words ask for it, files of records. Returns how it ended; no line tells that yet. `Err` with the first fault: `RefusedWords`
-/// before anything is read or written, then `BadKeys`, `NoRun` if `run` is `None`, and those of sockets, records, threads and the end.
+/// before anything is read or written, then `BadKeys`, `NoRun` if `run` is `None`, `Descriptors`, and those of sockets, records, threads and the end.
 pub fn serve<
     H: Net<Listener = TcpListener, Stream = TcpStream>
         + Threads

@@ -25,6 +25,8 @@ mod nodes;
 #[cfg(test)]
 mod plans;
 #[cfg(test)]
+mod processes;
+#[cfg(test)]
 mod recorded;
 #[cfg(test)]
 mod recorded_servers;

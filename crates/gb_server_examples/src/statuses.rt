@@ -12,6 +12,7 @@ use gb_spelling::CommandHead;
 use gb_status::{Figure, Figures};
 use gb_types::{NodeId, NodeSet};
 use std::alloc::Global;
+use std::fs::Files;
 use std::io::{ErrorKind, Read, Write};
 use std::net::{Net, TcpListener, TcpStream, UdpSocket};
 use std::rt::HostRuntime;
@@ -178,7 +179,7 @@ fn some_figures() -> Figures {
 }
 
 // Tells the status by these signals at a port, and looks until this is set. Returns false where it could not listen, or this is never set.
-fn tells<H: Net<Listener = TcpListener, Stream = TcpStream> + Wait + Clock>(
+fn tells<H: Net<Listener = TcpListener, Stream = TcpStream> + Wait + Clock + Files>(
     rt: &H,
     alloc: Global,
     port: u16,

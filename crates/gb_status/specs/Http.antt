@@ -59,19 +59,19 @@ note_of OtherMethod is_serving = codes "only GET" ++ line_feed
 note_of More is_serving = codes "no request" ++ line_feed
 note_of NoRequest is_serving = codes "no request" ++ line_feed
 
--- the text of the figures, if they are asked for
-abbrev pub figures_for : Asked → List NodeFigures → List ℕ
-figures_for Metrics all = metrics_text all
-figures_for other all = []
+-- the text of the figures, and what the server tells of itself, if they are asked for
+abbrev pub figures_for : Asked → List NodeFigures → List ℕ → List ℕ
+figures_for Metrics all facts = metrics_text all ++ facts
+figures_for other all facts = []
 
 -- the answer to what is asked for
-abbrev pub answer_of : Asked → List NodeFigures → Bool → List ℕ
-answer_of asked all is_serving = response_text (code_of asked is_serving) (figures_for asked all ++ note_of asked is_serving)
+abbrev pub answer_of : Asked → List NodeFigures → List ℕ → Bool → List ℕ
+answer_of asked all facts is_serving = response_text (code_of asked is_serving) (figures_for asked all facts ++ note_of asked is_serving)
 
 -- The text answers what these bytes ask for. A head that is not whole is answered only if no more bytes may come.
-abbrev pub IsReply : List ℕ → Bool → List NodeFigures → Bool → List ℕ → Type 0
-IsReply bytes may_come all is_serving text =
-    (asked : Asked) × Asks bytes asked × (asked ≡ More → may_come ≡ false) × (text ≡ answer_of asked all is_serving)
+abbrev pub IsReply : List ℕ → Bool → List NodeFigures → List ℕ → Bool → List ℕ → Type 0
+IsReply bytes may_come all facts is_serving text =
+    (asked : Asked) × Asks bytes asked × (asked ≡ More → may_come ≡ false) × (text ≡ answer_of asked all facts is_serving)
 
 -- the loop of each of these nodes runs
 abbrev pub all_run : List NodeFigures → Bool

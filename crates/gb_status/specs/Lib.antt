@@ -1,4 +1,5 @@
 pub mod Names
+pub mod Facts
 pub mod Figures
 pub mod Http
 pub mod News

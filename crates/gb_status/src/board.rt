@@ -1,4 +1,5 @@
 //! Where each node's thread puts the node's figures for other threads to read.
+use crate::facts::NodeNoticed;
 use crate::figure::COUNT;
 use crate::figures::{Figures, NodeFigures};
 use gb_types::limits::NODES;
@@ -112,6 +113,19 @@ impl Board {
             },
             None => NodeSet::new(),
         }
+    }
+
+    /// Returns, for each node that has a row on the board, the set of nodes that it holds for crashed, as `noticed` does, by rising
+    /// numbers of nodes. `Err` if there is no memory.
+    pub fn all_noticed(&self, alloc: Global) -> Result<Vec<NodeNoticed>, OutOfMemory> {
+        let mut all = Vec::new(alloc);
+        for place in 0..self.count {
+            if let Some(node) = NodeId::from_number(self.first.saturating_add(place)) {
+                let noticed = self.noticed(node);
+                all.push(NodeNoticed { node, noticed })?;
+            }
+        }
+        Ok(all)
     }
 
     /// Returns the stored figures of each node that has a row on the board, by rising numbers of nodes. `Err` if there is no memory.

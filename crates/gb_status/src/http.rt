@@ -148,19 +148,21 @@ fn note_of(asked: Asked, is_serving: bool) -> &'static [u8]
     }
 }
 
-/// Returns the whole HTTP answer to what is asked for: 200 with the figures of all nodes; 200 or 503 for the health, as `is_serving`
+/// Returns the whole HTTP answer to what is asked for: 200 with the figures of all nodes and `facts` behind them; 200 or 503 for the health, as `is_serving`
 /// says; 404 for another place; 405 for another method; 400 for what is no whole request. `Err` if there is no memory.
 pub fn answer(
     alloc: Global,
     asked: Asked,
     all: &[NodeFigures],
+    facts: &[u8],
     is_serving: bool,
 ) -> Result<Vec<u8>, OutOfMemory>
-    ensures { IfOk result (λ text. text.items ≡ answer_of asked all.now is_serving) }
+    ensures { IfOk result (λ text. text.items ≡ answer_of asked all.now facts.now is_serving) }
 {
     let mut body = Vec::new(alloc);
     if asked == Asked::Metrics {
         body = metrics_text(alloc, all)?;
+        put_bytes(&mut body, facts)?;
     }
     put_bytes(&mut body, note_of(asked, is_serving))?;
     response(alloc, code_of(asked, is_serving), &body)
@@ -173,16 +175,17 @@ pub fn reply(
     bytes: &[u8],
     may_come: bool,
     all: &[NodeFigures],
+    facts: &[u8],
     is_serving: bool,
 ) -> Result<Option<Vec<u8>>, OutOfMemory>
-    ensures some { IfOk result (λ reply. IfSome reply (λ text. IsReply bytes.now may_come all.now is_serving text.items)) }
+    ensures some { IfOk result (λ reply. IfSome reply (λ text. IsReply bytes.now may_come all.now facts.now is_serving text.items)) }
     ensures none { IfOk result (λ reply. IfNone reply ((may_come ≡ true) × Asks bytes.now Asked.More)) }
 {
     let asked = asked_for(bytes);
     if may_come && asked == Asked::More {
         return Ok(None);
     }
-    let text = answer(alloc, asked, all, is_serving)?;
+    let text = answer(alloc, asked, all, facts, is_serving)?;
     Ok(Some(text))
 }
 

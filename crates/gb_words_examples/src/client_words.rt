@@ -27,7 +27,7 @@ static GIVEN: &[u8] = b"token 00000000000000000000000000000000000000000000000000
 fn secrets(alloc: Global, text: &[u8]) -> Result<Secrets, ClientFault> {
     match read_secrets(alloc, text)? {
         Some(secrets) => Ok(secrets),
-        None => Err(ClientFault::Secrets),
+        None => Err(ClientFault::Missing),
     }
 }
 
