@@ -55,6 +55,8 @@ mod theorem;
 #[cfg(test)]
 mod told;
 #[cfg(test)]
+mod turned;
+#[cfg(test)]
 mod unlike;
 #[cfg(test)]
 mod worked;

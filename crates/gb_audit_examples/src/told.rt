@@ -101,3 +101,17 @@ pub fn are_same_steps(steps: &[GroupStep], wanted: &[GroupStep]) -> bool {
     }
     true
 }
+
+/// Returns true if the steps at the node with this number are exactly the wanted ones, in order, whatever stands between them.
+pub fn are_steps_at(steps: &[GroupStep], node: u8, wanted: &[Told]) -> bool {
+    let mut next = 0;
+    for step in steps {
+        if step.node.number == node {
+            if next == wanted.len() || told_of(&step.event) != wanted[next] {
+                return false;
+            }
+            next += 1;
+        }
+    }
+    next == wanted.len()
+}

@@ -37,3 +37,6 @@ pub mod TickLawLemmas
 pub mod SilenceLemmas
 pub mod SeenLemmas
 pub mod FetchLemmas
+pub mod FedLemmas
+pub mod StrangerLemmas
+pub mod DecideLemmas

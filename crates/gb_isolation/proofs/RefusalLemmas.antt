@@ -21,7 +21,7 @@ node_same old new request why (inr went) = went.1 ∙ by old.stopped refl
         ap (λ b. (if b then record { value = old; answer = stopped_answer (Asked request) } else running_turn old (Asked request)).value) is
         ∙ refused_same request.what why old _ (went.0 ∙ ap (λ b. (if b then record { value = old; answer = stopped_answer (Asked request) } else running_turn old (Asked request)).answer) is)
 
-acts_same : (old new : ClusterValue) (d : NodeStep) (request : Request) (why : Refusal) → d.event ≡ Asked request → d.answer ≡ Replied (Refused why) → NodeActs old d.node d.event d.answer new → new ≡ old
+pub acts_same : (old new : ClusterValue) (d : NodeStep) (request : Request) (why : Refusal) → d.event ≡ Asked request → d.answer ≡ Replied (Refused why) → NodeActs old d.node d.event d.answer new → new ≡ old
 acts_same old new d request why asked refused acts = by (subst (λ (e : NodeEvent). NodeActs old d.node e (Replied (Refused why)) new) asked (subst (λ (x : NodeAnswer). NodeActs old d.node d.event x new) refused acts))
   where
     by : NodeActs old d.node (Asked request) (Replied (Refused why)) new → new ≡ old

@@ -15,7 +15,7 @@ use Rattle.gb_types.proofs.BoolLemmas.{and_both}
 use Rattle.gb_cluster.proofs.NodesLemmas.{stays}
 use Rattle.gb_isolation.specs.Isolation.{Seen, IsIsolated, GroupsAreIsolated}
 use Rattle.gb_isolation.specs.Project.{project, group_items_of, is_fed}
-use Rattle.gb_isolation.specs.RunLaws.{accepted_there, is_noticed_in, log_seen, made_there, IsSettledIn, SettledGroupsAgree}
+use Rattle.gb_isolation.specs.RunLaws.{accepted_there, is_noticed_in, log_seen, made_there, IsSettledIn, RunAgreement, OfGroupsInRuns}
 use Rattle.gb_isolation.proofs.View.{AreMarked, BehavesAlone}
 use Rattle.gb_isolation.proofs.MomentLemmas.{AllBehave, fed_back, back, made_inside, Continues, project_continues, marked, stands_in}
 use Rattle.gb_isolation.proofs.NoticeLemmas.{numbered_is}
@@ -185,5 +185,5 @@ module _ (isolated : GroupsAreIsolated) (behave : AllBehave) (plan : Plan) (run 
       agreement_seen (accepted bounds g (project plan g run)) (accepted_there plan g run) (logs_of group) (log_seen plan run v g) runs spec (λ a in_a. accepted_same plan run v g few alike a (within a in_a)) log_same
       (law bounds g (project plan g run) behaves.legal runs spec settled_alone enough)
 
-pub all_agreed : IsAgreed → GroupsAreIsolated → AllBehave → SettledGroupsAgree
+pub all_agreed : IsAgreed → GroupsAreIsolated → AllBehave → OfGroupsInRuns RunAgreement
 all_agreed law isolated behave plan run v comes g fed runs spec settled enough = run_agrees isolated behave plan run v comes g fed runs spec settled law enough

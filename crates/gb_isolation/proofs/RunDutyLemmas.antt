@@ -13,7 +13,7 @@ use Rattle.gb_cluster.specs.Common.{ClusterValue, node_plan, NodeStep, past_at}
 use Rattle.gb_cluster.proofs.NodesLemmas.{stays}
 use Rattle.gb_isolation.specs.Isolation.{Seen, seen_in, IsIsolated, GroupsAreIsolated}
 use Rattle.gb_isolation.specs.Project.{project, made_with}
-use Rattle.gb_isolation.specs.RunLaws.{is_noticed_in, KeepsRunDuties, RunDuties, GroupsDoTheirDuties}
+use Rattle.gb_isolation.specs.RunLaws.{is_noticed_in, KeepsRunDuties, RunDuties, OfGroupsInRuns}
 use Rattle.gb_isolation.proofs.View.{BehavesAlone, is_concerned}
 use Rattle.gb_isolation.proofs.MomentLemmas.{AllBehave, marked}
 use Rattle.gb_isolation.proofs.NoticeLemmas.{numbered_is}
@@ -73,6 +73,6 @@ module _ (plan : Plan) (run : List NodeStep) (v : ClusterValue) (g : Addr) (few 
     logged = λ b spec in_b made_there. logged b in_b spec made_there laws;
   }
 
-pub all_dutiful : DutyLaws → GroupsAreIsolated → AllBehave → GroupsDoTheirDuties
+pub all_dutiful : DutyLaws → GroupsAreIsolated → AllBehave → OfGroupsInRuns RunDuties
 all_dutiful laws isolated behave plan run v comes g fed =
     run_duties plan run v g (stays plan run v comes).right.few (stays plan run v comes).right.least (isolated plan run v comes g fed) (behave plan g run v comes fed) (marked behave plan g run v comes fed) laws

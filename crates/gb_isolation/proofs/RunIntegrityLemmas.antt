@@ -10,7 +10,7 @@ use Rattle.gb_cluster.specs.Common.{ClusterValue, node_plan, NodeStep, past_at}
 use Rattle.gb_cluster.proofs.NodesLemmas.{stays}
 use Rattle.gb_isolation.specs.Isolation.{Seen, seen_in, IsIsolated, GroupsAreIsolated}
 use Rattle.gb_isolation.specs.Project.{project}
-use Rattle.gb_isolation.specs.RunLaws.{accepted_in_past, accepted_there, RunIntegrity, GroupsKeepIntegrity, GroupsKeepOrder}
+use Rattle.gb_isolation.specs.RunLaws.{accepted_in_past, accepted_there, RunIntegrity, RunOrder, OfGroupsInRuns}
 use Rattle.gb_isolation.proofs.MomentLemmas.{AllBehave}
 use Rattle.gb_isolation.proofs.NoticeLemmas.{numbered_is}
 use Rattle.gb_isolation.proofs.RunCommandLemmas.{run_pairs}
@@ -58,10 +58,10 @@ module _ (plan : Plan) (run : List NodeStep) (v : ClusterValue) (g : Addr) (few 
       before : ℕ → List Accepted
       before = accepted (bounds_of plan) g steps
 
-pub all_integral : IsIntegral → GroupsAreIsolated → GroupsKeepIntegrity
+pub all_integral : IsIntegral → GroupsAreIsolated → OfGroupsInRuns RunIntegrity
 all_integral law isolated plan run v comes g fed = integral plan run v g (stays plan run v comes).right.few (isolated plan run v comes g fed) law
 
-pub all_in_order : IsInOrder → GroupsAreIsolated → AllBehave → GroupsKeepOrder
+pub all_in_order : IsInOrder → GroupsAreIsolated → AllBehave → OfGroupsInRuns RunOrder
 all_in_order law isolated behave plan run v comes g fed a b in_a in_b =
     subst (λ o. KeepsOrder o (seen_in plan run v g a b).log) ((behave plan g run v comes fed).fits a in_a).spec
     (subst (λ (s : Seen). KeepsOrder (alone (bounds_of plan) g (project plan g run) a.number).spec s.log) (sym (alike.same a b in_a in_b)) (law (bounds_of plan) g (project plan g run) alike.legal a.number))

@@ -1,14 +1,15 @@
 -- Two runs in which the same happened to a group show the same of it.
-use Rattle.gb_types.specs.Common.{◌≡◌, ℕ, ◌<◌, List, [], ◌∷◌, nat_eq, ◌-◌, slice_get, refl, sym, ap, subst, ◌∙◌, ◌||◌, is_some, if◌then◌else◌, bounds_of, version_at}
+use Rattle.gb_types.specs.Common.{◌≡◌, ℕ, zero, suc, ◌<◌, All, List, [], ◌∷◌, ◌++◌, arith, nat_eq, ◌-◌, slice_get, refl, sym, ap, subst, ◌∙◌, ◌||◌, is_some, if◌then◌else◌, bounds_of, version_at}
 use Rattle.gb_types.specs.declared.{address.Addr.Addr, node.NodeId.NodeId, plan.Bounds.Bounds, plan.Plan.Plan, refusal.Refusal.TheVariants.Stopped, reply.Reply.TheVariants.Refused}
 use Rattle.gb_rules.specs.Common.{say_answer, make_answer, by_tenant}
-use Rattle.gb_alone.specs.Common.{Member, Group, after, alone, alone_from, commanded, member_after, nobody, on_group, running_reply, taken_in}
+use Rattle.gb_alone.specs.Common.{Member, Group, after, alone, alone_from, commanded, log_of_member, member_after, nobody, on_group, running_reply, taken_in, IsLegalFrom}
 use Rattle.gb_alone.specs.declared.{event.GroupEvent.GroupEvent, event.GroupStep.GroupStep}
 use Rattle.gb_alone.specs.declared.event.GroupEvent.TheVariants.{Tenant, Make as AskMake, Say as AskSay, OtherMade, OtherDropped, Took, Came, Done as Acknowledged, Notice, Stop}
 use Rattle.gb_cluster.specs.Common.{ClusterValue, NodeStep, ComesTo}
-use Rattle.gb_isolation.specs.Isolation.{seen_alone, GroupsAreIsolated}
-use Rattle.gb_isolation.specs.Project.{gives, project}
-use Rattle.gb_isolation.specs.RunLaws.{RunsAgree}
+use Rattle.gb_isolation.specs.Decides.{by_itself, step_at, steps_from, EachNodeDecides}
+use Rattle.gb_isolation.specs.Isolation.{seen_alone, EveryGroupIsIsolated, GroupsAreIsolated, IsIsolated}
+use Rattle.gb_isolation.specs.Project.{gives, project, fed_run}
+use Rattle.gb_isolation.specs.RunLaws.{RunsAgree, RunsAgreeNodeByNode}
 use Rattle.gb_isolation.proofs.GivenLemmas.{AllAre, IsAt, all_both, all_weaker, given_at}
 use Rattle.gb_isolation.proofs.MomentLemmas.{placed}
 
@@ -41,6 +42,45 @@ module _ (bounds other : Bounds) (addr : Addr) (size : bounds.nodes ≡ other.no
   same_from : (group : Group) (steps : List GroupStep) → AllAre (λ step. IsSameAt step.node.number) steps → alone_from bounds addr group steps ≡ alone_from other addr group steps
   same_from group [] all = refl
   same_from group (step ∷ steps) all = ap (λ q. alone_from bounds addr q steps) (same_after group step all.0) ∙ same_from (after other addr group step) steps all.1
+
+  legal_same : (group : Group) (steps : List GroupStep) → AllAre (λ step. IsSameAt step.node.number) steps → IsLegalFrom bounds addr group steps → IsLegalFrom other addr group steps
+  legal_same group [] all legal = tt
+  legal_same group (step ∷ steps) all legal = (legal.0, subst (λ (q : Group). IsLegalFrom other addr q steps) (same_after group step all.0) (legal_same (after bounds addr group step) steps all.1 legal.1))
+
+  steps_same : (group : Group) (steps : List GroupStep) → AllAre (λ step. IsSameAt step.node.number) steps → (a : ℕ) → steps_from bounds addr group steps a ≡ steps_from other addr group steps a
+  unfolding steps_from
+  steps_same group [] all a = refl
+  steps_same group (step ∷ steps) all a =
+      ap (λ (ss : List GroupStep). step_at group step a ++ ss) (steps_same (after bounds addr group step) steps all.1 a ∙ ap (λ (q : Group). steps_from other addr q steps a) (same_after group step all.0))
+
+all_are : (Is : GroupStep → Type 0) (steps : List GroupStep) → All Is steps → AllAre Is steps
+all_are Is [] all = tt
+all_are Is (step ∷ steps) all = (all zero step (omega arith), all_are Is steps (λ i d lt. all (suc i) d (omega (arith, lt))))
+
+-- what is seen of the group alone is the same at a node where the members are, but for what they know of other generations
+seen_same : (xs ys : Group) (a b : ℕ) → by_itself (xs a) ≡ by_itself (ys a) → seen_alone xs a b ≡ seen_alone ys a b
+seen_same xs ys a b same = ap (λ (m : Member). record { replies = m.replies; log = log_of_member a m; put = m.put b }) same
+
+pub alike_by_node : EveryGroupIsIsolated → EachNodeDecides → RunsAgreeNodeByNode
+alike_by_node isolated decides plan other run that v w comes goes g bounds events a b in_a in_b =
+    one.same a b in_a in_b
+    ∙ (ap (λ (q : Group). seen_alone q a.number b.number) (same_from (bounds_of plan) (bounds_of other) g bounds.nodes nobody steps versions)
+    ∙ (seen_same (alone (bounds_of other) g steps) (alone (bounds_of other) g (project other g (fed_run g that))) a.number b.number
+    (decides (bounds_of other) g steps (project other g (fed_run g that)) (legal_same (bounds_of plan) (bounds_of other) g bounds.nodes nobody steps versions one.legal) two.legal
+    (λ x. sym (steps_same (bounds_of plan) (bounds_of other) g bounds.nodes nobody steps versions x) ∙ events x) a.number)
+    ∙ sym (two.same a b (subst (λ n. a.number < n) bounds.nodes in_a) (subst (λ n. b.number < n) bounds.nodes in_b))))
+  where
+    steps : List GroupStep
+    steps = project plan g (fed_run g run)
+
+    one : IsIsolated plan (fed_run g run) v g
+    one = isolated plan run v comes g
+
+    two : IsIsolated other (fed_run g that) w g
+    two = isolated other that w goes g
+
+    versions : AllAre (λ step. version_at plan.versions step.node.number ≡ version_at other.versions step.node.number) steps
+    versions = all_are (λ step. version_at plan.versions step.node.number ≡ version_at other.versions step.node.number) steps bounds.versions
 
 -- what concerns a group in a run happens at nodes of the cluster
 all_placed : (plan : Plan) (g : Addr) (run : List NodeStep) (v : ClusterValue) → ComesTo plan run v → AllAre (λ step. step.node.number < plan.nodes) (project plan g run)

@@ -11,7 +11,7 @@ use Rattle.gb_node.specs.declared.{answer.Halted.TheVariants.Refused as HaltRefu
 use Rattle.gb_node.specs.declared.answer.NodeAnswer.TheVariants.{Reply as Replied, Taken, Sent, Ticked, Halted}
 use Rattle.gb_alone.specs.Common.{Group, alone, IsLegal, log_of_member}
 use Rattle.gb_cluster.specs.Common.{ClusterValue, node_at, NodeStep, ComesTo, past_at}
-use Rattle.gb_isolation.specs.Project.{project, group_items, group_items_of, replies_in, is_fed}
+use Rattle.gb_isolation.specs.Project.{project, group_items, group_items_of, replies_in, is_fed, fed_run}
 
 -- the group alone, given the projection of the run
 abbrev pub alone_in : Plan → Addr → List NodeStep → Group
@@ -70,6 +70,10 @@ pub record IsIsolated (plan : Plan) (run : List NodeStep) (v : ClusterValue) (g 
   pub spelt : (a b : NodeId) → a.number < plan.nodes → b.number < plan.nodes → All (AreSpelt g) (frames_to plan.cluster_key b.number (past_at a run))
   -- the number of items that are carried is the same, too
   pub carried : (a b : NodeId) → a.number < plan.nodes → b.number < plan.nodes → (alone_in plan g run a.number).taken b.number ≡ length (group_items_of g (frames_to plan.cluster_key b.number (past_at a run)))
+
+-- Every group is isolated in every run, read without the group's own requests that were refused for lack of memory. Such a request changes nothing, so the run without them comes to the same value.
+abbrev pub EveryGroupIsIsolated : Type 0
+EveryGroupIsIsolated = (plan : Plan) (run : List NodeStep) (v : ClusterValue) → ComesTo plan run v → (g : Addr) → IsIsolated plan (fed_run g run) v g
 
 -- each group that had no request refused for lack of memory is isolated, in every run
 abbrev pub GroupsAreIsolated : Type 0

@@ -1,3 +1,4 @@
 pub mod Project
 pub mod Isolation
+pub mod Decides
 pub mod RunLaws

@@ -202,3 +202,8 @@ is_starved_by a g past event answer = false
 unfoldable pub is_fed : Addr → List NodeStep → Bool
 is_fed g [] = true
 is_fed g (d ∷ run) = not (is_starved_by d.node g (past_at d.node run) d.event d.answer) && is_fed g run
+
+-- the run without the group's requests that were refused for lack of memory
+unfoldable pub fed_run : Addr → List NodeStep → List NodeStep
+fed_run g [] = []
+fed_run g (d ∷ run) = if is_starved_by d.node g (past_at d.node run) d.event d.answer then fed_run g run else d ∷ fed_run g run

@@ -3,17 +3,18 @@ use Rattle.std.specs.Prelude.{ℕ, ◌+◌, ◌≡◌, ◌≢◌, ◌<◌, ◌||
 use Rattle.std.specs.FinSet as set
 use Rattle.std.specs.Ordering.{nat_cmp}
 use Rattle.gb_types.specs.Common.{bounds_of, version_at}
-use Rattle.gb_types.specs.declared.{address.Addr.Addr, entry.Entry.Entry, message.MsgId.MsgId, node.NodeId.NodeId, refusal.Refusal.Refusal, reply.Reply.Reply, reply.Reply.TheVariants.Said, reply.Reply.TheVariants.Refused, request.Request.Request, request.Action.Action, request.Action.TheVariants.Group as AtGroup, spec.Spec.Spec, version.Version.Version, plan.Plan.Plan, request.GroupCommand.TheVariants.Drop, request.GroupCommand.TheVariants.Say, request.GroupCommand.TheVariants.Fetch}
+use Rattle.gb_types.specs.declared.{address.Addr.Addr, entry.Entry.Entry, message.MsgId.MsgId, node.NodeId.NodeId, refusal.Refusal.Refusal, refusal.Refusal.TheVariants.Denied, refusal.Refusal.TheVariants.Stopped, refusal.Refusal.TheVariants.OutOfMemory, reply.Reply.Reply, reply.Reply.TheVariants.Said, reply.Reply.TheVariants.Refused, request.Request.Request, request.Action.Action, request.Action.TheVariants.Group as AtGroup, spec.Spec.Spec, version.Version.Version, plan.Plan.Plan, request.GroupCommand.TheVariants.Open, request.GroupCommand.TheVariants.Shut, request.GroupCommand.TheVariants.Drop, request.GroupCommand.TheVariants.Say, request.GroupCommand.TheVariants.Fetch}
 use Rattle.gb_frame.specs.declared.item.Item.{Item}
 use Rattle.gb_rules.specs.Common.{is_addr, is_member, has}
 use Rattle.gb_alone.specs.Common.{running_reply, Accepted, IsAccepted, KeepsIntegrity, KeepsOrder}
-use Rattle.gb_alone.specs.declared.event.GroupEvent.TheVariants.{Fetch as AskFetch}
+use Rattle.gb_alone.specs.declared.{event.GroupEvent.TheVariants.Fetch as AskFetch, event.GroupStep.GroupStep}
 use Rattle.gb_duties.specs.{Agreement.IsRunning, Agreement.AreEnough, Agreement.KeepsAgreement, Duties.HasHad, Duties.KeepsDuties, Duties.delivered_at}
-use Rattle.gb_node.specs.Common.{waiting_at, node_numbered, if_done, Happened, frames_to, is_stopped, is_taken}
+use Rattle.gb_node.specs.Common.{waiting_at, node_numbered, if_done, Happened, frames_to, is_stopped, is_taken, is_admitted_by}
 use Rattle.gb_node.specs.declared.{answer.NodeAnswer.NodeAnswer, answer.NodeAnswer.TheVariants.Reply as Replied, answer.NodeAnswer.TheVariants.Ticked, answer.Ticked.TheVariants.Noticed, event.NodeEvent.NodeEvent, event.NodeEvent.TheVariants.Request as Asked, event.NodeEvent.TheVariants.Tick, plan.NodePlan.NodePlan}
 use Rattle.gb_cluster.specs.Common.{ClusterValue, node_plan, node_at, NodeStep, ComesTo, past_at}
+use Rattle.gb_isolation.specs.Decides.{steps_at}
 use Rattle.gb_isolation.specs.Isolation.{seen_in, alone_in}
-use Rattle.gb_isolation.specs.Project.{project, group_items, is_noticed_at, is_own_request, made_with, is_fed}
+use Rattle.gb_isolation.specs.Project.{project, group_items, is_noticed_at, is_own_request, made_with, is_fed, fed_run}
 
 -- What was accepted.
 
@@ -39,20 +40,33 @@ accepted_there plan g run s = accepted_in_past (node_plan plan (node_numbered s)
 abbrev pub OfGroupsInRuns : (Plan → List NodeStep → ClusterValue → Addr → Type 0) → Type 0
 OfGroupsInRuns Property = (plan : Plan) (run : List NodeStep) (v : ClusterValue) → ComesTo plan run v → (g : Addr) → is_fed g run ≡ true → Property plan run v g
 
+-- a law of every group: in every run of every cluster each group has the property, if the run is read without the group's own requests that were refused for lack of memory
+abbrev pub OfEveryGroup : (Plan → List NodeStep → ClusterValue → Addr → Type 0) → Type 0
+OfEveryGroup Property = (plan : Plan) (run : List NodeStep) (v : ClusterValue) → ComesTo plan run v → (g : Addr) → Property plan (fed_run g run) v g
+
+-- The run without the group's own requests that were refused for lack of memory comes to the same value, and none of these is left in it. If there were none, it is the run itself.
+pub record IsFedRun (plan : Plan) (run : List NodeStep) (v : ClusterValue) (g : Addr) : Type 0 where
+  pub comes : ComesTo plan (fed_run g run) v
+  pub fed : is_fed g (fed_run g run) ≡ true
+  pub same : is_fed g run ≡ true → fed_run g run ≡ run
+
+abbrev pub RefusalsMayBeLeftOut : Type 0
+RefusalsMayBeLeftOut = (plan : Plan) (run : List NodeStep) (v : ClusterValue) → ComesTo plan run v → (g : Addr) → IsFedRun plan run v g
+
 -- Integrity: the log seen at each node keeps integrity, and each item seen between two nodes was accepted at its origin.
 pub record RunIntegrity (plan : Plan) (run : List NodeStep) (v : ClusterValue) (g : Addr) : Type 0 where
   pub logs : (a b : NodeId) → a.number < plan.nodes → b.number < plan.nodes → KeepsIntegrity (accepted_there plan g run) (seen_in plan run v g a b).log
   pub items : (a b : NodeId) → a.number < plan.nodes → b.number < plan.nodes → All (IsAccepted (accepted_there plan g run)) (seen_in plan run v g a b).put
 
 abbrev pub GroupsKeepIntegrity : Type 0
-GroupsKeepIntegrity = OfGroupsInRuns RunIntegrity
+GroupsKeepIntegrity = OfEveryGroup RunIntegrity
 
 -- Order: the log seen at each node keeps the order of the kind that the group was made with there.
 abbrev pub RunOrder : Plan → List NodeStep → ClusterValue → Addr → Type 0
 RunOrder plan run v g = (a b : NodeId) → a.number < plan.nodes → b.number < plan.nodes → KeepsOrder (made_with g (past_at a run)) (seen_in plan run v g a b).log
 
 abbrev pub GroupsKeepOrder : Type 0
-GroupsKeepOrder = OfGroupsInRuns RunOrder
+GroupsKeepOrder = OfEveryGroup RunOrder
 
 -- Duties.
 
@@ -85,7 +99,7 @@ pub record RunDuties (plan : Plan) (run : List NodeStep) (v : ClusterValue) (g :
   pub logged : (b : NodeId) (spec : Spec) → b.number < plan.nodes → made_with g (past_at b run) ≡ Some spec → KeepsRunDuties plan run v g b spec (has (seen_in plan run v g b b).log)
 
 abbrev pub GroupsDoTheirDuties : Type 0
-GroupsDoTheirDuties = OfGroupsInRuns RunDuties
+GroupsDoTheirDuties = OfEveryGroup RunDuties
 
 -- Agreement.
 
@@ -123,7 +137,7 @@ abbrev pub RunAgreement : Plan → List NodeStep → ClusterValue → Addr → T
 RunAgreement plan run v g = (runs : ℕ → Bool) (spec : Spec) → IsSettledIn plan run v g runs spec → AreEnough runs spec → KeepsAgreement (accepted_there plan g run) (log_seen plan run v g) runs spec
 
 abbrev pub SettledGroupsAgree : Type 0
-SettledGroupsAgree = OfGroupsInRuns RunAgreement
+SettledGroupsAgree = OfEveryGroup RunAgreement
 
 -- Logs.
 
@@ -161,6 +175,18 @@ IsSeenAlike plan run v g =
 abbrev pub RunsAgree : Type 0
 RunsAgree = OfGroupsInRuns IsSeenAlike
 
+-- two clusters have the same number of nodes, and the nodes at which these steps happen send the same versions of the packet text
+pub record HaveSameBoundsAt (plan other : Plan) (steps : List GroupStep) : Type 0 where
+  pub nodes : plan.nodes ≡ other.nodes
+  pub versions : All (λ (step : GroupStep). version_at plan.versions step.node.number ≡ version_at other.versions step.node.number) steps
+
+-- Two runs in which the same happened to a group at each node show the same of it, in whatever order the nodes acted. What other generations of its room did counts only until the group is made at the node.
+abbrev pub RunsAgreeNodeByNode : Type 0
+RunsAgreeNodeByNode = (plan other : Plan) (run that : List NodeStep) (v w : ClusterValue) → ComesTo plan run v → ComesTo other that w → (g : Addr)
+    → HaveSameBoundsAt plan other (project plan g (fed_run g run))
+    → ((a : ℕ) → steps_at (bounds_of plan) g (project plan g (fed_run g run)) a ≡ steps_at (bounds_of other) g (project other g (fed_run g that)) a)
+    → (a b : NodeId) → a.number < plan.nodes → b.number < plan.nodes → seen_in plan (fed_run g run) v g a b ≡ seen_in other (fed_run g that) w g a b
+
 -- Moments.
 
 -- at each moment of a run the property holds of what happened then, after what had happened before
@@ -181,3 +207,30 @@ ChangesNothing plan earlier d = (request : Request) (why : Refusal) → d.event 
 
 abbrev pub RefusalsChangeNothing : Type 0
 RefusalsChangeNothing = (plan : Plan) (earlier : List NodeStep) (d : NodeStep) → ChangesNothing plan earlier d
+
+-- Strangers.
+
+-- At each moment a request that comes without the token that it needs is refused: by a running node as Denied, by one that has stopped as Stopped.
+abbrev pub IsDenied : Plan → List NodeStep → NodeStep → Type 0
+IsDenied plan earlier d = (request : Request) → d.event ≡ Asked request → is_admitted_by (node_plan plan d.node) (past_at d.node earlier) request ≡ false
+    → d.answer ≡ Replied (Refused (if is_stopped (past_at d.node earlier) then Stopped else Denied))
+
+-- So it is, and the cluster is after it what it was before.
+abbrev pub StrangersAreDenied : Type 0
+StrangersAreDenied = (plan : Plan) (earlier : List NodeStep) (d : NodeStep) (v : ClusterValue) → ComesTo plan (d ∷ earlier) v
+    → IsDenied plan earlier d × ((request : Request) → d.event ≡ Asked request → is_admitted_by (node_plan plan d.node) (past_at d.node earlier) request ≡ false → ComesTo plan earlier v)
+
+-- Memory.
+
+-- the request is to open, shut or drop a group, or to say something in it
+abbrev pub needs_no_memory : Action → Bool
+needs_no_memory (AtGroup addr Open) = true
+needs_no_memory (AtGroup addr Shut) = true
+needs_no_memory (AtGroup addr Drop) = true
+needs_no_memory (AtGroup addr (Say message)) = true
+needs_no_memory what = false
+
+-- No such request is ever refused for lack of memory, whoever asks.
+abbrev pub OnlySomeTakeMemory : Type 0
+OnlySomeTakeMemory = (plan : Plan) (earlier : List NodeStep) (d : NodeStep) (v : ClusterValue) → ComesTo plan (d ∷ earlier) v
+    → (request : Request) → d.event ≡ Asked request → needs_no_memory request.what ≡ true → d.answer ≢ Replied (Refused OutOfMemory)

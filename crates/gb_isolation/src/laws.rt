@@ -1,6 +1,7 @@
 //! What holds of each group in every run of a cluster.
-ghost use Rattle.gb_isolation.specs.Isolation.{AmpleRunsFeedAll, GroupsAreIsolated};
-ghost use Rattle.gb_isolation.specs.RunLaws.{GroupsDoTheirDuties, GroupsKeepIntegrity, GroupsKeepOrder, LogsMayBeFetched, RefusalsChangeNothing, RunsAgree, SettledGroupsAgree, TicksAnswerNewNotices};
+ghost use Rattle.gb_isolation.specs.Decides.{EachNodeDecides};
+ghost use Rattle.gb_isolation.specs.Isolation.{AmpleRunsFeedAll, EveryGroupIsIsolated, GroupsAreIsolated};
+ghost use Rattle.gb_isolation.specs.RunLaws.{GroupsDoTheirDuties, GroupsKeepIntegrity, GroupsKeepOrder, LogsMayBeFetched, OnlySomeTakeMemory, RefusalsChangeNothing, RefusalsMayBeLeftOut, RunsAgree, RunsAgreeNodeByNode, SettledGroupsAgree, StrangersAreDenied, TicksAnswerNewNotices};
 
 use gb_alone::laws::{integrity, order};
 use gb_cluster::laws::{links_hold, nothing_is_outside};
@@ -18,6 +19,22 @@ pub fn groups_are_isolated()
     answers_say();
     links_hold();
     nothing_is_outside();
+}
+
+/// A law of every run and every group: without the group's own requests that were refused for lack of memory the run comes to the
+/// same value. None of these requests is left, and if there were none, nothing is left out. The function does nothing when it runs;
+/// its contract is the law.
+pub fn refusals_may_be_left_out()
+    ensures { RefusalsMayBeLeftOut }
+{}
+
+/// `groups_are_isolated` without its premise: in every run, read without the group's own requests that were refused for lack of
+/// memory, every group has what it has by itself. The function does nothing when it runs; its contract is the law.
+pub fn every_group_is_isolated()
+    ensures { EveryGroupIsIsolated }
+{
+    groups_are_isolated();
+    refusals_may_be_left_out();
 }
 
 /// A law of every run in which no answer refuses for lack of memory: no group had a request refused for lack of memory. So
@@ -48,6 +65,25 @@ pub fn runs_agree()
     groups_are_isolated();
 }
 
+/// A law of a group by itself: two legal lists of events that have the same events at each node leave the group the same at each node,
+/// in whatever order the nodes act. Makes and drops of other generations of the room count only until the group is made at the node.
+/// The function does nothing when it runs; its contract is the law.
+pub fn each_node_decides()
+    ensures { EachNodeDecides }
+{}
+
+/// A law of two runs in which the same happened to a group at each node, in whatever order the nodes acted: its replies, its logs and
+/// the items that it queued to be sent are the same in both. The group's own requests that were refused for lack of memory are left
+/// out. The clusters have the same number of nodes, and the nodes at which something happened to the group send the same versions of
+/// the packet text in both. So other tenants may change when each node acts, and nothing that is seen of the group changes. The
+/// function does nothing when it runs; its contract is the law.
+pub fn runs_agree_node_by_node()
+    ensures { RunsAgreeNodeByNode }
+{
+    every_group_is_isolated();
+    each_node_decides();
+}
+
 /// Integrity in every run: each entry of a group's log at a node, and each item of the group that one node queued to be sent to
 /// another, is a message that was accepted at its origin, under that number and with that payload. No message stands twice in a
 /// log. The function does nothing when it runs; its contract is the law.
@@ -55,6 +91,7 @@ pub fn groups_keep_integrity()
     ensures { GroupsKeepIntegrity }
 {
     groups_are_isolated();
+    refusals_may_be_left_out();
     integrity();
 }
 
@@ -64,6 +101,7 @@ pub fn groups_keep_order()
     ensures { GroupsKeepOrder }
 {
     groups_are_isolated();
+    refusals_may_be_left_out();
     pasts_say();
     answers_say();
     links_hold();
@@ -81,6 +119,7 @@ pub fn groups_do_their_duties()
     ensures { GroupsDoTheirDuties }
 {
     groups_are_isolated();
+    refusals_may_be_left_out();
     pasts_say();
     answers_say();
     links_hold();
@@ -98,6 +137,7 @@ pub fn settled_groups_agree()
     ensures { SettledGroupsAgree }
 {
     groups_are_isolated();
+    refusals_may_be_left_out();
     pasts_say();
     answers_say();
     links_hold();
@@ -114,8 +154,27 @@ pub fn ticks_answer_new_notices()
     answers_say();
 }
 
-/// Refusals in every run: a request that is refused leaves every node as it was, and nothing is sent. So does a request without the
-/// token that it needs, which is refused as `Denied`. The function does nothing when it runs; its contract is the law.
+/// Refusals in every run: a request that is refused, for whatever reason, leaves every node as it was, and nothing is sent. The
+/// function does nothing when it runs; its contract is the law.
 pub fn refusals_change_nothing()
     ensures { RefusalsChangeNothing }
 {}
+
+/// Strangers in every run: a request that comes without the token that it needs is refused as `Denied`, or as `Stopped` by a node that
+/// has stopped. Every node stays as it was, and nothing is sent. Which token a request needs depends on the rows of the tenants that
+/// were added at the node, on the administrator's key and on the node's number. The function does nothing when it runs; its contract
+/// is the law.
+pub fn strangers_are_denied()
+    ensures { StrangersAreDenied }
+{
+    answers_say();
+}
+
+/// Lack of memory in every run: no request to open, shut or drop a group, or to say something in it, is ever refused for lack of
+/// memory. Such a refusal has a request that adds a tenant, makes a group or fetches a log. The function does nothing when it runs;
+/// its contract is the law.
+pub fn only_some_take_memory()
+    ensures { OnlySomeTakeMemory }
+{
+    answers_say();
+}

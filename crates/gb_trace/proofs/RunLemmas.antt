@@ -1,18 +1,20 @@
 -- A run goes on by one more event.
-use Rattle.gb_types.specs.Common.{◌≡◌, ℕ, zero, suc, ◌+◌, ◌<◌, ◌≤◌, true, false, Bool, List, [], ◌∷◌, ◌++◌, length, take, get_or, Option, Some, None, refl, sym, ap, subst, ◌∙◌, arith, add-one, append_assoc, length-append, slice_get, option_map, reverse, All, MatchBool, not, ◌&&◌, list_any, and_parts, append-nil, reverse-append, take_all, take_more, All-append, All-get_or}
+use Rattle.gb_types.specs.Common.{◌≡◌, ◌⊎◌, inl, inr, ℕ, zero, suc, ◌+◌, ◌<◌, ◌≤◌, true, false, Bool, List, [], ◌∷◌, ◌++◌, length, take, get_or, Option, Some, None, refl, sym, ap, subst, ◌∙◌, arith, add-one, append_assoc, length-append, slice_get, option_map, reverse, All, MatchBool, not, ◌&&◌, list_any, and_parts, append-nil, reverse-append, take_all, take_more, All-append, All-get_or}
 use Rattle.gb_types.proofs.BoolLemmas.{and_both, or_left, or_right}
-use Rattle.gb_types.specs.declared.{node.NodeId.NodeId, plan.Plan.Plan}
+use Rattle.gb_types.specs.declared.{node.NodeId.NodeId, plan.Plan.Plan, refusal.Refusal.Refusal}
 use Rattle.gb_node.specs.Common.{IsTurn, NodeValue, SendersRun}
-use Rattle.gb_node.specs.declared.{answer.NodeAnswer.NodeAnswer, event.NodeEvent.NodeEvent, answer.Sent.TheVariants.Packet as SentPacket, answer.Sent.TheVariants.Nothing as SentNothing, answer.Sent.TheVariants.Refused as SentRefused}
+use Rattle.gb_node.specs.declared.{answer.NodeAnswer.NodeAnswer, event.NodeEvent.NodeEvent, answer.Sent.Sent as SentValue, answer.Sent.TheVariants.Packet as SentPacket, answer.Sent.TheVariants.Nothing as SentNothing, answer.Sent.TheVariants.Refused as SentRefused}
 use Rattle.gb_node.specs.declared.answer.NodeAnswer.TheVariants.{Reply as Replied, Taken, Sent, Ticked, Halted}
 use Rattle.gb_node.specs.declared.event.NodeEvent.TheVariants.{Request as Asked, Packet as Came, Pack, Again, Ack, Tick, Stop}
 use Rattle.gb_cluster.proofs.{CodeLemmas.arrived_was_posted, NodesLemmas.stays}
-use Rattle.gb_cluster.specs.Common.{posted, answer_of, packet_numbered, is_packet_for, NodeActs, IsAt, IsArrival, IsPlaced, IsStep, ClusterValue, node_at, new_cluster, NodeStep, ComesTo, IsSent}
+use Rattle.gb_cluster.specs.Common.{posted, posted_by, receiver_of, answer_of, packet_numbered, is_packet_for, NodeActs, IsAt, IsArrival, IsPlaced, IsStep, ClusterValue, node_at, new_cluster, NodeStep, ComesTo, IsSent}
 use Rattle.gb_cluster.specs.declared.{answer.Answer.Answer, event.Event.Event, event.Event.TheVariants.At, event.Event.TheVariants.Arrive, posted.Posted.Posted, answer.Sending.TheVariants.Packet as SendingPacket, answer.Sending.TheVariants.Nothing as SendingNothing, answer.Sending.TheVariants.Refused as SendingRefused}
 use Rattle.gb_cluster.specs.declared.answer.Answer.TheVariants.{Reply as AnswerReply, Taken as AnswerTaken, Sent as AnswerSent, Ticked as AnswerTicked, Halted as AnswerHalted, NoPacket, NotNoise}
 use Rattle.gb_isolation.specs.Isolation.{wants_memory, is_ample}
+use Rattle.gb_isolation.specs.RunLaws.{AtEachMoment, IsDenied, StrangersAreDenied}
+use Rattle.gb_isolation.proofs.MomentLemmas.{back}
 use Rattle.gb_trace.specs.Run.{is_refused_by, tells_want}
-use Rattle.gb_trace.specs.Trace.{own_answer, did_with, did_in, all_did, AreSteps, IsRun}
+use Rattle.gb_trace.specs.Trace.{own_answer, did_with, did_in, all_did, AreSteps, IsRun, goal_of, sends, IsNext, AreAnswered}
 use Rattle.gb_trace.proofs.NodeStepLemmas.{did_arrive}
 
 -- Packets by their numbers.
@@ -41,14 +43,14 @@ Sends (Again b n) = Unit {0}
 Sends (Ack b) = Unit {0}
 Sends event = ⊥
 
-sends : SendersRun → (v w : NodeValue) (event : NodeEvent) (text : List ℕ) → IsTurn v event (Sent (SentPacket text)) w → Sends event
-sends law v w (Pack b) text turned = tt
-sends law v w (Again b n) text turned = tt
-sends law v w (Ack b) text turned = tt
-sends law v w (Asked request) text turned = absurd (let is = (law v (Asked request) text w turned).is in cc)
-sends law v w (Came bytes) text turned = absurd (let is = (law v (Came bytes) text w turned).is in cc)
-sends law v w Tick text turned = absurd (let is = (law v Tick text w turned).is in cc)
-sends law v w Stop text turned = absurd (let is = (law v Stop text w turned).is in cc)
+only_sends : SendersRun → (v w : NodeValue) (event : NodeEvent) (text : List ℕ) → IsTurn v event (Sent (SentPacket text)) w → Sends event
+only_sends law v w (Pack b) text turned = tt
+only_sends law v w (Again b n) text turned = tt
+only_sends law v w (Ack b) text turned = tt
+only_sends law v w (Asked request) text turned = absurd (let is = (law v (Asked request) text w turned).is in cc)
+only_sends law v w (Came bytes) text turned = absurd (let is = (law v (Came bytes) text w turned).is in cc)
+only_sends law v w Tick text turned = absurd (let is = (law v Tick text w turned).is in cc)
+only_sends law v w Stop text turned = absurd (let is = (law v Stop text w turned).is in cc)
 
 -- The answer of the cluster tells that of the node, among the packets that there are then, and later.
 
@@ -59,7 +61,7 @@ own_is law v w event (Ticked ticked) before rest turned = refl
 own_is law v w event (Halted halted) before rest turned = refl
 own_is law v w event (Sent SentNothing) before rest turned = refl
 own_is law v w event (Sent (SentRefused why)) before rest turned = refl
-own_is law v w event (Sent (SentPacket text)) before rest turned = by event (sends law v w event text turned)
+own_is law v w event (Sent (SentPacket text)) before rest turned = by event (only_sends law v w event text turned)
   where
     at : (b : NodeId) → option_map Sent (option_map (λ (p : Posted). SentPacket p.text) (packet_numbered ((before ++ record { to = b; text = text } ∷ []) ++ rest) (length before + 1))) ≡ Some (Sent (SentPacket text))
     at b = ap (λ (o : Option Posted). option_map Sent (option_map (λ (p : Posted). SentPacket p.text) o)) (numbered_next before rest (record { to = b; text = text }))
@@ -268,3 +270,118 @@ ample packets (e ∷ events) [] none = refl
 ample packets (e ∷ events) (a ∷ answers) none =
     ap is_ample (reverse-append (did_in packets e a) (all_did packets events answers))
     ∙ ample_append (reverse (all_did packets events answers)) (reverse (did_in packets e a)) (ample packets events answers (or_right (tells_want a) (list_any tells_want answers) none)) (ample_in packets e a (or_left (tells_want a) (list_any tells_want answers) none))
+
+-- Each event has an answer, and the packets that the answers name are all that were sent.
+
+none_posted : (o : Option NodeId) (s : SentValue) → (s ≡ SentNothing) ⊎ ((why : Refusal) × (s ≡ SentRefused why)) → posted_by o s ≡ []
+none_posted None s is = refl
+none_posted (Some b) s (inl is) = ap (posted_by (Some b)) is
+none_posted (Some b) s (inr (why, is)) = ap (posted_by (Some b)) is
+
+record IsNamed (v : ClusterValue) (e : Event) (a : Answer) (w : ClusterValue) : Type 0 where
+  more : List Posted
+  grows : w.packets ≡ v.packets ++ more
+  count : length more ≡ sends a
+  next : (rest : List Posted) → IsNext (w.packets ++ rest) (length v.packets) e a
+
+none_named : (v w : ClusterValue) (e : Event) (a : Answer) → w ≡ v → sends a ≡ 0 → ((ps : List Posted) → IsNext ps (length v.packets) e a) → IsNamed v e a w
+none_named v w e a same none next = record { more = []; grows = ap (λ (n : ClusterValue). n.packets) same ∙ sym (append-nil v.packets); count = sym none; next = λ rest. next (w.packets ++ rest) }
+
+posted_count : SendersRun → (v w : NodeValue) (event : NodeEvent) (own : NodeAnswer) (n : ℕ) → IsTurn v event own w → length (posted event own) ≡ sends (answer_of n own)
+posted_count law v w event (Replied reply) n turned = refl
+posted_count law v w event (Taken taken) n turned = refl
+posted_count law v w event (Ticked ticked) n turned = refl
+posted_count law v w event (Halted halted) n turned = refl
+posted_count law v w event (Sent SentNothing) n turned = ap length (none_posted (receiver_of event) SentNothing (inl refl))
+posted_count law v w event (Sent (SentRefused why)) n turned = ap length (none_posted (receiver_of event) (SentRefused why) (inr (why, refl)))
+posted_count law v w event (Sent (SentPacket text)) n turned = by event (only_sends law v w event text turned)
+  where
+    by : (e : NodeEvent) → Sends e → length (posted e (Sent (SentPacket text))) ≡ 1
+    by (Pack b) is = refl
+    by (Again b k) is = refl
+    by (Ack b) is = refl
+    by (Asked request) is = absurd is
+    by (Came bytes) is = absurd is
+    by Tick is = absurd is
+    by Stop is = absurd is
+
+-- what is sent is the next packet
+next_is : SendersRun → (v w : NodeValue) (e : Event) (event : NodeEvent) (own : NodeAnswer) (before rest : List Posted) → goal_of e ≡ receiver_of event → IsTurn v event own w
+    → IsNext ((before ++ posted event own) ++ rest) (length before) e (answer_of (length before) own)
+next_is law v w e event (Replied reply) before rest goal turned = tt
+next_is law v w e event (Taken taken) before rest goal turned = tt
+next_is law v w e event (Ticked ticked) before rest goal turned = tt
+next_is law v w e event (Halted halted) before rest goal turned = tt
+next_is law v w e event (Sent SentNothing) before rest goal turned = tt
+next_is law v w e event (Sent (SentRefused why)) before rest goal turned = tt
+next_is law v w e event (Sent (SentPacket text)) before rest goal turned = by event goal (only_sends law v w event text turned)
+  where
+    to : (b : NodeId) → goal_of e ≡ Some b → IsNext ((before ++ record { to = b; text = text } ∷ []) ++ rest) (length before) e (AnswerSent (SendingPacket (length before + 1)))
+    to b is = (refl, record { to = b; text = text }, numbered_next before rest (record { to = b; text = text }), is)
+
+    by : (x : NodeEvent) → goal_of e ≡ receiver_of x → Sends x → IsNext ((before ++ posted x (Sent (SentPacket text))) ++ rest) (length before) e (AnswerSent (SendingPacket (length before + 1)))
+    by (Pack b) is yes = to b is
+    by (Again b k) is yes = to b is
+    by (Ack b) is yes = to b is
+    by (Asked request) is no = absurd no
+    by (Came bytes) is no = absurd no
+    by Tick is no = absurd no
+    by Stop is no = absurd no
+
+acts_named : SendersRun → (v w : ClusterValue) (e : Event) (a : Answer) (at : NodeId) (event : NodeEvent) (own : NodeAnswer) → goal_of e ≡ receiver_of event → NodeActs v at event own w → a ≡ answer_of (length v.packets) own → IsNamed v e a w
+acts_named law v w e a at event own goal acts answered = record {
+  more = posted event own;
+  grows = grows;
+  count = posted_count law (node_at v at) acts.node event own (length v.packets) acts.turn ∙ ap sends (sym answered);
+  next = λ rest.
+      subst (IsNext (w.packets ++ rest) (length v.packets) e) (sym answered)
+      (subst (λ (ps : List Posted). IsNext (ps ++ rest) (length v.packets) e (answer_of (length v.packets) own)) (sym grows) (next_is law (node_at v at) acts.node e event own v.packets rest goal acts.turn));
+}
+  where
+    grows : w.packets ≡ v.packets ++ posted event own
+    grows = ap (λ (n : ClusterValue). n.packets) acts.after
+
+step_named : SendersRun → (v w : ClusterValue) (e : Event) (a : Answer) → IsStep v e a w → IsNamed v e a w
+step_named law v w (At at event) a step = by (is_packet_for (node_at v at) event) step
+  where
+    by : (b : Bool) → MatchBool b ((a ≡ NotNoise) × (w ≡ v)) (IsAt v at event a w) → IsNamed v (At at event) a w
+    by true is = none_named v w (At at event) a is.1 (ap sends is.0) (λ ps. subst (IsNext ps (length v.packets) (At at event)) (sym is.0) tt)
+    by false is = acts_named law v w (At at event) a at event is.0 refl is.1 is.2
+step_named law v w (Arrive k) a step = by (packet_numbered v.packets k) step
+  where
+    by : (o : Option Posted) → IsArrival v o a w → IsNamed v (Arrive k) a w
+    by None is = none_named v w (Arrive k) a is.1 (ap sends is.0) (λ ps. subst (IsNext ps (length v.packets) (Arrive k)) (sym is.0) tt)
+    by (Some p) is = acts_named law v w (Arrive k) a p.to (Came p.text) is.0 refl is.1 is.2
+
+record AllNamed (v : ClusterValue) (es : List Event) (rs : List Answer) (w : ClusterValue) : Type 0 where
+  more : List Posted
+  grows : w.packets ≡ v.packets ++ more
+  all : AreAnswered w.packets (length v.packets) es rs
+
+all_named : SendersRun → (v w : ClusterValue) (es : List Event) (rs : List Answer) → AreSteps v es rs w → AllNamed v es rs w
+unfolding AreSteps AreAnswered
+all_named law v w [] [] steps = let same = ap (λ (n : ClusterValue). n.packets) steps in record { more = []; grows = same ∙ sym (append-nil v.packets); all = ap length (sym same) }
+all_named law v w [] (a ∷ rs) steps = absurd steps
+all_named law v w (e ∷ es) [] steps = absurd steps
+all_named law v w (e ∷ es) (a ∷ rs) (x, step, rest) =
+    let later : AllNamed x es rs w = all_named law x w es rs rest in
+    record {
+      more = one.more ++ later.more;
+      grows = later.grows ∙ (ap (λ (ps : List Posted). ps ++ later.more) one.grows ∙ append_assoc v.packets one.more later.more);
+      all = (subst (λ (ps : List Posted). IsNext ps (length v.packets) e a) (sym later.grows) (one.next later.more), subst (λ n. AreAnswered w.packets n es rs) count later.all);
+    }
+  where
+    one : IsNamed v e a x
+    one = step_named law v x e a step
+
+    count : length x.packets ≡ length v.packets + sends a
+    count = ap length one.grows ∙ (length-append v.packets one.more ∙ ap (λ n. length v.packets + n) one.count)
+
+pub run_answered : SendersRun → (plan : Plan) (es : List Event) (rs : List Answer) (packets : List Posted) (v : ClusterValue) → IsRun plan es rs packets v → AreAnswered packets 0 es rs
+run_answered law plan es rs packets v run = subst (λ (ps : List Posted). AreAnswered ps 0 es rs) run.sent (all_named law (new_cluster plan) v es rs run.stepped).all
+
+-- Strangers are denied at each moment.
+pub denied_each : StrangersAreDenied → (plan : Plan) (run : List NodeStep) (v : ClusterValue) → ComesTo plan run v → AtEachMoment (IsDenied plan) run
+denied_each law plan run v comes later earlier d is =
+    let there = back plan later (d ∷ earlier) v (subst (λ (whole : List NodeStep). ComesTo plan whole v) is comes) in
+    (law plan earlier d there.0 there.1).0

@@ -1,13 +1,13 @@
 -- Whole runs of a cluster, from events, answers and packets.
-use Rattle.std.specs.Prelude.{◌≡◌, true, List, [], ◌∷◌, ◌++◌, Option, Some, None, option_map, reverse}
+use Rattle.std.specs.Prelude.{ℕ, ◌≡◌, ◌+◌, List, [], ◌∷◌, ◌++◌, length, Option, Some, None, option_map, reverse}
 use Rattle.std.specs.Option.{option_map_or, option_to_list}
 use Rattle.gb_types.specs.declared.{address.Addr.Addr, node.NodeId.NodeId, plan.Plan.Plan}
 use Rattle.gb_node.specs.declared.{answer.NodeAnswer.NodeAnswer, answer.Sent.Sent as SentValue, event.NodeEvent.NodeEvent, event.NodeEvent.TheVariants.Packet as Came, answer.Sent.TheVariants.Packet as SentPacket, answer.Sent.TheVariants.Nothing as SentNothing, answer.Sent.TheVariants.Refused as SentRefused}
 use Rattle.gb_node.specs.declared.answer.NodeAnswer.TheVariants.{Reply as Replied, Taken, Sent, Ticked, Halted}
-use Rattle.gb_cluster.specs.Common.{packet_numbered, IsStep, ClusterValue, new_cluster, NodeStep, ComesTo}
+use Rattle.gb_cluster.specs.Common.{packet_numbered, receiver_of, IsStep, ClusterValue, new_cluster, NodeStep, ComesTo}
 use Rattle.gb_cluster.specs.declared.{answer.Answer.Answer, answer.Sending.Sending, event.Event.Event, event.Event.TheVariants.At, event.Event.TheVariants.Arrive, posted.Posted.Posted, answer.Sending.TheVariants.Packet as SendingPacket, answer.Sending.TheVariants.Nothing as SendingNothing, answer.Sending.TheVariants.Refused as SendingRefused}
 use Rattle.gb_cluster.specs.declared.answer.Answer.TheVariants.{Reply as AnswerReply, Taken as AnswerTaken, Sent as AnswerSent, Ticked as AnswerTicked, Halted as AnswerHalted}
-use Rattle.gb_isolation.specs.{Isolation.IsSeenAlone, Project.is_fed}
+use Rattle.gb_isolation.specs.{Isolation.IsSeenAlone, Project.fed_run, RunLaws.AtEachMoment, RunLaws.IsDenied}
 
 -- what a node sent; a packet's number stands for its text among the packets
 abbrev pub sent_as : List Posted → Sending → Option SentValue
@@ -44,9 +44,34 @@ all_did packets (e ∷ events) (a ∷ answers) = did_in packets e a ++ all_did p
 abbrev pub run_of : List Event → List Answer → List Posted → List NodeStep
 run_of events answers packets = reverse (all_did packets events answers)
 
--- what the run shows of each group that had no request refused for lack of memory is what the group has alone
+-- What the run shows of each group is what the group has alone. Requests of the group that were refused for lack of memory are left out, for they change nothing.
 abbrev pub AreSeenAlone : Plan → List Event → List Answer → List Posted → Type 0
-AreSeenAlone plan events answers packets = (g : Addr) → is_fed g (run_of events answers packets) ≡ true → IsSeenAlone plan (run_of events answers packets) g
+AreSeenAlone plan events answers packets = (g : Addr) → IsSeenAlone plan (fed_run g (run_of events answers packets)) g
+
+-- at each moment of the run, a request that comes without the token that it needs is refused as Denied, or as Stopped by a node that has stopped
+abbrev pub AreDenied : Plan → List Event → List Answer → List Posted → Type 0
+AreDenied plan events answers packets = AtEachMoment (IsDenied plan) (run_of events answers packets)
+
+-- the node that an event asks to send to, if it asks for that
+abbrev pub goal_of : Event → Option NodeId
+goal_of (At a event) = receiver_of event
+goal_of (Arrive k) = None
+
+-- how many packets the answer says were sent
+abbrev pub sends : Answer → ℕ
+sends (AnswerSent (SendingPacket k)) = 1
+sends answer = 0
+
+-- if the answer to an event after `count` packets names a packet, this is the next one, and was sent to the node that the event asks to send to
+abbrev pub IsNext : List Posted → ℕ → Event → Answer → Type 0
+IsNext packets count event (AnswerSent (SendingPacket k)) = (k ≡ count + 1) × (p : Posted) × (packet_numbered packets k ≡ Some p) × (goal_of event ≡ Some p.to)
+IsNext packets count event answer = Unit {0}
+
+-- there are as many answers as events, and the packets that the answers name, the first one after `count` others, are all these packets in their order
+unfoldable pub AreAnswered : List Posted → ℕ → List Event → List Answer → Type 0
+AreAnswered packets count [] [] = count ≡ length packets
+AreAnswered packets count (e ∷ events) (a ∷ answers) = IsNext packets count e a × AreAnswered packets (count + sends a) events answers
+AreAnswered packets count events answers = ⊥
 
 -- the events take the first cluster to the second, and each is answered with the answer at its place
 unfoldable pub AreSteps : ClusterValue → List Event → List Answer → ClusterValue → Type 0

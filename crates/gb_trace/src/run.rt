@@ -2,12 +2,14 @@
 ghost use Rattle.std.specs.Prelude.{◌≡◌, ◌↔◌, All, IsTrue, IfOk};
 ghost use Rattle.std.specs.List.{list_any};
 ghost use Rattle.gb_cluster.specs.Common.{IsPlaced, ClusterValue, IsClusterPlan};
-ghost use Rattle.gb_trace.specs.Trace.{AreSeenAlone, IsRun};
+ghost use Rattle.gb_trace.specs.Trace.{AreAnswered, AreDenied, AreSeenAlone, IsRun};
 ghost use Rattle.gb_trace.specs.Run.{tells_want, IsIsolatedRun, IsAmpleRun};
 
 use crate::trace::Trace;
 use gb_cluster::{Answer, Cluster, Event, Sending};
-use gb_isolation::laws::{ample_runs_feed_all, groups_are_isolated};
+use gb_isolation::laws::{
+    ample_runs_feed_all, every_group_is_isolated, groups_are_isolated, strangers_are_denied,
+};
 use gb_node::past::packets_say;
 use gb_node::{Halted, PacketAnswer, Ticked};
 use gb_types::{OutOfMemory, Plan, Refusal, Reply};
@@ -58,17 +60,22 @@ pub fn are_placed(nodes: usize, events: &[Event]) -> bool
 }
 
 /// Runs a whole cluster: starts it with `plan` and returns its answers to `events`, one after the other, with the packets that
-/// were sent. In this run each group that had no request refused for lack of memory is what it is alone; if `refused` is false,
-/// every group is. `Err` means that there was no memory to keep the run. A node that refuses for lack of memory is no error:
-/// that is an answer.
+/// were sent. In this run, read without its requests that were refused for lack of memory, each group is what it is alone; if
+/// `refused` is false, there were none. A request without the token that it needs is refused as `Denied`, or as `Stopped` at a node
+/// that has stopped. `Err` means that there was no memory to keep the run. A node that refuses for lack of memory is no error: that
+/// is an answer.
 pub fn run(alloc: Global, plan: Plan, events: &[Event]) -> Result<Trace, OutOfMemory>
     requires plan { IsClusterPlan plan }
     requires placed { All (IsPlaced plan.nodes) events.now }
     ensures run { IfOk result (λ t. (v : ClusterValue) × IsRun plan events.now t.answers.items t.packets.items v × IsIsolatedRun plan events.now t.answers.items t.packets.items v × IsAmpleRun plan events.now t.answers.items t.packets.items v t.refused) }
+    ensures answered { IfOk result (λ t. AreAnswered t.packets.items 0 events.now t.answers.items) }
     ensures seen { IfOk result (λ t. AreSeenAlone plan events.now t.answers.items t.packets.items) }
+    ensures strangers { IfOk result (λ t. AreDenied plan events.now t.answers.items t.packets.items) }
     ensures refused { IfOk result (λ t. t.refused ≡ list_any tells_want t.answers.items) }
 {
     groups_are_isolated();
+    every_group_is_isolated();
+    strangers_are_denied();
     ample_runs_feed_all();
     packets_say();
     let mut cluster = Cluster::start(alloc, &plan)?;

@@ -1,3 +1,5 @@
+use Rattle.gb_isolation.specs.RunLaws.{RunIntegrity, RunOrder, RunDuties, RunAgreement}
+use Rattle.gb_isolation.proofs.FedLemmas.{of_fed}
 use Rattle.gb_isolation.proofs.SeenLemmas.{is_seen_alone}
 use Rattle.gb_simulate.proofs.RunTextLemmas.{GroupsAreServed, texts_so}
 use Rattle.gb_simulate.proofs.laws.texts_are_of_runs.Goals as goal
@@ -9,10 +11,10 @@ returns c =
       seen = is_seen_alone plan run v g (c.groups_are_isolated.ensures plan run v comes g fed);
       fetched = c.logs_may_be_fetched.ensures plan run v comes g fed;
       alike = c.runs_agree.ensures plan run v comes g fed;
-      integrity = c.groups_keep_integrity.ensures plan run v comes g fed;
-      order = c.groups_keep_order.ensures plan run v comes g fed;
-      duties = c.groups_do_their_duties.ensures plan run v comes g fed;
-      agreement = c.settled_groups_agree.ensures plan run v comes g fed;
+      integrity = of_fed RunIntegrity c.groups_keep_integrity.ensures plan run v comes g fed;
+      order = of_fed RunOrder c.groups_keep_order.ensures plan run v comes g fed;
+      duties = of_fed RunDuties c.groups_do_their_duties.ensures plan run v comes g fed;
+      agreement = of_fed RunAgreement c.settled_groups_agree.ensures plan run v comes g fed;
     } in
     texts_so (record {
       pasts = c.nodes_have_pasts.ensures;

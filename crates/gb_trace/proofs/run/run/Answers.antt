@@ -2,7 +2,7 @@ use Rattle.gb_types.specs.Common.{List, ◌++◌, ◌∷◌, [], take, sym, ◌�
 use Rattle.gb_cluster.specs.declared.event.Event.{Event}
 use Rattle.gb_isolation.proofs.SeenLemmas.{is_seen_alone}
 use Rattle.gb_trace.specs.Run.{tells_want}
-use Rattle.gb_trace.proofs.RunLemmas.{Goes, run_begins, run_goes, placed_at, is_run, ample}
+use Rattle.gb_trace.proofs.RunLemmas.{Goes, run_begins, run_goes, placed_at, is_run, ample, denied_each, run_answered}
 use Rattle.gb_trace.proofs.run.run.Goals as goal
 
 pub loop-event-init : goal.loop-event-init
@@ -28,7 +28,17 @@ returns-clause-run c =
 pub returns-clause-seen : goal.returns-clause-seen
 returns-clause-seen c =
     let run = returns-clause-run c in
-    λ g fed. is_seen_alone c.args.plan _ run.0 g (run.2 g fed)
+    λ g. is_seen_alone c.args.plan _ run.0 g (c.every_group_is_isolated.ensures c.args.plan _ run.0 run.1.comes g)
+
+pub returns-clause-answered : goal.returns-clause-answered
+returns-clause-answered c =
+    let run = returns-clause-run c in
+    run_answered c.packets_say.ensures.senders c.args.plan c.args.events.now _ _ run.0 run.1
+
+pub returns-clause-strangers : goal.returns-clause-strangers
+returns-clause-strangers c =
+    let run = returns-clause-run c in
+    denied_each c.strangers_are_denied.ensures c.args.plan _ run.0 run.1.comes
 
 pub step-requires : goal.step-requires
 step-requires c =
