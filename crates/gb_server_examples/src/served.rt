@@ -1,11 +1,8 @@
 // Whole servers: what they print, and the replies to their clients.
-use crate::chat::{gives, joined};
-use crate::messages::{DENIED, OPEN};
+use crate::messages::{DENIED, DONE, OPEN, TENANT};
 use crate::runs::{KEYS, run_server};
 use crate::socket_clients::{MALFORMED, address, leaves, told};
-use gb_session::Head;
 use gb_spelling::number::read_number;
-use gb_types::NodeId;
 use std::alloc::Global;
 use std::fs::{File, Files};
 use std::net::{Net, TcpListener, TcpStream, UdpSocket};
@@ -157,18 +154,7 @@ static WITH_TAPES: [&str; 8] = [
     "1",
 ];
 
-// A tenant's row, for which its reply is wanted.
-static TENANT: [(Head, &str, &str); 1] = [(Head::Tenant, "7 24 100 4096 100", "ok")];
-
-// Returns true if a node of the server with tapes takes a tenant's row, by a request with the administrator's token.
-fn adds_tenant<H: Net<Stream = TcpStream> + Clock>(rt: &H, alloc: Global, node: u8) -> bool {
-    match joined(rt, 28_750, NodeId::new(node)) {
-        Ok(mut member) => matches!(gives(alloc, &mut member, &TENANT), Ok(true)),
-        Err(_) => false,
-    }
-}
-
-// A server with tapes merges them at its end. The clients' requests are among the events, so there are two at least.
+// A server with tapes merges them at its end. The clients' requests change their nodes, so they are among the events: there are two at least.
 #[test]
 fn what_was_done_is_merged(rt: HostRuntime) {
     let alloc = rt.alloc();
@@ -177,8 +163,8 @@ fn what_was_done_is_merged(rt: HostRuntime) {
         || run_server(&rt, alloc, &WITH_TAPES, KEYS),
         || thread::join(
             &rt,
-            || adds_tenant(&rt, alloc, 0),
-            || adds_tenant(&rt, alloc, 1),
+            || is_told(&rt, alloc, 28_814, TENANT, DONE),
+            || is_told(&rt, alloc, 28_815, TENANT, DONE),
         ),
     );
     let count = merged(&run.lines, b"serving 2 nodes from port 28750\n").unwrap_or(0);
