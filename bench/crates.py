@@ -1,25 +1,33 @@
 #!/usr/bin/env python3
-"""Compares docs/ARCHITECTURE.md's table of crates with crates.txt: each crate of ours has one row, and the row names our crates that it
-stands on, in the order of crates.txt. With --write it corrects these columns; a description is written by hand. Also checks that
-each type that a crate's root exports is used from there. Status 1: something differs, and a line says what."""
+"""Compares crates/README.md, the table of crates, with crates.txt and with the first sentence of each crate's own page (src/lib.rt, or
+src/main.rt of a program). The headings are the comments of crates.txt. With --write it writes the page. Also checks that each type
+that a crate's root exports is used from there. Status 1: something differs, and a line says what."""
 import os
 import re
 import sys
+import textwrap
 
 TOP = os.path.dirname(os.path.dirname(os.path.abspath(__file__)))
-PAGE = os.path.join(TOP, "docs", "ARCHITECTURE.md")
-ROW = re.compile(r"^\| (gb_[a-z_]+) \| ([a-z_, ]*)\| (.*) \|$")
+PAGE = os.path.join(TOP, "crates", "README.md")
 USE = re.compile(r"^ *(?:pub(?:\([a-z]+\))? )?use (gb_[a-z_]+)::([a-z_0-9]+)::(\{[^}]*\}|[A-Za-z_0-9]+)", re.M)
 EXPORT = re.compile(r"^pub use ([a-z_0-9]+)::(\{[^}]*\}|[A-Za-z_0-9]+);", re.M)
+BEGIN = """# The crates
+
+`bench/crates.py --write` makes this page from crates.txt and from the first sentence of each crate's own page. Lower floors come first.
+docs/ARCHITECTURE.md has a picture of the floors, and says where to change what.
+"""
 
 
-def needs():
-    """Returns for each crate our crates that it stands on."""
-    found = {}
+def floors():
+    """Returns the headings of crates.txt, each with the lines of its crates: a name, and our crates that it stands on."""
+    found = []
     with open(os.path.join(TOP, "crates.txt")) as file:
         for line in file:
-            name, words = line.split(":", 1)
-            found[name] = [word for word in words.split() if word.startswith("gb_")]
+            if line.startswith("#"):
+                found.append((line[1:].strip(), []))
+            elif line.strip():
+                name, words = line.split("#")[0].split(":")
+                found[-1][1].append((name, [word for word in words.split() if word.startswith("gb_")]))
     return found
 
 
@@ -37,29 +45,28 @@ def read(path):
         return file.read()
 
 
-def rows(wanted, write):
-    """Yields what is wrong with the table; corrects what can be."""
-    lines, seen = read(PAGE).split("\n"), set()
-    for place, line in enumerate(lines):
-        row = ROW.match(line)
-        if row is None:
-            continue
-        name = row.group(1)
-        seen.add(name)
-        if name not in wanted:
-            yield f"ARCHITECTURE has a row of {name}, which crates.txt has not"
-            continue
-        right = ", ".join(wanted[name])
-        if row.group(2).strip() != right:
-            if write:
-                lines[place] = f"| {name} | {right}{' ' if right else ''}| {row.group(3)} |"
-            else:
-                yield f"ARCHITECTURE: {name} stands on {right or 'nothing'}"
-    for name in wanted.keys() - seen:
-        yield f"ARCHITECTURE has no row of {name}"
-    if write:
-        with open(PAGE, "w") as file:
-            file.write("\n".join(lines))
+def page_of(crate):
+    """Returns the first sentence of a crate's own page, without its full stop."""
+    for file in ("lib.rt", "main.rt"):
+        path = os.path.join(TOP, "crates", crate, "src", file)
+        if os.path.exists(path):
+            lines = re.match(r"(?://! .*\n)*", read(path)).group().split("\n")
+            text = " ".join(line[3:].strip() for line in lines).strip()
+            return re.split(r"(?<=[a-z`)\d])\. (?=[A-Z`])", text)[0].rstrip(".")
+    return ""
+
+
+def page():
+    """Returns the page as it should be."""
+    lines = [BEGIN]
+    for heading, crates in floors():
+        lines += [f"## {heading[:1].upper()}{heading[1:]}", ""]
+        for name, stands_on in crates:
+            on = f" *Stands on {', '.join(stands_on)}.*" if stands_on else ""
+            text = f"**{name}**: {page_of(name)}.{on}"
+            lines += textwrap.wrap(text, 130, initial_indent="- ", subsequent_indent="  ", break_on_hyphens=False, break_long_words=False)
+        lines.append("")
+    return "\n".join(lines)
 
 
 def doors(crates):
@@ -78,8 +85,14 @@ def doors(crates):
 
 
 def main():
-    wanted = needs()
-    faults = list(rows(wanted, "--write" in sys.argv[1:])) + list(doors(wanted))
+    crates = [name for _, rows in floors() for name, _ in rows]
+    faults = [f"{name} has no sentence at the top of its src/lib.rt" for name in crates if not page_of(name)]
+    if "--write" in sys.argv[1:]:
+        with open(PAGE, "w") as file:
+            file.write(page())
+    elif not os.path.exists(PAGE) or read(PAGE) != page():
+        faults.append("crates/README.md is not as crates.txt and the crates' pages say: run bench/crates.py --write")
+    faults += doors(crates)
     for fault in faults:
         print(fault)
     sys.exit(1 if faults else 0)

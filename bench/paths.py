@@ -18,7 +18,9 @@ def needs():
     found = {}
     with open(os.path.join(TOP, "crates.txt")) as file:
         for line in file:
-            name, words = line.split("#")[0].split(":", 1)
+            name, colon, words = line.split("#")[0].partition(":")
+            if not colon:
+                continue
             found[name.split()[0]] = words.split()
     return {name: [dep for dep in deps if dep in found] for name, deps in found.items()}
 

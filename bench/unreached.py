@@ -35,7 +35,9 @@ def needs():
     found = {}
     with open(os.path.join(TOP, "crates.txt")) as file:
         for line in file:
-            name, words = line.split(":", 1)
+            name, colon, words = line.split("#")[0].partition(":")
+            if not colon:
+                continue
             found[name.split()[0]] = [word for word in words.split() if word.startswith("gb_")]
     return found
 
