@@ -1,6 +1,6 @@
 #!/usr/bin/env python3
 """Compares crates/README.md, the table of crates, with crates.txt and with the first sentence of each crate's own page (src/lib.rt, or
-src/main.rt of a program). The headings are the comments of crates.txt. With --write it writes the page. Also checks that each type
+src/main.rt of a program). The headings are the comments of crates.txt, where a crate has its line behind those on which it stands. With --write it writes the page. Also checks that each type
 that a crate's root exports is used from there. Status 1: something differs, and a line says what."""
 import os
 import re
@@ -87,6 +87,8 @@ def doors(crates):
 def main():
     crates = [name for _, rows in floors() for name, _ in rows]
     faults = [f"{name} has no sentence at the top of its src/lib.rt" for name in crates if not page_of(name)]
+    faults += [f"crates.txt has {name} before {below}, on which it stands" for _, rows in floors() for name, stands_on in rows
+               for below in stands_on if crates.index(below) > crates.index(name)]
     if "--write" in sys.argv[1:]:
         with open(PAGE, "w") as file:
             file.write(page())
