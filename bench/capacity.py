@@ -240,7 +240,7 @@ def say_life(words):
     """What a group lives: its messages are for life."""
     each = min(words.limit, words.bytes // words.payload if words.payload else words.limit)
     if words.messages:
-        print(f"a group is full after {spelt(each * words.members * words.groups / words.messages)}, when each of its members has said {each} messages; by then its room goes on with its next generation, or, with packets of version 1 or 2, the next run begins")
+        print(f"a group is full after {spelt(each * words.members * words.groups / words.messages)}, when each of its members has said {each} messages; by then its room goes on")
 
 
 def say_plan(words):

@@ -1,7 +1,7 @@
 #!/usr/bin/env python3
 """Vectors of packets, by the rules of docs/FORMATS.md ("Packets") and by nothing else: no code of the crates is asked.
 
-    vectors.py                 prints the tables of vectors
+    vectors.py                 prints the lists of vectors
     vectors.py --check         compares them with docs/FORMATS.md ("Vectors"); status 1 where a line is not the same
     vectors.py --ask PROGRAM   hands each vector to a node of a built gb_sim, and compares its answers
 
@@ -137,21 +137,20 @@ def lengths_told(packet):
     return ", ".join(f"{count} of {length:,}" if count > 1 else f"{length:,}" for length, count in counts.items())
 
 
-def tables():
-    """The lines of the tables."""
-    yield "| Packet | Bytes (hexadecimal) | Read as |"
-    yield "|---|---|---|"
+def lists():
+    """The lines of the two lists."""
+    short, long = [], []
     for what, packet, number in SHORT:
-        yield f"| {what} | `{written(packet).hex()}` | {answer(number)} |"
-    yield ""
-    yield "| Version | From | To | Bytes of its payloads | Bytes in all | Before the first payload (hexadecimal) | Tag | SHA-256 of all bytes | Read as |"
-    yield "|---|---|---|---|---|---|---|---|---|"
+        short += [f"- {what}: {answer(number)}", f"  `{written(packet).hex()}`"]
     for packet, number in LONG:
         text = written(packet)
         before = text[: struct.calcsize(HEAD) + struct.calcsize(packet.form)]
-        yield " | ".join((
-            f"| {packet.version} | {packet.sender} | {packet.destination} | {lengths_told(packet)} | {len(text):,}",
-            f"`{before.hex()}` | `{text[-TAG:].hex()}` | `{hashlib.sha256(text).hexdigest()}` | {answer(number)} |"))
+        long += [
+            f"- version {packet.version}, from node {packet.sender} to node {packet.destination}, payloads of {lengths_told(packet)} bytes, "
+            f"{len(text):,} bytes in all: {answer(number)}",
+            f"  `{before.hex()}`",
+            f"  tag `{text[-TAG:].hex()}`, SHA-256 `{hashlib.sha256(text).hexdigest()}`"]
+    return short, long
 
 
 def vectors():
@@ -159,12 +158,13 @@ def vectors():
 
 
 def check():
-    """Whether docs/FORMATS.md has these tables, and its example is the first vector."""
+    """Whether docs/FORMATS.md has these lists, and its example is the first vector."""
     top = os.path.join(os.path.dirname(os.path.abspath(__file__)), "..")
     with open(os.path.join(top, "docs", "FORMATS.md"), encoding="utf-8") as file:
         sections = dict(part.split("\n", 1) for part in re.split(r"^#+ ", file.read(), flags=re.M)[1:])
-    stored = [line for line in sections["Vectors"].split("\n") if line.startswith("|")]
-    computed = [line for line in tables() if line]
+    stored = [line for line in sections["Vectors"].split("\n") if line.startswith(("- ", "  "))]
+    short, long = lists()
+    computed = short + long
     for line in difflib.unified_diff(stored, computed, "docs/FORMATS.md", "bench/vectors.py", lineterm="", n=0):
         print(line)
     parts = re.findall(r"^\| `([0-9a-f ]+)` \|", sections["An example"], flags=re.M)
@@ -197,7 +197,7 @@ def main(words):
     if words:
         print(__doc__)
         return 2
-    print("\n".join(tables()))
+    print("\n\n".join("\n".join(lines) for lines in lists()))
     return 0
 
 

@@ -1,5 +1,6 @@
 #!/usr/bin/env python3
-"""Checks that no line of a page has more than 132 characters. Pages are the files NAME.md outside crates/*/out.
+"""Checks that no line of a page has more than 132 characters, but for lines of one word. Pages are the files NAME.md outside
+crates/*/out.
 
     tools/pages.py            prints each line that is too long, and ends with status 1 if there is one
     tools/pages.py --write    lays out anew each paragraph and each item of a list that has such a line, and writes each table
@@ -14,6 +15,8 @@ TOP = os.path.dirname(os.path.dirname(os.path.abspath(__file__)))
 LIMIT = 132
 WIDTH = 128
 SPAN = 60
+# Heads of columns that say where a figure comes from.
+SOURCE = ("Date", "Commit", "Command")
 ITEM = re.compile(r"^( *)([-*]|\d+\.)( +)")
 # What begins a list, a heading, a quotation or a table where it begins a line.
 BEGINS = re.compile(r"^([-*+>|]|#+|\d+[.)]|=+|-+)$|^[|>#]")
@@ -57,22 +60,35 @@ def cells_of(row):
     return [cell.strip().replace("\0", "|") for cell in row.split("|")]
 
 
+def is_long(line):
+    return len(line) > LIMIT and len(line.split()) > 1
+
+
 def sentence(text):
     return text if text.endswith((".", ":", "!", "?")) else text + "."
 
 
+def strong(text):
+    """Returns the first cell of a row, in bold letters where it is words."""
+    return text if not text or "`" in text or "*" in text else f"**{text}**"
+
+
 def as_list(table):
-    """Returns a table as a list: of two columns `first: second`, of more each cell behind its column's name."""
+    """Returns a table as a list: of each row the first cell and the second one, and each further cell behind its column's name. Where a
+    figure comes from stands in brackets."""
     heads, lines = cells_of(table[0]), []
-    if len(heads) == 2 and all(heads):
+    if len(heads) == 2:
         lines += [f"*{heads[0]}: {heads[1][:1].lower() + heads[1][1:]}.*", ""]
     for row in table[2:]:
-        first, *others = cells_of(row)
-        if len(heads) == 2:
-            text = f"{first}: {others[0]}" if others[0] else first
-        else:
-            named = [sentence(f"{head}: {cell}" if head else cell) for head, cell in zip(heads[1:], others) if cell]
-            text = " ".join([sentence(first) if first else ""] + named).strip()
+        first, second, *others = cells_of(row)
+        if heads[1:3] == ["Least", "Greatest"]:
+            second, others = f"{second} to {others[0]}" if second else others[0], others[1:]
+        text = f"{strong(first)}: {second}" if second else strong(first)
+        named = list(zip(heads[len(heads) - len(others):], others))
+        source = ", ".join(cell for head, cell in named if cell and head in SOURCE)
+        text += f" ({source})" if source else ""
+        rest = [sentence(f"{head}: {cell}") for head, cell in named if cell and head not in SOURCE]
+        text = " ".join([sentence(text)] + rest) if rest else text
         lines += wrapped(text, "- ", "  ")
     return lines
 
@@ -123,7 +139,7 @@ def laid_out(text):
     """Returns a page in which each block that has too long a line is laid out anew."""
     out = []
     for kind, lines in blocks(text.split("\n")):
-        if all(len(line) <= LIMIT for line in lines) or kind in ("code", "line"):
+        if not any(map(is_long, lines)) or kind in ("code", "line"):
             out += lines
         elif kind == "table":
             out += as_list(lines)
@@ -147,7 +163,7 @@ def main():
                     file.write(changed)
                 text = changed
         for number, line in enumerate(text.split("\n"), 1):
-            if len(line) > LIMIT:
+            if is_long(line):
                 faults += 1
                 print(f"{os.path.relpath(path, TOP)}, line {number}: {len(line)} characters and not {LIMIT} at most")
     sys.exit(1 if faults else 0)
