@@ -9,7 +9,7 @@ import sys
 TOP = os.path.dirname(os.path.dirname(os.path.abspath(__file__)))
 sys.path.insert(0, os.path.join(TOP, "tools"))
 sys.dont_write_bytecode = True
-from pages import pages  # noqa: E402
+from pages import LEFT_OUT, pages  # noqa: E402
 
 PAGE = re.compile(r'(?<![\w/.-])((?:[\w.-]+/)*[\w.-]+\.md)\b(?:, "([^"]+)")?')
 HERE = re.compile(r'"([^"`]+)"(?: and "[^"]+")?, (above|below)\b')
@@ -69,7 +69,7 @@ def faults(path):
 
 
 def main():
-    found = [fault for path in pages() for fault in faults(path)]
+    found = [fault for path in pages(LEFT_OUT[:-1]) for fault in faults(path)]
     for fault in found:
         print(fault)
     sys.exit(1 if found else 0)

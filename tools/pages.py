@@ -1,6 +1,6 @@
 #!/usr/bin/env python3
-"""Checks that no line of a page has more than 132 characters, but for lines of one word. Pages are the files NAME.md outside
-crates/*/out.
+"""Checks that no line of a page has more than 132 characters, but for lines of one word. Pages are the files NAME.md, but not those in
+clients/ and in crates/*/out.
 
     tools/pages.py            prints each line that is too long, and ends with status 1 if there is one
     tools/pages.py --write    lays out anew each paragraph and each item of a list that has such a line, and writes each table
@@ -17,15 +17,17 @@ WIDTH = 128
 SPAN = 60
 # Heads of columns that say where a figure comes from.
 SOURCE = ("Date", "Commit", "Command")
+# Folders whose pages are not looked at.
+LEFT_OUT = ("out", ".git", "node_modules", "__pycache__", "clients")
 ITEM = re.compile(r"^( *)([-*]|\d+\.)( +)")
 # What begins a list, a heading, a quotation or a table where it begins a line.
 BEGINS = re.compile(r"^([-*+>|]|#+|\d+[.)]|=+|-+)$|^[|>#]")
 
 
-def pages():
+def pages(left_out=LEFT_OUT):
     """Yields the paths of all pages."""
     for folder, inner, files in os.walk(TOP):
-        inner[:] = sorted(name for name in inner if name not in ("out", ".git", "node_modules", "__pycache__"))
+        inner[:] = sorted(name for name in inner if name not in left_out)
         yield from (os.path.join(folder, name) for name in sorted(files) if name.endswith(".md"))
 
 
