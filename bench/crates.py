@@ -13,8 +13,8 @@ USE = re.compile(r"^ *(?:pub(?:\([a-z]+\))? )?use (gb_[a-z_]+)::([a-z_0-9]+)::(\
 EXPORT = re.compile(r"^pub use ([a-z_0-9]+)::(\{[^}]*\}|[A-Za-z_0-9]+);", re.M)
 BEGIN = """# The crates
 
-`bench/crates.py --write` makes this page from crates.txt and from the first sentence of each crate's own page. Lower floors come first.
-docs/ARCHITECTURE.md has a picture of the floors, and says where to change what.
+`bench/crates.py --write` makes this page from crates.txt and from the first sentence of each crate's own page. Lower floors come
+first. docs/ARCHITECTURE.md has a picture of the floors, and says where to change what.
 """
 
 
