@@ -84,7 +84,7 @@ def as_list(table):
     for row in table[2:]:
         first, second, *others = cells_of(row)
         if heads[1:3] == ["Least", "Greatest"]:
-            second, others = f"{second} to {others[0]}" if second else others[0], others[1:]
+            second, others = " to ".join(cell for cell in (second, others[0]) if cell), others[1:]
         text = f"{strong(first)}: {second}" if second else strong(first)
         named = list(zip(heads[len(heads) - len(others):], others))
         source = ", ".join(cell for head, cell in named if cell and head in SOURCE)
