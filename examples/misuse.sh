@@ -7,7 +7,7 @@ room=$(mktemp -d)
 trap 'rm -rf "$room"' EXIT
 cp crates.txt HANDLES "$room/"
 mkdir "$room/crates"
-for crate in crates/*; do
+for crate in crates/*/; do
     mkdir "$room/$crate"
     (cd "$crate" && tar cf - --exclude=out .) | tar xf - -C "$room/$crate"
 done
