@@ -1,6 +1,6 @@
 #!/usr/bin/env python3
-"""Checks that no line of a page has more than 132 characters, but for lines of one word. Pages are the files NAME.md, but not those in
-clients/ and in crates/*/out.
+"""Checks that no line of a page has more than 132 characters, but for lines of one word, and that README.md has at most 80 lines. Pages
+are the files NAME.md, but not those in clients/ and in crates/*/out.
 
     tools/pages.py            prints each line that is too long, and ends with status 1 if there is one
     tools/pages.py --write    lays out anew each paragraph and each item of a list that has such a line, and writes each table
@@ -14,6 +14,7 @@ import sys
 TOP = os.path.dirname(os.path.dirname(os.path.abspath(__file__)))
 LIMIT = 132
 WIDTH = 128
+FIRST = 80
 SPAN = 60
 # Heads of columns that say where a figure comes from.
 SOURCE = ("Date", "Commit", "Command")
@@ -168,6 +169,11 @@ def main():
             if is_long(line):
                 faults += 1
                 print(f"{os.path.relpath(path, TOP)}, line {number}: {len(line)} characters and not {LIMIT} at most")
+    with open(os.path.join(TOP, "README.md"), encoding="utf-8") as file:
+        count = len(file.readlines())
+    if count > FIRST:
+        faults += 1
+        print(f"README.md has {count} lines and not {FIRST} at most")
     sys.exit(1 if faults else 0)
 
 
