@@ -71,22 +71,20 @@ def sentence(text):
     return text if text.endswith((".", ":", "!", "?")) else text + "."
 
 
-def strong(text):
-    """Returns the first cell of a row, in bold letters where it is words."""
-    return text if not text or "`" in text or "*" in text else f"**{text}**"
-
-
 def as_list(table):
     """Returns a table as a list: of each row the first cell and the second one, and each further cell behind its column's name. Where a
     figure comes from stands in brackets."""
     heads, lines = cells_of(table[0]), []
     if len(heads) == 2:
         lines += [f"*{heads[0]}: {heads[1][:1].lower() + heads[1][1:]}.*", ""]
-    for row in table[2:]:
-        first, second, *others = cells_of(row)
+    rows = [cells_of(row) for row in table[2:]]
+    # The first cells are in bold letters if all are words.
+    mark = "" if any(not row[0] or "`" in row[0] or "*" in row[0] for row in rows) else "**"
+    for first, second, *others in rows:
+        first = mark + first + mark
         if heads[1:3] == ["Least", "Greatest"]:
             second, others = " to ".join(cell for cell in (second, others[0]) if cell), others[1:]
-        text = f"{strong(first)}: {second}" if second else strong(first)
+        text = f"{first}: {second}" if second else first
         named = list(zip(heads[len(heads) - len(others):], others))
         source = ", ".join(cell for head, cell in named if cell and head in SOURCE)
         text += f" ({source})" if source else ""
