@@ -23,7 +23,7 @@ SOURCES = {
     "gb_audit": "gb_audit/src/main.rt",
     "gb_sim": "gb_sim/src/words.rt",
 }
-SHARED = "gb_serve_words/src/options.rt"
+SHARED = ("gb_serve_words/src/options.rt", "gb_serve_words/src/limits.rt")
 # The page with the table of a program's options.
 TABLES = {"gb_serve": "docs/OPERATING.md", "gb_web": "docs/OPERATING.md"}
 # What clap takes as any byte, and the program then reads as one of these.
@@ -54,7 +54,7 @@ def source(path):
 def constants(program):
     """Returns the numbers of the constants that a program's source names: its own ones, and those of the crates below."""
     found = {}
-    for path in ("gb_types/src/limits.rt", SHARED, "gb_door/src/limits.rt", SOURCES[program]):
+    for path in ("gb_types/src/limits.rt", *SHARED, "gb_door/src/limits.rt", SOURCES[program]):
         for name, words in re.findall(r"const ([A-Z_]+): [a-z0-9]+ = ([^;]+);", source(path)):
             value = number(words, found)
             if value is not None:
@@ -98,10 +98,10 @@ def argument(text, known):
 def declared(path, known):
     """Yields the options that a source declares by calls, in their order, those of shared functions too."""
     shared = {}
-    text = source(SHARED)
-    for found in re.finditer(r"pub fn (\w+_arg)<'a>\(alloc: Global\).*?\n}\n", text, re.S):
-        body = re.search(r'(?:number|text|flag)_arg\(alloc, .*', found.group(), re.S)
-        shared[found.group(1)] = argument(body.group(), known)
+    for text in map(source, SHARED):
+        for found in re.finditer(r"pub fn (\w+_arg)<'a>\(alloc: Global\).*?\n}\n", text, re.S):
+            body = re.search(r'(?:(?:number|text|flag)_arg|Arg::new)\(alloc, .*', found.group(), re.S)
+            shared[found.group(1)] = argument(body.group(), known)
     text = source(path)
     begin = text.index("fn command<'a>(")
     text = text[begin:text.index("\n}\n", begin)]

@@ -1,6 +1,7 @@
 -- The words of gb_peer's command line: the command, as `clap` reads it, and what it makes of the words.
 use Rattle.std.specs.Prelude.{◌≡◌, ◌≤◌, true, false, List, Some, is_some, unwrap_or, codes}
 use Rattle.clap.specs.Words.{App, Row, Rule, Text, first_of, new_app, one_of, with_rule}
+use Rattle.gb_serve_words.specs.Limits.{HasLimits, IsLimitsOf, IsLimitsWithin, limit_rule, limit_texts}
 use Rattle.gb_serve_words.specs.Options.{HasAddress, HasFlag, HasNumber, IsAddressOf, connections_rule, flag_rule, given, idle_rule, is_set, may_sync, named_rule, names_folder, requests_rule, sessions_rule, status_rule, text_rule}
 use Rattle.gb_serve_words.specs.declared.options.TheConstants.{CONNECTIONS, IDLE, MOST_CONNECTIONS, MOST_IDLE, MOST_REQUESTS, MOST_SESSIONS}
 use Rattle.gb_peer_words.specs.declared.{plan.PeerPlan.PeerPlan, plan.PeerWords.PeerWords, words.TheConstants.LAST_NODE, words.TheConstants.MOST_WAIT, words.TheConstants.WAIT}
@@ -10,9 +11,9 @@ abbrev pub required_text : Text → Rule
 required_text name = record (text_rule name) { required = true; value_names = 1 }
 
 -- the command of gb_peer: --cluster, --node and --dir are required, --wait, --sessions, --connections, --idle, --session-requests,
--- --remote-sessions, --status, --stop-at-end, --quiet, --record and --sync are not
+-- --remote-sessions, --status, --stop-at-end, --quiet, --record, --sync and --tenant-limit are not
 abbrev pub peer_app : App
-peer_app = with_rule (with_rule (with_rule (with_rule (with_rule (with_rule (with_rule (with_rule (with_rule (with_rule (with_rule (with_rule (with_rule (with_rule (new_app (codes "gb_peer"))
+peer_app = with_rule (with_rule (with_rule (with_rule (with_rule (with_rule (with_rule (with_rule (with_rule (with_rule (with_rule (with_rule (with_rule (with_rule (with_rule (new_app (codes "gb_peer"))
     (required_text (codes "cluster")))
     (named_rule (codes "node") 0 LAST_NODE true))
     (required_text (codes "dir")))
@@ -26,12 +27,14 @@ peer_app = with_rule (with_rule (with_rule (with_rule (with_rule (with_rule (wit
     (flag_rule (codes "stop-at-end")))
     (flag_rule (codes "quiet")))
     (flag_rule (codes "record")))
-    (flag_rule (codes "sync"))
+    (flag_rule (codes "sync")))
+    limit_rule
 
--- the text that was given for the status writes an address, records are wanted if they are to be on the disk, and the path that was given for
--- the folder has a byte
+-- the text that was given for the status writes an address, the texts that were given for the limits of tenants give limits, records are
+-- wanted if they are to be on the disk, and the path that was given for the folder has a byte
 pub record CanServe (rows : List Row) : Type 0 where
   pub status : HasAddress (one_of (codes "status") rows)
+  pub limits : HasLimits (limit_texts rows)
   pub disk : may_sync (is_set rows (codes "record")) (is_set rows (codes "sync")) ≡ true
   pub folder : names_folder (first_of (codes "dir") rows) ≡ true
 
@@ -44,6 +47,7 @@ pub record IsPlanOf (rows : List Row) (plan : PeerPlan) : Type 0 where
   pub idle : plan.idle ≡ unwrap_or (given rows (codes "idle")) IDLE
   pub connections : plan.connections ≡ unwrap_or (given rows (codes "connections")) CONNECTIONS
   pub session_requests : plan.session_requests ≡ unwrap_or (given rows (codes "session-requests")) 0
+  pub limits : IsLimitsOf (limit_texts rows) plan.limits
   pub remote_sessions : plan.remote_sessions ≡ is_set rows (codes "remote-sessions")
   pub stop_at_end : plan.stop_at_end ≡ is_set rows (codes "stop-at-end")
   pub status : IsAddressOf (one_of (codes "status") rows) plan.status
@@ -65,6 +69,7 @@ pub record IsWithin (plan : PeerPlan) : Type 0 where
   pub idle : plan.idle ≤ MOST_IDLE
   pub connections : (1 ≤ plan.connections) × (plan.connections ≤ MOST_CONNECTIONS)
   pub session_requests : plan.session_requests ≤ MOST_REQUESTS
+  pub limits : IsLimitsWithin plan.limits
 
 -- what a parse by the command leaves
 pub record IsGiven (rows : List Row) : Type 0 where

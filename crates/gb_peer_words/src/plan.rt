@@ -1,4 +1,5 @@
 //! What a node of a cluster of several machines is told to do.
+use gb_serve_words::TenantLimits;
 use std::net::SocketAddr;
 
 /// What the words of a command line tell a node to do.
@@ -16,6 +17,8 @@ pub struct PeerPlan {
     pub connections: u16,
     /// How many messages a connection may ask, 0 to 4,000,000,000. 0: there is no limit.
     pub session_requests: u32,
+    /// How much each tenant may ask at the node.
+    pub limits: TenantLimits,
     /// Whether sessions may be served at another address than loopback.
     pub remote_sessions: bool,
     /// Whether the node ends in order when standard input ends.

@@ -1,17 +1,18 @@
 //! The words of gb_peer's command line.
 ghost use Rattle.std.specs.Prelude.{◌≡◌, ◌≢◌, ◌⊎◌, IfOk, IfSome, IfNone, None, codes, map, [], true};
 ghost use Rattle.clap.specs.Words.{app_of, found_of, matches_of, one_of, rows_of, takes, fault_of};
-ghost use Rattle.gb_serve_words.specs.Options.{IsAddressOf};
+ghost use Rattle.gb_serve_words.specs.{Limits.IsLimitsOf, Limits.IsLimitsWithin, Limits.limit_texts, Options.IsAddressOf};
 ghost use Rattle.gb_peer_words.specs.Words.{peer_app, CanServe, IsGiven, IsPlanOf, IsReadOf, IsWithin};
 
 use crate::plan::{PeerPlan, PeerWords};
 use clap::{ArgMatches, Command};
-use gb_serve_words::WordFault;
+use gb_serve_words::limits::{limit_arg, limits_given, limits_refusal};
 use gb_serve_words::options::{
     CONNECTIONS, IDLE, connections_arg, fault_from, flag_arg, folder_refusal, idle_arg, is_folder,
     may_sync, number_arg, quiet_arg, record_arg, requests_arg, sessions_arg, status_arg, status_of,
     status_refusal, stop_arg, sync_arg, text_arg, text_asked,
 };
+use gb_serve_words::{TenantLimits, WordFault};
 use gb_types::limits::NODES;
 use std::alloc::{AllocError, Global};
 use std::net::SocketAddr;
@@ -68,7 +69,8 @@ fn command<'a>(alloc: Global) -> Result<Command<'a>, AllocError>
     let with_stop = with_status.arg(stop_arg(alloc))?;
     let with_quiet = with_stop.arg(quiet_arg(alloc))?;
     let with_record = with_quiet.arg(record_arg(alloc))?;
-    with_record.arg(sync_arg(alloc))
+    let with_sync = with_record.arg(sync_arg(alloc))?;
+    with_sync.arg(limit_arg(alloc))
 }
 
 /// What the help says behind the options.
@@ -82,10 +84,12 @@ Example:\n\n\
   gb_peer --cluster cluster.toml --node 0 --dir marks < keys\n\n\
 Exit status: 0 when all connections were served, or the node was ended in order; 1 for a fault, 2 for words or a cluster file that are refused.";
 
-// The plan of words that `clap` took, with the address for the status.
-fn plan_of(matches: &ArgMatches<'_>, status: Option<SocketAddr>) -> PeerPlan
+// The plan of words that `clap` took, with the address for the status and the limits of tenants.
+fn plan_of(matches: &ArgMatches<'_>, status: Option<SocketAddr>, limits: TenantLimits) -> PeerPlan
     requires given { IsGiven (rows_of (found_of matches.now)) }
     requires address { IsAddressOf (one_of (codes "status") (rows_of (found_of matches.now))) status }
+    requires limits { IsLimitsOf (limit_texts (rows_of (found_of matches.now))) limits }
+    requires bounds { IsLimitsWithin limits }
     ensures read { IsPlanOf (rows_of (found_of matches.now)) result }
     ensures within { IsWithin result }
 {
@@ -107,6 +111,7 @@ fn plan_of(matches: &ArgMatches<'_>, status: Option<SocketAddr>) -> PeerPlan
         idle: idle.unwrap_or(IDLE),
         connections: connections.unwrap_or(CONNECTIONS),
         session_requests: requests.unwrap_or(0),
+        limits,
         remote_sessions,
         stop_at_end,
         status,
@@ -116,8 +121,8 @@ fn plan_of(matches: &ArgMatches<'_>, status: Option<SocketAddr>) -> PeerPlan
     }
 }
 
-// Returns what words name and tell that `clap` took; `None` where their address for the status is none, the path of their folder is
-// empty, or `--sync` stands without `--record`.
+// Returns what words name and tell that `clap` took; `None` where their address for the status is none, their texts for the limits of
+// tenants give none, the path of their folder is empty, or `--sync` stands without `--record`.
 fn words_of<'a>(matches: &ArgMatches<'a>) -> Option<PeerWords<'a>>
     requires { IsGiven (rows_of (found_of matches.now)) }
     ensures read { IfSome result (IsReadOf (rows_of (found_of matches.now))) }
@@ -125,9 +130,10 @@ fn words_of<'a>(matches: &ArgMatches<'a>) -> Option<PeerWords<'a>>
     ensures none { IfNone result (CanServe (rows_of (found_of matches.now)) → ⊥) }
 {
     let status = status_of(matches)?;
+    let limits = limits_given(matches)?;
     let cluster = matches.get_str("cluster").unwrap();
     let dir = matches.get_str("dir").unwrap();
-    let plan = plan_of(matches, status);
+    let plan = plan_of(matches, status, limits);
     if !may_sync(plan.records, plan.sync) {
         return None;
     }
@@ -138,8 +144,8 @@ fn words_of<'a>(matches: &ArgMatches<'a>) -> Option<PeerWords<'a>>
 }
 
 /// Returns what the words of a command line name and tell a node to do. The first word is the program's name. `Err` with `Refused`
-/// if `clap` refuses the words, the text of their address for the status is no address, the path of their folder is empty, or `--sync`
-/// stands without `--record`. `Err` with `OutOfMemory` if memory is refused.
+/// if `clap` refuses the words, the text of their address for the status is no address, their texts for the limits of tenants give none, the
+/// path of their folder is empty, or `--sync` stands without `--record`. `Err` with `OutOfMemory` if memory is refused.
 pub fn read_words<'a>(alloc: Global, words: &'a [&'a str]) -> Result<PeerWords<'a>, WordFault>
     ensures given { IfOk result (λ read. IsReadOf (matches_of peer_app (map (λ word. word.now) words.entry.now)) read) }
     ensures within { IfOk result (λ read. IsWithin read.plan) }
@@ -163,6 +169,9 @@ pub fn read_words<'a>(alloc: Global, words: &'a [&'a str]) -> Result<PeerWords<'
 fn words_refusal(alloc: Global, matches: &ArgMatches<'_>) -> Result<String, AllocError> {
     if status_of(matches).is_none() {
         return status_refusal(alloc, matches);
+    }
+    if limits_given(matches).is_none() {
+        return limits_refusal(alloc, matches);
     }
     folder_refusal(alloc, matches)
 }

@@ -1,4 +1,5 @@
 //! What a server is told to do.
+use crate::limits::TenantLimits;
 use gb_types::Version;
 use std::net::SocketAddr;
 
@@ -23,6 +24,8 @@ pub struct ServePlan {
     pub connections: u16,
     /// The most messages that a connection may ask, 0 to 4,000,000,000. 0: there is no limit.
     pub session_requests: u32,
+    /// How much each tenant may ask at each node.
+    pub limits: TenantLimits,
     /// True: the tapes of the nodes are kept and merged at the end.
     pub tape: bool,
     /// True: the server ends in order when standard input ends.

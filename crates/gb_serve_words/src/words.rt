@@ -4,6 +4,7 @@ ghost use Rattle.clap.specs.Words.{app_of, found_of, matches_of, rows_of, takes,
 ghost use Rattle.gb_serve_words.specs.Words.{serve_app, may_record, IsGiven, IsPlanOf, IsReadOf, IsWithin, CanServe};
 
 use crate::fault::WordFault;
+use crate::limits::{limit_arg, limits_given, limits_refusal};
 use crate::options::{
     CONNECTIONS, HINT, IDLE, connections_arg, fault_from, flag_arg, folder_refusal, idle_arg,
     is_folder, may_sync, number_arg, quiet_arg, record_arg, requests_arg, sessions_arg, status_arg,
@@ -79,7 +80,8 @@ fn command<'a>(alloc: Global) -> Result<Command<'a>, AllocError>
         .help("the folder for the records of --record");
     let with_dir = with_quiet.arg(dir)?;
     let with_record = with_dir.arg(record_arg(alloc))?;
-    with_record.arg(sync_arg(alloc))
+    let with_sync = with_record.arg(sync_arg(alloc))?;
+    with_sync.arg(limit_arg(alloc))
 }
 
 /// The text of the help behind the options.
@@ -95,8 +97,8 @@ The second line of the file keys is the administrator's key, which gb_ctl wants.
 Exit status: 0 when all connections were served, or the server was ended in order, and, with --tape, its tapes were merged; 1 for a fault, 2 for \
 words that are refused.";
 
-// Returns the plan of words that `clap` took. `None` if their version does not exist or cannot name their number of nodes, or if
-// their text for the status is no address.
+// Returns the plan of words that `clap` took. `None` if their version does not exist or cannot name their number of nodes, if their
+// text for the status is no address, or if their texts for the limits of tenants give none.
 fn plan_of(matches: &ArgMatches<'_>) -> Option<ServePlan>
     requires { IsGiven (rows_of (found_of matches.now)) }
     ensures read { IfSome result (IsPlanOf (rows_of (found_of matches.now))) }
@@ -122,6 +124,7 @@ fn plan_of(matches: &ArgMatches<'_>) -> Option<ServePlan>
         return None;
     }
     let status = status_of(matches)?;
+    let limits = limits_given(matches)?;
     Some(ServePlan {
         nodes,
         version,
@@ -132,6 +135,7 @@ fn plan_of(matches: &ArgMatches<'_>) -> Option<ServePlan>
         idle: idle.unwrap_or(IDLE),
         connections: connections.unwrap_or(CONNECTIONS),
         session_requests: requests.unwrap_or(0),
+        limits,
         tape,
         stop_at_end,
         status,
@@ -172,8 +176,8 @@ fn words_of<'a>(matches: &ArgMatches<'a>) -> Option<ServeWords<'a>>
 
 /// Returns what the words of gb_serve's command line tell a server to do: a plan, and the folder for records. The first word is the
 /// program's name. `Err` with `Refused` if `clap` refuses the words, their version does not exist or cannot name their number of nodes,
-/// their text for the status is no address, they want records beside tapes or without a folder, `--sync` stands without `--record`, or
-/// the path of their folder is empty. `Err` with `OutOfMemory` if there is no memory.
+/// their text for the status is no address, their texts for the limits of tenants give none, they want records beside tapes or without a
+/// folder, `--sync` stands without `--record`, or the path of their folder is empty. `Err` with `OutOfMemory` if there is no memory.
 pub fn read_words<'a>(alloc: Global, words: &'a [&'a str]) -> Result<ServeWords<'a>, WordFault>
     ensures given { IfOk result (λ read. IsReadOf (matches_of serve_app (map (λ word. word.now) words.entry.now)) read) }
     ensures within { IfOk result (λ read. IsWithin read.plan) }
@@ -210,6 +214,9 @@ fn plan_refusal(alloc: Global, matches: &ArgMatches<'_>) -> Result<String, Alloc
     }
     if status_of(matches).is_none() {
         return status_refusal(alloc, matches);
+    }
+    if limits_given(matches).is_none() {
+        return limits_refusal(alloc, matches);
     }
     record_refusal(alloc, matches)
 }

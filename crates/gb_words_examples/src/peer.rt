@@ -1,7 +1,7 @@
 //! Worked words of gb_peer, what they name and tell a node, and what is said of words that are refused.
 use gb_peer_words::PeerPlan;
 use gb_peer_words::words::{asked_text, read_words, refusal_text};
-use gb_serve_words::WordFault;
+use gb_serve_words::{NamedLimit, TenantLimit, TenantLimits, WordFault};
 use std::alloc::{AllocError, Global};
 use std::net::{Ipv4Addr, Ipv6Addr, SocketAddr, SocketAddrV4, SocketAddrV6};
 
@@ -21,6 +21,23 @@ fn is_read(alloc: Global, line: &str, cluster: &str, dir: &str, plan: PeerPlan) 
     }
 }
 
+// The limits of tenants if the words give none.
+fn no_limits() -> TenantLimits {
+    TenantLimits {
+        each: limit(0, 0, 0),
+        named: [None; 16],
+    }
+}
+
+// Limits of a tenant.
+fn limit(requests: u32, bytes: u32, waits: u16) -> TenantLimit {
+    TenantLimit {
+        requests,
+        bytes,
+        waits,
+    }
+}
+
 // The plan of words that name node 0 and nothing else that can be left out.
 fn plain_plan() -> PeerPlan {
     PeerPlan {
@@ -30,6 +47,7 @@ fn plain_plan() -> PeerPlan {
         idle: 300,
         connections: 1_024,
         session_requests: 0,
+        limits: no_limits(),
         remote_sessions: false,
         stop_at_end: false,
         status: None,
@@ -166,14 +184,47 @@ fn words_say_where_the_status_of_a_node_is_told(rt: HostRuntime) {
     assert!(rt; is_plan(rt.alloc(), "--status=[::1]:65535", at_six));
 }
 
+#[test]
+fn words_limit_what_tenants_may_ask_a_node(rt: HostRuntime) {
+    let mut limits = no_limits();
+    limits.each = limit(1_000, 0, 64);
+    let for_each = PeerPlan {
+        limits,
+        ..plain_plan()
+    };
+    assert!(rt; is_plan(rt.alloc(), "--tenant-limit 1000:0:64", for_each));
+    limits.named[0] = Some(NamedLimit {
+        tenant: 65_535,
+        limit: limit(4_000_000_000, 4_000_000_000, 60_000),
+    });
+    limits.named[1] = Some(NamedLimit {
+        tenant: 0,
+        limit: limit(0, 0, 0),
+    });
+    let for_three = PeerPlan {
+        limits,
+        ..plain_plan()
+    };
+    let options =
+        "--tenant-limit=65535=4000000000:4000000000:60000 --tenant-limit 0=0:0:0 --tenant-limit 1000:0:64";
+    assert!(rt; is_plan(rt.alloc(), options, for_three));
+}
+
 // All options, each with another value than the one that stands for it.
 static ALL: &str =
     "gb_peer --cluster c.toml --node 2 --dir marks --wait 5 --sessions 6 --connections 7 --idle 8 \
---session-requests 9 --remote-sessions --status 10.0.0.1:9100 --stop-at-end --quiet --record --sync";
+--session-requests 9 --remote-sessions --status 10.0.0.1:9100 --stop-at-end --quiet --record --sync \
+--tenant-limit 10:11:12 --tenant-limit 13=14:15:16";
 
 #[test]
 fn all_options_at_once_are_a_plan(rt: HostRuntime) {
     let address = SocketAddr::V4(SocketAddrV4::new(Ipv4Addr::new(10, 0, 0, 1), 9_100));
+    let mut limits = no_limits();
+    limits.each = limit(10, 11, 12);
+    limits.named[0] = Some(NamedLimit {
+        tenant: 13,
+        limit: limit(14, 15, 16),
+    });
     let want = PeerPlan {
         node: 2,
         wait: 5,
@@ -181,6 +232,7 @@ fn all_options_at_once_are_a_plan(rt: HostRuntime) {
         idle: 8,
         connections: 7,
         session_requests: 9,
+        limits,
         remote_sessions: true,
         stop_at_end: true,
         status: Some(address),
@@ -192,7 +244,7 @@ fn all_options_at_once_are_a_plan(rt: HostRuntime) {
 }
 
 // Each number's first value outside its range, words that are too few, too many, unknown, or given twice, and addresses that are none.
-static REFUSED: [&str; 39] = [
+static REFUSED: [&str; 46] = [
     "gb_peer",
     "gb_peer --node 0 --dir marks",
     "gb_peer --cluster c.toml --dir marks",
@@ -228,6 +280,13 @@ static REFUSED: [&str; 39] = [
     "gb_peer --cluster c.toml --node 0 --dir marks --status ::1:9100",
     "gb_peer --cluster c.toml --node 0 --dir marks --status 127.0.0.1:1 --status 127.0.0.1:2",
     "gb_peer --cluster c.toml --node 0 --dir marks --tick 64",
+    "gb_peer --cluster c.toml --node 0 --dir marks --tenant-limit",
+    "gb_peer --cluster c.toml --node 0 --dir marks --tenant-limit 1:2",
+    "gb_peer --cluster c.toml --node 0 --dir marks --tenant-limit 4000000001:0:0",
+    "gb_peer --cluster c.toml --node 0 --dir marks --tenant-limit 0:0:60001",
+    "gb_peer --cluster c.toml --node 0 --dir marks --tenant-limit 65536=0:0:0",
+    "gb_peer --cluster c.toml --node 0 --dir marks --tenant-limit 1:2:3 --tenant-limit 1:2:3",
+    "gb_peer --cluster c.toml --node 0 --dir marks --tenant-limit 7=1:2:3 --tenant-limit 7=4:5:6",
     "gb_peer --cluster c.toml --node 0 --dir marks 3",
     "gb_peer --version",
     "gb_peer -V",
@@ -252,7 +311,23 @@ fn words_of_a_node_are_refused(rt: HostRuntime) {
     }
 }
 
-static EXPLAINED: [(&str, &str); 8] = [
+static EXPLAINED: [(&str, &str); 12] = [
+    (
+        "gb_peer --cluster c.toml --node 0 --dir marks --tenant-limit 1:2",
+        "error: invalid value '1:2' for '--tenant-limit <LIMIT>': REQUESTS:BYTES:WAITS or TENANT=REQUESTS:BYTES:WAITS is wanted, as 1000:0:64 or 7=100:65536:8, with requests and bytes of 0 to 4000000000, waits of 0 to 60000, and a tenant of 0 to 65535\n\nFor more information, try '--help'.\n",
+    ),
+    (
+        "gb_peer --cluster c.toml --node 0 --dir marks --tenant-limit 1:2:3 --tenant-limit 65536=1:2:3",
+        "error: invalid value '65536=1:2:3' for '--tenant-limit <LIMIT>': REQUESTS:BYTES:WAITS or TENANT=REQUESTS:BYTES:WAITS is wanted, as 1000:0:64 or 7=100:65536:8, with requests and bytes of 0 to 4000000000, waits of 0 to 60000, and a tenant of 0 to 65535\n\nFor more information, try '--help'.\n",
+    ),
+    (
+        "gb_peer --cluster c.toml --node 0 --dir marks --tenant-limit 1:2:3 --tenant-limit 7=8:9:10 --tenant-limit 4:5:6",
+        "error: invalid value '4:5:6' for '--tenant-limit <LIMIT>': the limits of each tenant are given twice\n\nFor more information, try '--help'.\n",
+    ),
+    (
+        "gb_peer --cluster c.toml --node 0 --dir marks --tenant-limit 7=8:9:10 --tenant-limit 1:2:3 --tenant-limit 7=0:0:0",
+        "error: invalid value '7=0:0:0' for '--tenant-limit <LIMIT>': the limits of tenant 7 are given twice\n\nFor more information, try '--help'.\n",
+    ),
     (
         "gb_peer --cluster c.toml --node 32 --dir marks",
         "error: invalid value '32' for '--node <I>': 32 is not in 0..=31\n\nFor more information, try '--help'.\n",
@@ -325,7 +400,7 @@ fn is_asked(alloc: Global, line: &str, want: &str) -> bool {
 }
 
 // What the help has in it.
-static HELP: [&str; 9] = [
+static HELP: [&str; 10] = [
     "\nUsage: gb_peer ",
     "--cluster <FILE>",
     "--node <I>",
@@ -333,6 +408,7 @@ static HELP: [&str; 9] = [
     "--wait <SECONDS>",
     "--remote-sessions",
     "--status <ADDR>",
+    "--tenant-limit <LIMIT>",
     "Exit status: 0 ",
     "gb_peer --cluster cluster.toml --node 0 --dir marks < keys",
 ];

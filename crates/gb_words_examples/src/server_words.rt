@@ -1,6 +1,6 @@
 //! Worked words, the plans that they are, and what is said of words that are refused.
 use gb_serve_words::words::{asked_text, read_words, refusal_text};
-use gb_serve_words::{ServePlan, WordFault};
+use gb_serve_words::{NamedLimit, ServePlan, TenantLimit, TenantLimits, WordFault};
 use gb_types::Version;
 use std::alloc::{AllocError, Global};
 use std::net::{Ipv4Addr, Ipv6Addr, SocketAddr, SocketAddrV4, SocketAddrV6};
@@ -16,6 +16,23 @@ fn read(alloc: Global, line: &str) -> Result<ServePlan, WordFault> {
     match read_words(alloc, &words) {
         Ok(read) => Ok(read.plan),
         Err(fault) => Err(fault),
+    }
+}
+
+// The limits of tenants if the words give none.
+fn no_limits() -> TenantLimits {
+    TenantLimits {
+        each: limit(0, 0, 0),
+        named: [None; 16],
+    }
+}
+
+// Limits of a tenant.
+fn limit(requests: u32, bytes: u32, waits: u16) -> TenantLimit {
+    TenantLimit {
+        requests,
+        bytes,
+        waits,
     }
 }
 
@@ -162,6 +179,7 @@ fn words_are_plans(rt: HostRuntime) {
             idle: 300,
             connections: 1_024,
             session_requests: 0,
+            limits: no_limits(),
             tape: *tape,
             stop_at_end: false,
             status: None,
@@ -234,6 +252,7 @@ fn words_say_how_loops_behave(rt: HostRuntime) {
             idle: *idle,
             connections: *connections,
             session_requests: *session_requests,
+            limits: no_limits(),
             tape: false,
             stop_at_end: false,
             status: None,
@@ -351,8 +370,92 @@ fn words_say_where_records_are_kept(rt: HostRuntime) {
     }
 }
 
+// The limits of the options at a place of the list below.
+fn wanted_limits(place: usize) -> TenantLimits {
+    let mut limits = no_limits();
+    match place {
+        1 => limits.each = limit(1_000, 0, 64),
+        2 => limits.each = limit(4_000_000_000, 4_000_000_000, 60_000),
+        3 => limits.named[0] = Some(row(7, limit(100, 65_536, 8))),
+        4 => {
+            limits.each = limit(1, 2, 3);
+            limits.named[0] = Some(row(65_535, limit(4_000_000_000, 0, 0)));
+            limits.named[1] = Some(row(0, limit(0, 4_000_000_000, 60_000)));
+        }
+        _ => {}
+    }
+    limits
+}
+
+// A tenant with limits of its own.
+fn row(tenant: u16, limit: TenantLimit) -> NamedLimit {
+    NamedLimit { tenant, limit }
+}
+
+// Options with limits of tenants.
+static LIMITS: [&str; 6] = [
+    "--quiet",
+    "--tenant-limit 1000:0:64",
+    "--tenant-limit=4000000000:4000000000:60000",
+    "--tenant-limit 7=100:65536:8",
+    "--tenant-limit 65535=4000000000:0:0 --tenant-limit 1:2:3 --quiet --tenant-limit=0=0:4000000000:60000",
+    "--tenant-limit 0:0:0",
+];
+
+#[test]
+fn words_limit_what_tenants_may_ask(rt: HostRuntime) {
+    let alloc = rt.alloc();
+    for (place, options) in LIMITS.iter().enumerate() {
+        let line = format!(in alloc; "gb_serve --nodes 1 --base-port 1024 {options}").unwrap();
+        let found = read(alloc, &line);
+        let want = wanted_limits(place);
+        assert!(rt; matches!(found, Ok(plan) if plan.limits == want), "{line}");
+    }
+}
+
+// Returns options that give `count` tenants limits of their own, from the greatest number on: TENANT=TENANT:1:2.
+fn many_limits(alloc: Global, count: u16) -> Result<String, AllocError> {
+    let mut options = String::new(alloc);
+    for place in 0..count {
+        let tenant = count - 1 - place;
+        let option = format!(in alloc; " --tenant-limit {tenant}={tenant}:1:2")?;
+        options.push_str(&option)?;
+    }
+    Ok(options)
+}
+
+// Returns the limits that the words of a line give.
+fn limits_of_line(alloc: Global, line: &str) -> Result<TenantLimits, WordFault> {
+    Ok(read(alloc, line)?.limits)
+}
+
+#[test]
+fn sixteen_tenants_have_limits_of_their_own(rt: HostRuntime) {
+    let alloc = rt.alloc();
+    let sixteen = many_limits(alloc, 16).unwrap();
+    let mut want = no_limits();
+    for place in 0..16_usize {
+        let tenant = 15 - place as u16;
+        want.named[place] = Some(row(tenant, limit(tenant as u32, 1, 2)));
+    }
+    let alone = format!(in alloc; "gb_serve --nodes 1 --base-port 1024{sixteen}").unwrap();
+    assert!(rt; limits_of_line(alloc, &alone) == Ok(want));
+    want.each = limit(5, 6, 7);
+    let with_each = format!(in alloc; "{alone} --tenant-limit 5:6:7").unwrap();
+    assert!(rt; limits_of_line(alloc, &with_each) == Ok(want));
+    let seventeen = format!(in alloc; "{alone} --tenant-limit 16=0:0:0").unwrap();
+    assert!(rt; limits_of_line(alloc, &seventeen) == Err(WordFault::Refused));
+    assert!(rt;
+        is_said(
+            alloc,
+            &seventeen,
+            "error: invalid value '16=0:0:0' for '--tenant-limit <LIMIT>': at most 16 tenants can have limits of their own\n\nFor more information, try '--help'.\n"
+        )
+    );
+}
+
 // Each number's first value outside its range, words that are too few, too many, unknown, or given twice.
-static REFUSED: [&str; 62] = [
+static REFUSED: [&str; 89] = [
     "gb_serve ",
     "gb_serve --nodes 2",
     "gb_serve --base-port 42000",
@@ -413,6 +516,33 @@ static REFUSED: [&str; 62] = [
     "gb_serve --nodes 2 --base-port 42000 --dir=",
     "gb_serve --nodes 2 --base-port 42000 --dir= --record",
     "gb_serve --nodes 2 --base-port 42000 --dir  --record --sync",
+    "gb_serve --nodes 2 --base-port 42000 --tenant-limit",
+    "gb_serve --nodes 2 --base-port 42000 --tenant-limit=",
+    "gb_serve --nodes 2 --base-port 42000 --tenant-limit 1",
+    "gb_serve --nodes 2 --base-port 42000 --tenant-limit 1:2",
+    "gb_serve --nodes 2 --base-port 42000 --tenant-limit 1:2:3:4",
+    "gb_serve --nodes 2 --base-port 42000 --tenant-limit 1:2:",
+    "gb_serve --nodes 2 --base-port 42000 --tenant-limit :2:3",
+    "gb_serve --nodes 2 --base-port 42000 --tenant-limit 1::3",
+    "gb_serve --nodes 2 --base-port 42000 --tenant-limit 1:2:3=4",
+    "gb_serve --nodes 2 --base-port 42000 --tenant-limit 1=2",
+    "gb_serve --nodes 2 --base-port 42000 --tenant-limit =1:2:3",
+    "gb_serve --nodes 2 --base-port 42000 --tenant-limit 7=",
+    "gb_serve --nodes 2 --base-port 42000 --tenant-limit 7=8=1:2:3",
+    "gb_serve --nodes 2 --base-port 42000 --tenant-limit 4000000001:0:0",
+    "gb_serve --nodes 2 --base-port 42000 --tenant-limit 0:4000000001:0",
+    "gb_serve --nodes 2 --base-port 42000 --tenant-limit 0:0:60001",
+    "gb_serve --nodes 2 --base-port 42000 --tenant-limit 65536=1:2:3",
+    "gb_serve --nodes 2 --base-port 42000 --tenant-limit 7=4000000001:0:0",
+    "gb_serve --nodes 2 --base-port 42000 --tenant-limit 01:2:3",
+    "gb_serve --nodes 2 --base-port 42000 --tenant-limit +1:2:3",
+    "gb_serve --nodes 2 --base-port 42000 --tenant-limit -1:2:3",
+    "gb_serve --nodes 2 --base-port 42000 --tenant-limit 1:2:99999999999999999999",
+    "gb_serve --nodes 2 --base-port 42000 --tenant-limit 1:2:3,7=1:2:3",
+    "gb_serve --nodes 2 --base-port 42000 --tenant-limit 1:2:3 --tenant-limit 4:5:6",
+    "gb_serve --nodes 2 --base-port 42000 --tenant-limit 0:0:0 --tenant-limit 0:0:0",
+    "gb_serve --nodes 2 --base-port 42000 --tenant-limit 7=1:2:3 --tenant-limit 7=1:2:3",
+    "gb_serve --nodes 2 --base-port 42000 --tenant-limit 7=1:2:3 --tenant-limit 8=1:2:3 --tenant-limit 7=4:5:6",
     "gb_serve --nodes 2 --base-port 42000 3",
     "gb_serve --help",
 ];
@@ -425,7 +555,23 @@ fn words_are_refused(rt: HostRuntime) {
     }
 }
 
-static EXPLAINED: [(&str, &str); 14] = [
+static EXPLAINED: [(&str, &str); 18] = [
+    (
+        "gb_serve --nodes 2 --base-port 42000 --tenant-limit 1:2",
+        "error: invalid value '1:2' for '--tenant-limit <LIMIT>': REQUESTS:BYTES:WAITS or TENANT=REQUESTS:BYTES:WAITS is wanted, as 1000:0:64 or 7=100:65536:8, with requests and bytes of 0 to 4000000000, waits of 0 to 60000, and a tenant of 0 to 65535\n\nFor more information, try '--help'.\n",
+    ),
+    (
+        "gb_serve --nodes 2 --base-port 42000 --tenant-limit 1:2:3 --tenant-limit 65536=1:2:3",
+        "error: invalid value '65536=1:2:3' for '--tenant-limit <LIMIT>': REQUESTS:BYTES:WAITS or TENANT=REQUESTS:BYTES:WAITS is wanted, as 1000:0:64 or 7=100:65536:8, with requests and bytes of 0 to 4000000000, waits of 0 to 60000, and a tenant of 0 to 65535\n\nFor more information, try '--help'.\n",
+    ),
+    (
+        "gb_serve --nodes 2 --base-port 42000 --tenant-limit 1:2:3 --tenant-limit 7=8:9:10 --tenant-limit 4:5:6",
+        "error: invalid value '4:5:6' for '--tenant-limit <LIMIT>': the limits of each tenant are given twice\n\nFor more information, try '--help'.\n",
+    ),
+    (
+        "gb_serve --nodes 2 --base-port 42000 --tenant-limit 7=8:9:10 --tenant-limit 1:2:3 --tenant-limit 7=0:0:0",
+        "error: invalid value '7=0:0:0' for '--tenant-limit <LIMIT>': the limits of tenant 7 are given twice\n\nFor more information, try '--help'.\n",
+    ),
     (
         "gb_serve --nodes 33 --base-port 42000",
         "error: invalid value '33' for '--nodes <N>': 33 is not in 1..=32\n\nFor more information, try '--help'.\n",
@@ -537,6 +683,8 @@ fn help_and_version_are_asked_for(rt: HostRuntime) {
     assert!(rt; has_line(&help, "--status <ADDR>") && has_line(&help, "--quiet"));
     assert!(rt; has_line(&help, "items that name generations; 3 if not given"));
     assert!(rt; has_line(&help, "0: never; 300 if not given"));
+    assert!(rt; has_line(&help, "--tenant-limit <LIMIT>"));
+    assert!(rt; has_line(&help, "TENANT=REQUESTS:BYTES:WAITS is for one tenant"));
     assert!(rt;
         has_line(
             &help,

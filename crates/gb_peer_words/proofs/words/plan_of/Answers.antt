@@ -36,6 +36,7 @@ returns c =
         idle = c.unwrap_or-3.ensures ∙ ap (λ (o : Option ℕ). unwrap_or o IDLE) idle.0;
         connections = c.unwrap_or-4.ensures ∙ ap (λ (o : Option ℕ). unwrap_or o CONNECTIONS) connections.0;
         session_requests = c.unwrap_or-5.ensures ∙ ap (λ (o : Option ℕ). unwrap_or o 0) requests.0;
+        limits = c.requires.limits;
         remote_sessions = reads_flag f (codes "remote-sessions") c.get_flag-remote_sessions.result c.requires.given.remote_sessions c.get_flag-remote_sessions.ensures.none c.get_flag-remote_sessions.ensures.value c.get_flag-remote_sessions.ensures.other;
         stop_at_end = reads_flag f (codes "stop-at-end") c.get_flag-stop_at_end.result c.requires.given.stop_at_end c.get_flag-stop_at_end.ensures.none c.get_flag-stop_at_end.ensures.value c.get_flag-stop_at_end.ensures.other;
         status = c.requires.address;
@@ -50,5 +51,6 @@ returns c =
         idle = rw c.unwrap_or-3.ensures (within_or 0 MOST_IDLE IDLE c.get_one-idle.result (omega arith) (omega arith) idle.1).1;
         connections = rw c.unwrap_or-4.ensures (within_or 1 MOST_CONNECTIONS CONNECTIONS c.get_one-connections.result (omega arith) (omega arith) connections.1);
         session_requests = rw c.unwrap_or-5.ensures (within_or 0 MOST_REQUESTS 0 c.get_one-requests.result (omega arith) (omega arith) requests.1).1;
+        limits = c.requires.bounds;
       };
     }

@@ -27,6 +27,9 @@ returns-clause-read c =
 pub returns-in_err-status-clause-none : goal.returns-in_err-status-clause-none
 returns-in_err-status-clause-none c = rw c.from_residual.ensures (λ can. c.in_err-status.ensures.none can.status)
 
+pub returns-in_err-limits-clause-none : goal.returns-in_err-limits-clause-none
+returns-in_err-limits-clause-none c = rw c.from_residual-in_err-limits.ensures (λ can. c.in_err-limits.ensures.none can.limits)
+
 pub returns-then-not-may_sync-clause-none : goal.returns-then-not-may_sync-clause-none
 returns-then-not-may_sync-clause-none c = λ can.
     let plan = c.plan_of-plan.ensures.read in
