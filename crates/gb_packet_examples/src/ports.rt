@@ -1,8 +1,11 @@
 //! Worked ports.
+ghost use Rattle.std.specs.Prelude.{◌≤◌};
+
 use gb_port::mesh::SLOTS;
 use gb_port::{BindFault, FailAt, Port, PortFault, RingPort, UdpPort};
 use gb_types::{NodeId, OutOfMemory};
 use std::alloc::Global;
+use std::net::{Ipv4Addr, Net, SocketAddr, SocketAddrV4, UdpSocket};
 use std::process::Abort;
 use std::test::Fail;
 use std::thread;
@@ -295,4 +298,152 @@ fn packets_cross_sockets(rt: HostRuntime) -> Result<(), Fail> {
     talk(&rt, &rt, &mut a, &mut b)?;
     fail(&rt, &rt, &a, &mut b)?;
     Ok(())
+}
+
+// Returns this port of the address 127.0.0.1.
+fn place(port: u16) -> SocketAddr {
+    SocketAddr::V4(SocketAddrV4::new(Ipv4Addr::new(127, 0, 0, 1), port))
+}
+
+// Sends a datagram from a socket, this number of times. Returns true if the system took each.
+fn is_flooded(socket: &UdpSocket, to: u16, count: usize) -> bool {
+    let mut are_taken = true;
+    for _ in 0..count {
+        are_taken = socket.send_to(b"junk", place(to)).is_ok() && are_taken;
+    }
+    are_taken
+}
+
+// Returns what is received in this number of calls, as `seen` has it, one call after the other.
+fn received_all(alloc: Global, port: &mut UdpPort, calls: usize) -> Result<Vec<u8>, OutOfMemory> {
+    let mut all = Vec::new(alloc);
+    for _ in 0..calls {
+        all.push(received(port))?;
+    }
+    Ok(all)
+}
+
+// A port of node 0 of three, with an own socket for each other one. It reads a socket only after `wake` if it is watched.
+fn parted<N: Net>(rt: &N, alloc: Global, base: u16, is_watched: bool) -> Option<UdpPort>
+    requires { (1 ≤ base) × (base ≤ 65000) }
+{
+    let mut port = UdpPort::bind_loopback(rt, alloc, NodeId::new(0), 3, base).ok()?;
+    port.part().ok()?;
+    port.widen();
+    if is_watched {
+        let fds = [
+            port.watch(0).is_some(),
+            port.watch(1).is_some(),
+            port.watch(2).is_some(),
+        ];
+        if fds != [true; 3] || port.watch(3).is_some() {
+            return None;
+        }
+    }
+    Some(port)
+}
+
+// What a port returns of 20 datagrams of a stranger and one of node 1, which came last: the node's first, and of the stranger all if no
+// source is watched.
+const OF_STRANGERS: &[u8] = b"1jjjjjjjjjjjjjjjjjjjj..";
+
+#[test]
+fn strangers_are_read_last(rt: HostRuntime) -> Result<(), Fail> {
+    let mut port = parted(&rt, rt.alloc(), 47_400, false).expect(&rt, "node 0's sockets");
+    let stranger = UdpSocket::bind(&rt, place(0))?;
+    let node = UdpSocket::bind(&rt, place(47_401))?;
+    assert!(rt; is_flooded(&stranger, 47_400, 20));
+    assert!(rt; node.send_to(b"1 packet", place(47_400)).is_ok());
+    let all = received_all(rt.alloc(), &mut port, 23)?;
+    assert!(rt; all.as_slice() == OF_STRANGERS);
+    assert!(rt; port.news().strangers == 20 && port.sockets().own == 2);
+    Ok(())
+}
+
+// A node without an own socket is no stranger: its packets come by the socket of all, as many in a row as there are.
+#[test]
+fn a_node_without_a_socket_is_no_stranger(rt: HostRuntime) -> Result<(), Fail> {
+    let mut port = UdpPort::bind_loopback(&rt, rt.alloc(), NodeId::new(0), 3, 47_450).expect(
+        &rt,
+        "node 0's socket",
+    );
+    assert!(rt; port.watch(0).is_some() && port.watch(1).is_none());
+    let node = UdpSocket::bind(&rt, place(47_451))?;
+    for _ in 0..20 {
+        assert!(rt; node.send_to(b"1 packet", place(47_450)).is_ok());
+    }
+    port.wake(0);
+    let all = received_all(rt.alloc(), &mut port, 21)?;
+    assert!(rt; all.as_slice() == b"11111111111111111111.".as_slice());
+    assert!(rt; port.news().strangers == 0 && port.news().from == Some(NodeId::new(1)));
+    Ok(())
+}
+
+#[test]
+fn a_full_buffer_of_strangers_keeps_no_packet_out(rt: HostRuntime) -> Result<(), Fail> {
+    let mut port = parted(&rt, rt.alloc(), 47_410, false).expect(&rt, "node 0's sockets");
+    port.refuse_strangers();
+    let stranger = UdpSocket::bind(&rt, place(0))?;
+    let node = UdpSocket::bind(&rt, place(47_411))?;
+    // More than a buffer of 4 MiB has: the system counts each as some 700 bytes and more.
+    assert!(rt; is_flooded(&stranger, 47_410, 20_000));
+    assert!(rt; node.send_to(b"1 packet", place(47_410)).is_ok());
+    assert!(rt; received(&mut port) == b'1');
+    assert!(rt; port.news().strangers == 0);
+    // Strangers are lost, eight in a call.
+    assert!(rt; received(&mut port) == b'.' && received(&mut port) == b'.');
+    assert!(rt; port.news().strangers == 16 && port.failures() == 0);
+    Ok(())
+}
+
+#[test]
+fn a_watched_source_is_read_after_it_was_woken_and_few_of_strangers(
+    rt: HostRuntime,
+) -> Result<(), Fail> {
+    let mut port = parted(&rt, rt.alloc(), 47_420, true).expect(&rt, "node 0's sockets");
+    let node = UdpSocket::bind(&rt, place(47_421))?;
+    let stranger = UdpSocket::bind(&rt, place(0))?;
+    let mut told = [0u8; 7];
+    told[0] = received(&mut port);
+    assert!(rt; node.send_to(b"1", place(47_420)).is_ok() && is_flooded(&stranger, 47_420, 10));
+    told[1] = received(&mut port);
+    port.wake(1);
+    told[2] = received(&mut port);
+    told[3] = received(&mut port);
+    port.wake(0);
+    let all = received_all(rt.alloc(), &mut port, 10)?;
+    let (has_more, strangers) = (port.news().has_more, port.news().strangers);
+    port.wake(0);
+    told[4] = received(&mut port);
+    told[5] = received(&mut port);
+    told[6] = received(&mut port);
+    let is_over = !port.news().has_more;
+    assert!(rt; told == *b"..1.jj." && all.as_slice() == b"jjjjjjjj..".as_slice());
+    assert!(rt; has_more && strangers == 8 && is_over);
+    Ok(())
+}
+
+// A packet to a node that is not up is a lost packet: the port goes on, and counts what the system says.
+#[test]
+fn a_node_that_is_not_up_is_no_fault(rt: HostRuntime) -> Result<(), Fail> {
+    let mut port = parted(&rt, rt.alloc(), 47_430, false).expect(&rt, "node 0's sockets");
+    for _ in 0..3 {
+        assert!(rt; sent(&mut port, NodeId::new(2), b"to nobody") == b'+');
+        assert!(rt; received(&mut port) == b'.');
+    }
+    assert!(rt; port.failures() == 0 && port.news().unreached == 3);
+    let late = UdpSocket::bind(&rt, place(47_432))?;
+    assert!(rt; sent(&mut port, NodeId::new(2), b"to a node") == b'+');
+    assert!(rt; late.send_to(b"2 packet", place(47_430)).is_ok());
+    assert!(rt; received(&mut port) == b'2' && port.news().from == Some(NodeId::new(2)));
+    Ok(())
+}
+
+// While a node has its sockets nobody else gets one at its address.
+#[test]
+fn an_address_is_no_longer_shared(rt: HostRuntime) {
+    let port = parted(&rt, rt.alloc(), 47_440, false);
+    assert!(rt; port.is_some());
+    let other = UdpPort::bind_loopback(&rt, rt.alloc(), NodeId::new(0), 3, 47_440);
+    assert!(rt; other.is_err());
 }

@@ -1,9 +1,11 @@
-//! A port over UDP, which knows the address of each node.
+//! A port over UDP, which knows the address of each node. Each other node can have a socket of its own, so that strangers do not fill the
+//! buffer in which its packets wait.
 ghost use Rattle.std.specs.Prelude.{◌≡◌, ◌+◌, ◌<◌, ◌≤◌, ◌^◌, IfOk, IfSome, OnOk, OnErr, vec_len};
 ghost use Rattle.gb_types.specs.declared.limits.TheConstants.{NODES, PACKET};
-ghost use Rattle.gb_port.specs.UdpPorts.{AreLoopback, IsLoopback, IsSamePort};
+ghost use Rattle.gb_port.specs.UdpPorts.{AreLoopback, IsLoopback, IsRestWithin, IsSamePort};
 
-use crate::port::{Port, PortFault, failed};
+use crate::port::{Port, PortFault, PortNews, failed};
+use crate::source::{Reading, Source};
 use gb_types::limits::{NODES, PACKET};
 use gb_types::{NodeId, OutOfMemory};
 use std::alloc::{AllocError, Global};
@@ -11,7 +13,7 @@ use std::io;
 use std::io::ErrorKind;
 use std::marker::Model;
 use std::net::{Ipv4Addr, Net, SocketAddr, SocketAddrV4, UdpSocket};
-use std::os::fd::{AsRawFd, RawFd};
+use std::os::fd::RawFd;
 use thiserror::Error;
 
 /// The bytes of the buffer for a received packet: those of the longest packet and one more. A longer datagram is cut to this
@@ -52,25 +54,60 @@ impl From<AllocError> for BindFault {
     }
 }
 
-/// A node's socket, and where the packets of each node go.
+/// How many datagrams from no node's address are read in a row, until `recv` answers that there is none.
+pub const STRANGERS: usize = 8;
+
+/// After so many packets in a row from own sockets of nodes that socket is looked at first, once.
+pub const ROW: usize = 56;
+
+const _: () = prove!(STRANGERS == 8 && ROW == 56);
+
+/// What a port has of the system: how many other nodes have an own socket, of how many other nodes, and how many bytes of datagrams that
+/// were not read yet are kept at each socket at least; 0 if the system does not say, or was not asked.
+#[derive(Clone, Copy, Debug, PartialEq, Eq)]
+pub struct PortSockets {
+    pub own: u64,
+    pub others: u64,
+    pub buffer: u64,
+}
+
+/// A node's sockets, and where the packets of each node go.
 pub struct UdpPort {
-    socket: UdpSocket,
+    // Anybody may send to it.
+    all: Source,
+    // By the number of a node: only that node can send to it.
+    own: Vec<Option<Source>>,
     space: Vec<u8>,
     me: NodeId,
     // The address of each node, by its number.
     places: Vec<SocketAddr>,
     failures: u64,
+    // The number of the own socket that is looked at first.
+    next: usize,
+    // How many packets in a row came from own sockets, and how many more in a row may come from the other one.
+    row: usize,
+    left: usize,
+    takes_strangers: bool,
+    sockets: PortSockets,
+    news: PortNews,
 }
 
 // Not derived: a derived `Drop` is proved anew in each crate that drops one.
 impl Drop for UdpPort {
     fn drop(self) {
         let UdpPort {
-            socket: _,
+            all: _,
+            own: _,
             space: _,
             me: _,
             places: _,
             failures: _,
+            next: _,
+            row: _,
+            left: _,
+            takes_strangers: _,
+            sockets: _,
+            news: _,
         } = self;
     }
 }
@@ -115,10 +152,22 @@ fn bound<R: Net>(rt: &R, address: SocketAddr) -> io::Result<UdpSocket> {
     Ok(socket)
 }
 
+// Returns the node whose address this is.
+fn node_at(places: &[SocketAddr], address: SocketAddr) -> Option<NodeId> {
+    let mut number = 0u8;
+    for place in places {
+        if *place == address {
+            return NodeId::from_number(number);
+        }
+        number = number.saturating_add(1);
+    }
+    None
+}
+
 impl UdpPort {
-    /// Binds a UDP socket at the address of node `me`, and returns a port over it. `places` are the addresses of all nodes, by
-    /// number. `Err` with `Port` if the system does not bind it, and with `OutOfMemory` if memory is refused; then no socket is
-    /// left.
+    /// Binds a UDP socket at the address of node `me`, and returns a port over it, to which anybody may send. `places` are the addresses
+    /// of all nodes, by number. `Err` with `Port` if the system does not bind it, and with `OutOfMemory` if memory is refused; then no
+    /// socket is left.
     pub fn bind<R: Net>(
         rt: &R,
         alloc: Global,
@@ -129,15 +178,28 @@ impl UdpPort {
         ensures { IfOk result (λ port. port ≡ record { me = me.number; places = places.items; failures = 0 }) }
     {
         let space = vec![in alloc; 0u8; SPACE]?;
+        let own = Vec::with_capacity(alloc, places.len())?;
         let Ok(socket) = bound(rt, places[me.index()]) else {
             return Err(BindFault::Port);
         };
+        let sockets = PortSockets {
+            own: 0,
+            others: places.len() as u64 - 1,
+            buffer: 0,
+        };
         Ok(UdpPort {
-            socket,
+            all: Source::new(socket, false),
+            own,
             space,
             me,
             places,
             failures: 0,
+            next: 0,
+            row: 0,
+            left: STRANGERS,
+            takes_strangers: true,
+            sockets,
+            news: PortNews::new(),
         })
     }
 
@@ -160,9 +222,199 @@ impl UdpPort {
 }
 
 impl UdpPort {
-    /// Returns the file descriptor of the socket, so that a caller can wait until a datagram comes.
-    pub fn raw_fd(&self) -> RawFd {
-        self.socket.as_raw_fd()
+    // Returns an own socket for the node at an index, if it is another one and the system gives one.
+    fn own_source(&self, at: usize) -> Option<Source> {
+        let place = self.places.get(at).copied()?;
+        if at == self.me.index() {
+            return None;
+        }
+        self.all.connected(place)
+    }
+
+    // Sets whether other sockets may be bound at the node's address.
+    fn share(&self, is_shared: bool) {
+        self.all.share(is_shared);
+        for source in self.own.iter() {
+            if let Some(source) = source {
+                source.share(is_shared);
+            }
+        }
+    }
+
+    // Opens the own sockets, while the node's address is shared.
+    fn open_own(&mut self) -> Result<(), OutOfMemory>
+        ensures { self.new ≡ self.old }
+    {
+        self.own.clear();
+        self.sockets.own = 0;
+        for at in 0..self.places.len() {
+            let source = self.own_source(at);
+            if source.is_some() {
+                self.sockets.own = self.sockets.own.saturating_add(1);
+            }
+            self.own.push(source)?;
+        }
+        Ok(())
+    }
+
+    /// Takes a socket for each other node, to which only that node's address can send, as far as the system gives them. The packets of
+    /// a node without one come to the socket of all. `Err` if memory is refused. Until it returns, other programs of this machine can bind
+    /// the node's address too.
+    pub fn part(&mut self) -> Result<(), OutOfMemory>
+        ensures { self.new ≡ self.old }
+    {
+        self.share(true);
+        let opened = self.open_own();
+        self.share(false);
+        opened
+    }
+
+    /// Asks the system to keep 4 MiB of datagrams that were not read yet at each socket. It may give less.
+    pub fn widen(&mut self)
+        ensures { self.new ≡ self.old }
+    {
+        let mut least = self.all.widen();
+        for source in self.own.iter() {
+            if let Some(source) = source {
+                least = least.min(source.widen());
+            }
+        }
+        self.sockets.buffer = least;
+    }
+
+    /// Loses what comes from no node's address from now on. Until then it is returned by `recv`.
+    pub fn refuse_strangers(&mut self)
+        ensures { self.new ≡ self.old }
+    {
+        self.takes_strangers = false;
+    }
+
+    /// Returns what the port has of the system.
+    pub fn sockets(&self) -> PortSockets {
+        self.sockets
+    }
+}
+
+// The system failed while a socket was read.
+#[derive(Drop)]
+struct Unread;
+
+// What reading the socket of all gave: a packet of this length, a datagram that is lost since it came from a stranger, or nothing.
+#[derive(Drop)]
+enum Rest {
+    Packet(usize),
+    Lost,
+    Nothing,
+}
+
+impl UdpPort {
+    // Reads the own socket of a node into the space. Returns the length of what came.
+    fn read_own(&mut self, at: usize) -> Option<usize>
+        ensures same { self.new ≡ self.old }
+        ensures within { IfSome result (λ count. count ≤ SPACE) }
+    {
+        let source = match self.own.get_mut(at) {
+            Some(Some(source)) => source,
+            _ => return None,
+        };
+        if !source.may_have() {
+            return None;
+        }
+        match source.take(&mut self.space, &mut self.news.unreached) {
+            Reading::Datagram { count, from } => {
+                self.news.from = node_at(&self.places, from);
+                Some(count)
+            }
+            _ => None,
+        }
+    }
+
+    // Reads the own sockets in turn.
+    fn read_nodes(&mut self) -> Option<usize>
+        ensures same { self.new ≡ self.old }
+        ensures within { IfSome result (λ count. count ≤ SPACE) }
+    {
+        let nodes = self.own.len();
+        for step in 0..nodes {
+            let at = self.next.saturating_add(step) % nodes;
+            if let Some(count) = self.read_own(at) {
+                self.next = at + 1;
+                self.row = self.row.saturating_add(1);
+                return Some(count);
+            }
+        }
+        None
+    }
+
+    // Reads the socket of all once into the space.
+    fn read_all(&mut self) -> Result<Rest, Unread>
+        ensures same { self.new ≡ self.old }
+        ensures within { IfOk result (IsRestWithin SPACE) }
+    {
+        let mut unreached = 0;
+        match self.all.take(&mut self.space, &mut unreached) {
+            Reading::Datagram { count, from } => {
+                self.news.from = node_at(&self.places, from);
+                if self.news.from.is_some() {
+                    return Ok(Rest::Packet(count));
+                }
+                self.left = self.left.saturating_sub(1);
+                self.news.strangers = self.news.strangers.saturating_add(1);
+                if self.takes_strangers {
+                    Ok(Rest::Packet(count))
+                } else {
+                    Ok(Rest::Lost)
+                }
+            }
+            Reading::Nothing => Ok(Rest::Nothing),
+            Reading::Failed => Err(Unread),
+        }
+    }
+
+    // Reads the socket of all until something is to be returned, while more of strangers may be taken in a row.
+    fn read_rest(&mut self) -> Result<Option<usize>, Unread>
+        ensures same { self.new ≡ self.old }
+        ensures within { IfOk result (λ answer. IfSome answer (λ count. count ≤ SPACE)) }
+    {
+        for _ in 0..STRANGERS {
+            if !self.all.may_have() {
+                return Ok(None);
+            }
+            if self.left == 0 && self.all.is_watched() {
+                break;
+            }
+            match self.read_all()? {
+                Rest::Packet(count) => return Ok(Some(count)),
+                Rest::Lost => {}
+                Rest::Nothing => return Ok(None),
+            }
+        }
+        self.all.rest();
+        self.news.has_more = true;
+        Ok(None)
+    }
+
+    // Reads the next datagram into the space: those of own sockets first, and of the socket of all where its turn has come.
+    fn read(&mut self) -> Result<Option<usize>, Unread>
+        ensures same { self.new ≡ self.old }
+        ensures within { IfOk result (λ answer. IfSome answer (λ count. count ≤ SPACE)) }
+    {
+        if self.row >= ROW {
+            self.row = 0;
+            self.left = STRANGERS;
+            if let Some(count) = self.read_rest()? {
+                return Ok(Some(count));
+            }
+        }
+        if let Some(count) = self.read_nodes() {
+            return Ok(Some(count));
+        }
+        self.row = 0;
+        let rest = self.read_rest()?;
+        if rest.is_none() {
+            self.left = STRANGERS;
+        }
+        Ok(rest)
     }
 }
 
@@ -183,7 +435,7 @@ impl Port for UdpPort {
         let Some(place) = self.places.get(to.index()).copied() else {
             return failed(&mut self.failures, PortFault::Device, false);
         };
-        match self.socket.send_to(bytes, place) {
+        match self.all.send_to(bytes, place) {
             Ok(count) if count == bytes.len() => Ok(true),
             Ok(_) => failed(&mut self.failures, PortFault::Device, false),
             Err(error) => match error.kind() {
@@ -193,22 +445,19 @@ impl Port for UdpPort {
         }
     }
 
-    /// Returns the next datagram that came, cut to `SPACE` bytes. `None` if there is none. `Err` with `Device` if the system
-    /// failed, and with `OutOfMemory` if memory is refused; then the datagram is lost.
+    /// Returns the next datagram that came, cut to `SPACE` bytes: those of nodes with an own socket first, in turn, and then those of the
+    /// socket of all. If that one is watched, at most 8 from no node's address are read in a row. `None` if there is none. `Err` with `Device` if the system failed, and with
+    /// `OutOfMemory` if memory is refused; then the datagram is lost.
     fn recv(&mut self) -> Result<Option<Vec<u8>>, PortFault>
         ensures fault { OnErr result (self.new.failures ≡ self.old.failures + 1) }
         ensures well { OnOk result (self.new.failures ≡ self.old.failures) }
         ensures is { IsSamePort self.old self.new }
         ensures short { IfOk result (λ answer. IfSome answer (λ packet. vec_len packet ≤ PACKET + 1)) }
     {
-        let count = match self.socket.recv_from(&mut self.space) {
-            Ok((count, _)) => count,
-            Err(error) => {
-                return match error.kind() {
-                    ErrorKind::WouldBlock => Ok(None),
-                    _ => failed(&mut self.failures, PortFault::Device, None),
-                };
-            }
+        let count = match self.read() {
+            Ok(Some(count)) => count,
+            Ok(None) => return Ok(None),
+            Err(_) => return failed(&mut self.failures, PortFault::Device, None),
         };
         match Vec::from_slice(*self.space.allocator(), &self.space[..count]) {
             Ok(packet) => Ok(Some(packet)),
@@ -220,5 +469,33 @@ impl Port for UdpPort {
         ensures { result ≡ self.now.failures }
     {
         self.failures
+    }
+
+    /// Returns the descriptor of a source: the own socket of the node with this number, or the socket of all at the port's own number.
+    fn watch(&mut self, source: u8) -> Option<RawFd>
+        ensures same { self.new ≡ self.old }
+    {
+        if source == self.me.number {
+            return Some(self.all.watch());
+        }
+        match self.own.get_mut(usize::from(source)) {
+            Some(Some(own)) => Some(own.watch()),
+            _ => None,
+        }
+    }
+
+    fn wake(&mut self, source: u8)
+        ensures same { self.new ≡ self.old }
+    {
+        if source == self.me.number {
+            self.news.has_more = false;
+            self.all.wake();
+        } else if let Some(Some(own)) = self.own.get_mut(usize::from(source)) {
+            own.wake();
+        }
+    }
+
+    fn news(&self) -> PortNews {
+        self.news
     }
 }

@@ -1,14 +1,16 @@
 //! A port whose packets leave once an entry that sent them was written.
 ghost use Rattle.std.specs.Prelude.{◌≡◌, ◌+◌, ◌-◌, ◌<◌, ◌^◌, true, false, None, IfOk, IfErr, OnOk, OnErr};
+ghost use mathlib.Core.List.{IsPrefix};
 ghost use Rattle.gb_record.specs.Handed.{IsGivenOn, ReceivesStill, SendsWritten};
 ghost use Rattle.gb_record.specs.Recorded.{is_sent};
 
 use crate::name::RecordName;
 use crate::shared::SharedRecording;
 use gb_host::{NodeSeen, Tapes};
-use gb_port::{Port, PortFault};
+use gb_port::{Port, PortFault, PortNews};
 use gb_types::NodeId;
 use std::io::Write;
+use std::os::fd::RawFd;
 
 /// A port round a node's port. Before a packet is handed on, all that was noted at the node is written; a packet that no entry sent
 /// which was written since the last send is lost, and counted as a failure of the device. So is each packet after a fault of the
@@ -16,12 +18,29 @@ use std::io::Write;
 #[derive(Drop)]
 pub struct WrittenFirst<'a, R: RecordName, L: Tapes, W: Write, P> {
     pub port: P,
-    /// A witness of the record, which knows what was written when a packet was last to be sent.
-    pub written: NodeSeen,
-    /// The failures of both, up to 2^64 - 1.
+    /// The failures of the port and of the record, up to 2^64 - 1.
     pub failures: u64,
+    /// The record, and what is known of it.
+    pub log: WrittenLog<'a, R, L, W>,
+}
+
+/// A record, and a witness of it, which knows what was written when a packet was last to be sent.
+#[derive(Drop)]
+pub struct WrittenLog<'a, R: RecordName, L: Tapes, W: Write> {
+    pub written: NodeSeen,
     record: &'a SharedRecording<R, L, W>,
     pub ghost of_record: { written.book ≡ R.book },
+}
+
+impl<R: RecordName, L: Tapes, W: Write> WrittenLog<'_, R, L, W> {
+    // Writes what the node's recorder has. Returns true if an entry that was written since a packet was last asked for sent this one.
+    fn write_packet(&mut self, packet: &[u8]) -> bool
+        ensures before { IsPrefix self.old.written.log self.new.written.log }
+        ensures book { self.new.written.book ≡ self.old.written.book }
+        ensures sent { result ≡ true → is_sent packet.now self.new.written.log ≡ true }
+    {
+        self.record.write_packet(packet, &mut self.written)
+    }
 }
 
 // Counts a failure, and returns its fault; or, where no more can be counted, the other answer.
@@ -66,15 +85,14 @@ impl<'a, R: RecordName, L: Tapes, W: Write, P: Port> WrittenFirst<'a, R, L, W, P
     ) -> WrittenFirst<'a, R, L, W, P>
         requires { written.book ≡ R.book }
         ensures port { result.port ≡ port }
-        ensures written { result.written ≡ written }
+        ensures written { result.log.written ≡ written }
         ensures failures { result.failures ≡ P.count port }
     {
         let failures = port.failures();
         WrittenFirst {
             port,
-            written,
             failures,
-            record,
+            log: WrittenLog { written, record },
         }
     }
 
@@ -84,9 +102,8 @@ impl<'a, R: RecordName, L: Tapes, W: Write, P: Port> WrittenFirst<'a, R, L, W, P
     {
         let WrittenFirst {
             port,
-            written: _,
             failures: _,
-            record: _,
+            log: _,
         } = self;
         port
     }
@@ -95,23 +112,24 @@ impl<'a, R: RecordName, L: Tapes, W: Write, P: Port> WrittenFirst<'a, R, L, W, P
 impl<R: RecordName, L: Tapes, W: Write, P: Port> Port for WrittenFirst<'_, R, L, W, P> {
     ghost count = { λ port. port.failures };
 
-    ghost sends = { λ old to bytes result new. SendsWritten P.sends old.port new.port old.written new.written to bytes result };
+    ghost sends = { λ old to bytes result new. SendsWritten P.sends old.port new.port old.log.written new.log.written to bytes result };
 
-    ghost receives = { λ old result new. ReceivesStill P.receives old.port new.port old.written new.written result };
+    ghost receives = { λ old result new. ReceivesStill P.receives old.port new.port old.log.written new.log.written result };
 
     fn send(&mut self, to: NodeId, bytes: &[u8]) -> Result<bool, PortFault>
-        ensures is { SendsWritten P.sends self.old.port self.new.port self.old.written self.new.written to bytes.now result }
+        ensures is { SendsWritten P.sends self.old.port self.new.port self.old.log.written self.new.log.written to bytes.now result }
         ensures fault { OnErr result (self.new.failures ≡ self.old.failures + 1) }
         ensures well { OnOk result (self.new.failures ≡ self.old.failures) }
     {
-        if !self.record.write_packet(bytes, &mut self.written) {
+        if !self.log.write_packet(bytes) {
             return failed(&mut self.failures, PortFault::Device, false);
         }
-        hand_on(&mut self.port, &mut self.failures, to, bytes, &self.written)
+        let log = &self.log;
+        hand_on(&mut self.port, &mut self.failures, to, bytes, &log.written)
     }
 
     fn recv(&mut self) -> Result<Option<Vec<u8>>, PortFault>
-        ensures is { ReceivesStill P.receives self.old.port self.new.port self.old.written self.new.written result }
+        ensures is { ReceivesStill P.receives self.old.port self.new.port self.old.log.written self.new.log.written result }
         ensures fault { OnErr result (self.new.failures ≡ self.old.failures + 1) }
         ensures well { OnOk result (self.new.failures ≡ self.old.failures) }
     {
@@ -125,5 +143,21 @@ impl<R: RecordName, L: Tapes, W: Write, P: Port> Port for WrittenFirst<'_, R, L,
         ensures { result ≡ self.now.failures }
     {
         self.failures
+    }
+
+    fn watch(&mut self, source: u8) -> Option<RawFd>
+        ensures same { self.new ≡ self.old }
+    {
+        self.port.watch(source)
+    }
+
+    fn wake(&mut self, source: u8)
+        ensures same { self.new ≡ self.old }
+    {
+        self.port.wake(source);
+    }
+
+    fn news(&self) -> PortNews {
+        self.port.news()
     }
 }
