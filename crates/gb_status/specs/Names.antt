@@ -1,7 +1,7 @@
 -- The names of a node's figures, and how they stand in a text. Source: the text exposition format 0.0.4 of Prometheus.
 use Rattle.std.specs.Prelude.{ℕ, List, [], ◌++◌, ◌∷◌, codes}
 use Rattle.gb_status.specs.declared.figure.Figure.{Figure}
-use Rattle.gb_status.specs.declared.figure.Figure.TheVariants.{RequestsTenant, RequestsMake, RequestsOpen, RequestsShut, RequestsDrop, RequestsSay, RequestsFetch, RefusedDenied, RefusedNoGroup, RefusedSpent, RefusedBadMembers, RefusedOverReserve, RefusedWrongPhase, RefusedTooLong, RefusedBudget, RefusedBytes, RefusedWindow, RefusedBadPlace, RefusedNoRoom, RefusedTenantThere, RefusedMalformed, RefusedStopped, RefusedOutOfMemory, Said, Fetched, GroupsMade, GroupsDropped, FramesPacked, FramesAgain, Acknowledgements, PacketsBare, PacketsFirst, PacketsSeen, PacketsOutside, Items, FaultShort, FaultMagic, FaultVersion, FaultNode, FaultMask, FaultCount, FaultLength, FaultTrailing, FaultTooLong, FaultTag, Lost, PortFailures, Noticed, Ticks, Accepted, TurnedAway, Open, Waiting, PlacesLeft, Running}
+use Rattle.gb_status.specs.declared.figure.Figure.TheVariants.{RequestsTenant, RequestsMake, RequestsOpen, RequestsShut, RequestsDrop, RequestsSay, RequestsFetch, RefusedDenied, RefusedNoGroup, RefusedSpent, RefusedBadMembers, RefusedOverReserve, RefusedWrongPhase, RefusedTooLong, RefusedBudget, RefusedBytes, RefusedWindow, RefusedBadPlace, RefusedNoRoom, RefusedTenantThere, RefusedMalformed, RefusedStopped, RefusedOutOfMemory, Said, Fetched, GroupsMade, GroupsDropped, FramesPacked, FramesAgain, Acknowledgements, PacketsBare, PacketsFirst, PacketsSeen, PacketsOutside, Items, FaultShort, FaultMagic, FaultVersion, FaultNode, FaultMask, FaultCount, FaultLength, FaultTrailing, FaultTooLong, FaultTag, Lost, PortFailures, Strangers, Unreached, Noticed, Ticks, Accepted, TurnedAway, Open, Waiting, PlacesLeft, Running}
 
 abbrev pub quote : List ℕ
 quote = 34 ∷ []
@@ -58,14 +58,16 @@ place_of FaultTooLong = 43
 place_of FaultTag = 44
 place_of Lost = 45
 place_of PortFailures = 46
-place_of Noticed = 47
-place_of Ticks = 48
-place_of Accepted = 49
-place_of TurnedAway = 50
-place_of Open = 51
-place_of Waiting = 52
-place_of PlacesLeft = 53
-place_of Running = 54
+place_of Strangers = 47
+place_of Unreached = 48
+place_of Noticed = 49
+place_of Ticks = 50
+place_of Accepted = 51
+place_of TurnedAway = 52
+place_of Open = 53
+place_of Waiting = 54
+place_of PlacesLeft = 55
+place_of Running = 56
 
 -- the name of a figure in the reply to `status`
 abbrev pub word_of : Figure → List ℕ
@@ -116,6 +118,8 @@ word_of FaultTooLong = codes "fault_too_long"
 word_of FaultTag = codes "fault_tag"
 word_of Lost = codes "packets_lost"
 word_of PortFailures = codes "port_failures"
+word_of Strangers = codes "strangers"
+word_of Unreached = codes "unreached"
 word_of Noticed = codes "nodes_noticed"
 word_of Ticks = codes "ticks"
 word_of Accepted = codes "connections_accepted"
@@ -174,6 +178,8 @@ family_of FaultTooLong = codes "foqradesh_packet_faults_total"
 family_of FaultTag = codes "foqradesh_packet_faults_total"
 family_of Lost = codes "foqradesh_packets_lost_total"
 family_of PortFailures = codes "foqradesh_port_failures_total"
+family_of Strangers = codes "foqradesh_strangers_total"
+family_of Unreached = codes "foqradesh_unreached_total"
 family_of Noticed = codes "foqradesh_nodes_noticed_total"
 family_of Ticks = codes "foqradesh_ticks_total"
 family_of Accepted = codes "foqradesh_connections_accepted_total"
@@ -232,6 +238,8 @@ label_of FaultTooLong = codes ",fault=" ++ quote ++ codes "too_long" ++ quote
 label_of FaultTag = codes ",fault=" ++ quote ++ codes "tag" ++ quote
 label_of Lost = []
 label_of PortFailures = []
+label_of Strangers = []
+label_of Unreached = []
 label_of Noticed = []
 label_of Ticks = []
 label_of Accepted = []
@@ -290,6 +298,8 @@ head_of FaultTooLong = []
 head_of FaultTag = []
 head_of Lost = codes "# HELP foqradesh_packets_lost_total Received packets for which there was no memory." ++ line_feed ++ codes "# TYPE foqradesh_packets_lost_total counter" ++ line_feed
 head_of PortFailures = codes "# HELP foqradesh_port_failures_total Calls of the node's port that failed." ++ line_feed ++ codes "# TYPE foqradesh_port_failures_total counter" ++ line_feed
+head_of Strangers = codes "# HELP foqradesh_strangers_total Datagrams that came from no node's address." ++ line_feed ++ codes "# TYPE foqradesh_strangers_total counter" ++ line_feed
+head_of Unreached = codes "# HELP foqradesh_unreached_total Reports of the system that a packet reached no socket of its node." ++ line_feed ++ codes "# TYPE foqradesh_unreached_total counter" ++ line_feed
 head_of Noticed = codes "# HELP foqradesh_nodes_noticed_total Other nodes noticed as crashed." ++ line_feed ++ codes "# TYPE foqradesh_nodes_noticed_total counter" ++ line_feed
 head_of Ticks = codes "# HELP foqradesh_ticks_total Ticks of the node." ++ line_feed ++ codes "# TYPE foqradesh_ticks_total counter" ++ line_feed
 head_of Accepted = codes "# HELP foqradesh_connections_accepted_total Connections taken in." ++ line_feed ++ codes "# TYPE foqradesh_connections_accepted_total counter" ++ line_feed

@@ -1,6 +1,8 @@
 //! Where each node's thread puts the node's figures for other threads to read.
+use crate::facts::NodeNoticed;
 use crate::figure::COUNT;
 use crate::figures::{Figures, NodeFigures};
+use crate::misfit::Misfit;
 use gb_types::limits::NODES;
 use gb_types::{NodeId, NodeSet, OutOfMemory};
 use std::alloc::Global;
@@ -16,6 +18,22 @@ pub struct Board {
     numbers: Vec<AtomicU64>,
     // The bit with a noticed node's number is 1.
     noticed: Vec<AtomicU64>,
+    // How often the node's figures were put.
+    puts: Vec<AtomicU64>,
+    // For each node and each other one, how many lines are due of each misfit.
+    misfits: Vec<AtomicU64>,
+}
+
+// The number of misfits.
+const MISFITS: usize = 2;
+
+// The place of a misfit among those of a node.
+fn misfit_place(other: NodeId, misfit: Misfit) -> usize {
+    let kind = match misfit {
+        Misfit::Key => 0,
+        Misfit::Node => 1,
+    };
+    other.index().saturating_mul(MISFITS).saturating_add(kind)
 }
 
 // Returns a set of nodes as a number: the bit with a node's number is 1.
@@ -46,8 +64,14 @@ impl Board {
     pub fn new(alloc: Global, first: NodeId, count: u8) -> Result<Board, OutOfMemory> {
         let mut numbers = Vec::new(alloc);
         let mut noticed = Vec::new(alloc);
+        let mut puts = Vec::new(alloc);
+        let mut misfits = Vec::new(alloc);
         for _ in 0..count {
             noticed.push(AtomicU64::new(0))?;
+            puts.push(AtomicU64::new(0))?;
+            for _ in 0..NODES * MISFITS {
+                misfits.push(AtomicU64::new(0))?;
+            }
             for _ in 0..COUNT {
                 numbers.push(AtomicU64::new(0))?;
             }
@@ -57,6 +81,8 @@ impl Board {
             count,
             numbers,
             noticed,
+            puts,
+            misfits,
         })
     }
 
@@ -85,6 +111,20 @@ impl Board {
                 number.store(figures.numbers[figure], Ordering::SeqCst);
             }
         }
+        if let Some(puts) = self.puts.get(usize::from(place)) {
+            puts.fetch_add(1, Ordering::SeqCst);
+        }
+    }
+
+    /// Returns how often figures were stored for a node, modulo 2^64: once a tick of its loop. It is 0 if the node has no row on the board.
+    pub fn puts(&self, node: NodeId) -> u64 {
+        match self.place(node) {
+            Some(place) => match self.puts.get(usize::from(place)) {
+                Some(puts) => puts.load(Ordering::SeqCst),
+                None => 0,
+            },
+            None => 0,
+        }
     }
 
     /// Returns the figures that are stored for a node. All are 0 if the node has no row on the board.
@@ -112,6 +152,42 @@ impl Board {
             },
             None => NodeSet::new(),
         }
+    }
+
+    // The number of lines that are due of a misfit.
+    fn misfit(&self, node: NodeId, other: NodeId, misfit: Misfit) -> Option<&AtomicU64> {
+        let row = usize::from(self.place(node)?) * (NODES * MISFITS);
+        self.misfits
+            .get(row.saturating_add(misfit_place(other, misfit)))
+    }
+
+    /// Notes that the log is to have one more line of packets that come to a node from the address of another one and do not fit. If the
+    /// node has no row on the board, nothing is noted.
+    pub fn note_misfit(&self, node: NodeId, other: NodeId, misfit: Misfit) {
+        if let Some(count) = self.misfit(node, other, misfit) {
+            count.fetch_add(1, Ordering::SeqCst);
+        }
+    }
+
+    /// Returns how many such lines the log is to have had so far. It is 0 if the node has no row on the board.
+    pub fn misfits(&self, node: NodeId, other: NodeId, misfit: Misfit) -> u64 {
+        match self.misfit(node, other, misfit) {
+            Some(count) => count.load(Ordering::SeqCst),
+            None => 0,
+        }
+    }
+
+    /// Returns, for each node that has a row on the board, the set of nodes that it holds for crashed, as `noticed` does, by rising
+    /// numbers of nodes. `Err` if there is no memory.
+    pub fn all_noticed(&self, alloc: Global) -> Result<Vec<NodeNoticed>, OutOfMemory> {
+        let mut all = Vec::new(alloc);
+        for place in 0..self.count {
+            if let Some(node) = NodeId::from_number(self.first.saturating_add(place)) {
+                let noticed = self.noticed(node);
+                all.push(NodeNoticed { node, noticed })?;
+            }
+        }
+        Ok(all)
     }
 
     /// Returns the stored figures of each node that has a row on the board, by rising numbers of nodes. `Err` if there is no memory.

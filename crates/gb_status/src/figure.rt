@@ -4,10 +4,10 @@ ghost use Rattle.gb_status.specs.Names.{head_of, label_of, family_of, place_of, 
 ghost use Rattle.gb_status.specs.declared.figure.TheConstants.{COUNT};
 
 /// The number of figures of a node.
-pub const COUNT: usize = 55;
+pub const COUNT: usize = 57;
 
 // Definitions cite this value.
-const _: () = prove!(COUNT == 55);
+const _: () = prove!(COUNT == 57);
 
 /// A figure of a node. The last four are gauges; each other one is a count from the server's start.
 #[derive(Clone, Copy, Debug, PartialEq, Eq)]
@@ -106,6 +106,10 @@ pub enum Figure {
     Lost,
     /// Calls of the node's port that failed.
     PortFailures,
+    /// Datagrams that came from no node's address.
+    Strangers,
+    /// Reports of the system that a packet reached no socket of its node.
+    Unreached,
     /// Other nodes noticed as crashed.
     Noticed,
     /// Ticks of the node.
@@ -173,6 +177,8 @@ pub const FIGURES: [Figure; COUNT] = [
     Figure::FaultTag,
     Figure::Lost,
     Figure::PortFailures,
+    Figure::Strangers,
+    Figure::Unreached,
     Figure::Noticed,
     Figure::Ticks,
     Figure::Accepted,
@@ -184,7 +190,7 @@ pub const FIGURES: [Figure; COUNT] = [
 ];
 
 impl Figure {
-    /// Returns the index of this figure in a table of all figures, below 55.
+    /// Returns the index of this figure in a table of all figures, below 57.
     pub fn place(self) -> usize
         ensures is { result ≡ place_of self }
         ensures bound { result < COUNT }
@@ -244,6 +250,8 @@ impl Figure {
             Figure::FaultTag => b"fault_tag",
             Figure::Lost => b"packets_lost",
             Figure::PortFailures => b"port_failures",
+            Figure::Strangers => b"strangers",
+            Figure::Unreached => b"unreached",
             Figure::Noticed => b"nodes_noticed",
             Figure::Ticks => b"ticks",
             Figure::Accepted => b"connections_accepted",
@@ -308,6 +316,8 @@ impl Figure {
             Figure::FaultTag => b"foqradesh_packet_faults_total",
             Figure::Lost => b"foqradesh_packets_lost_total",
             Figure::PortFailures => b"foqradesh_port_failures_total",
+            Figure::Strangers => b"foqradesh_strangers_total",
+            Figure::Unreached => b"foqradesh_unreached_total",
             Figure::Noticed => b"foqradesh_nodes_noticed_total",
             Figure::Ticks => b"foqradesh_ticks_total",
             Figure::Accepted => b"foqradesh_connections_accepted_total",
@@ -372,6 +382,8 @@ impl Figure {
             Figure::FaultTag => b",fault=\"tag\"",
             Figure::Lost => b"",
             Figure::PortFailures => b"",
+            Figure::Strangers => b"",
+            Figure::Unreached => b"",
             Figure::Noticed => b"",
             Figure::Ticks => b"",
             Figure::Accepted => b"",
@@ -450,6 +462,10 @@ impl Figure {
                 b"# HELP foqradesh_packets_lost_total Received packets for which there was no memory.\n# TYPE foqradesh_packets_lost_total counter\n",
             Figure::PortFailures =>
                 b"# HELP foqradesh_port_failures_total Calls of the node's port that failed.\n# TYPE foqradesh_port_failures_total counter\n",
+            Figure::Strangers =>
+                b"# HELP foqradesh_strangers_total Datagrams that came from no node's address.\n# TYPE foqradesh_strangers_total counter\n",
+            Figure::Unreached =>
+                b"# HELP foqradesh_unreached_total Reports of the system that a packet reached no socket of its node.\n# TYPE foqradesh_unreached_total counter\n",
             Figure::Noticed =>
                 b"# HELP foqradesh_nodes_noticed_total Other nodes noticed as crashed.\n# TYPE foqradesh_nodes_noticed_total counter\n",
             Figure::Ticks =>

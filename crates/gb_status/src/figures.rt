@@ -23,7 +23,7 @@ pub struct NodeFigures {
 impl Figures {
     /// Returns the figures of a node that has counted nothing: all are 0.
     pub fn new() -> Figures
-        ensures { result.numbers ≡ replicate 55 0 }
+        ensures { result.numbers ≡ replicate 57 0 }
     {
         Figures {
             numbers: [0; COUNT],

@@ -1,9 +1,9 @@
 //! What is asked for by HTTP, and how it is answered.
 ghost use Rattle.std.specs.Prelude.{◌≡◌, IfNone, IfOk, IfSome, true};
-ghost use Rattle.gb_status.specs.Http.{Asks, IsReply, all_run, answer_of, code_of, lines_of, note_of, place_asked, response_text};
+ghost use Rattle.gb_status.specs.Http.{Asks, IsReply, answer_of, code_of, health_note, lines_of, note_of, place_asked, response_text};
 
-use crate::figure::Figure;
 use crate::figures::NodeFigures;
+use crate::health::Health;
 use crate::text::metrics_text;
 use gb_spelling::number::put_number;
 use gb_types::OutOfMemory;
@@ -117,12 +117,12 @@ fn response(alloc: Global, code: Code, body: &[u8]) -> Result<Vec<u8>, OutOfMemo
 }
 
 // Returns the code of each answer other than the figures.
-fn code_of(asked: Asked, is_serving: bool) -> Code
-    ensures { result ≡ code_of asked is_serving }
+fn code_of(asked: Asked, health: Health) -> Code
+    ensures { result ≡ code_of asked health }
 {
     match asked {
         Asked::Metrics => Code::Fine,
-        Asked::Health => if is_serving {
+        Asked::Health => if health == Health::Well {
             Code::Fine
         } else {
             Code::Unavailable
@@ -134,13 +134,25 @@ fn code_of(asked: Asked, is_serving: bool) -> Code
     }
 }
 
+// Returns the line that tells how a server is.
+fn health_note(health: Health) -> &'static [u8]
+    ensures { result.now ≡ health_note health }
+{
+    match health {
+        Health::Well => b"ok\n",
+        Health::Ended => b"ended\n",
+        Health::Stalled => b"stalled\n",
+        Health::Apart => b"apart\n",
+    }
+}
+
 // Returns the text of each answer other than the figures.
-fn note_of(asked: Asked, is_serving: bool) -> &'static [u8]
-    ensures { result.now ≡ note_of asked is_serving }
+fn note_of(asked: Asked, health: Health) -> &'static [u8]
+    ensures { result.now ≡ note_of asked health }
 {
     match asked {
         Asked::Metrics => b"",
-        Asked::Health => if is_serving { b"ok\n" } else { b"ended\n" },
+        Asked::Health => health_note(health),
         Asked::OtherPlace => b"not found\n",
         Asked::OtherMethod => b"only GET\n",
         Asked::More => b"no request\n",
@@ -148,22 +160,24 @@ fn note_of(asked: Asked, is_serving: bool) -> &'static [u8]
     }
 }
 
-/// Returns the whole HTTP answer to what is asked for: 200 with the figures of all nodes; 200 or 503 for the health, as `is_serving`
-/// says; 404 for another place; 405 for another method; 400 for what is no whole request. `Err` if there is no memory.
+/// Returns the whole HTTP answer to what is asked for: 200 with the figures of all nodes and `facts` behind them; 200 or 503 for the health,
+/// 200 if the server is well; 404 for another place; 405 for another method; 400 for what is no whole request. `Err` if there is no memory.
 pub fn answer(
     alloc: Global,
     asked: Asked,
     all: &[NodeFigures],
-    is_serving: bool,
+    facts: &[u8],
+    health: Health,
 ) -> Result<Vec<u8>, OutOfMemory>
-    ensures { IfOk result (λ text. text.items ≡ answer_of asked all.now is_serving) }
+    ensures { IfOk result (λ text. text.items ≡ answer_of asked all.now facts.now health) }
 {
     let mut body = Vec::new(alloc);
     if asked == Asked::Metrics {
         body = metrics_text(alloc, all)?;
+        put_bytes(&mut body, facts)?;
     }
-    put_bytes(&mut body, note_of(asked, is_serving))?;
-    response(alloc, code_of(asked, is_serving), &body)
+    put_bytes(&mut body, note_of(asked, health))?;
+    response(alloc, code_of(asked, health), &body)
 }
 
 /// Returns the whole HTTP answer to the bytes of a request, as `answer` makes it. `Ok(None)` if the head of the request is not whole
@@ -173,23 +187,16 @@ pub fn reply(
     bytes: &[u8],
     may_come: bool,
     all: &[NodeFigures],
-    is_serving: bool,
+    facts: &[u8],
+    health: Health,
 ) -> Result<Option<Vec<u8>>, OutOfMemory>
-    ensures some { IfOk result (λ reply. IfSome reply (λ text. IsReply bytes.now may_come all.now is_serving text.items)) }
+    ensures some { IfOk result (λ reply. IfSome reply (λ text. IsReply bytes.now may_come all.now facts.now health text.items)) }
     ensures none { IfOk result (λ reply. IfNone reply ((may_come ≡ true) × Asks bytes.now Asked.More)) }
 {
     let asked = asked_for(bytes);
     if may_come && asked == Asked::More {
         return Ok(None);
     }
-    let text = answer(alloc, asked, all, is_serving)?;
+    let text = answer(alloc, asked, all, facts, health)?;
     Ok(Some(text))
-}
-
-/// Returns true if the loop of each of these nodes runs, by its figure `Running`.
-pub fn all_run(all: &[NodeFigures]) -> bool
-    ensures { result ≡ all_run all.now }
-{
-    all.iter()
-        .all(|row| row.figures.value(Figure::Running) == 1)
 }

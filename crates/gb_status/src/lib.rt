@@ -1,17 +1,24 @@
 //! The figures of a server's nodes, and how they are written: in a session's reply, and in the text that Prometheus reads, by HTTP.
 //! `figures::Figures` is what a node counts, `text` writes it, `board::Board` is where each node's thread puts its figures for
-//! other threads to read, `http` answers requests by HTTP, and `news` writes the lines of the log. Read `figure` first.
+//! other threads to read, `facts` writes what a server says of itself, `http` answers requests by HTTP, `health` says whether a server is
+//! well, and `news` and `misfit` write the lines of the log. Read `figure` first.
 #![tactic(auto)]
 
 pub mod board;
+pub mod facts;
 pub mod figure;
 pub mod figures;
+pub mod health;
 pub mod http;
+pub mod misfit;
 pub mod news;
 pub mod text;
 
 pub use board::Board;
+pub use facts::{Facts, NodeNoticed, Process};
 pub use figure::Figure;
 pub use figures::{Figures, NodeFigures};
+pub use health::{Health, NodeHealth};
 pub use http::Asked;
+pub use misfit::Misfit;
 pub use news::Told;

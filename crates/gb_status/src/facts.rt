@@ -1,0 +1,217 @@
+//! What a server says of itself beside the figures of its nodes: its version, its start, its process, and which node has noticed which.
+ghost use Rattle.std.specs.Prelude.{◌≡◌, ◌++◌, IfOk, OnOk, decimal};
+ghost use Rattle.gb_types.specs.Common.{rising};
+ghost use Rattle.gb_status.specs.Facts.{build_front, build_text, descriptors_front, facts_text, known_process, memory_front, noticed_line, noticed_text, number_line, process_text, quoted, row_text, seconds_text, started_front, suspected_front, suspected_head, time_front, time_text};
+
+use gb_spelling::number::put_number;
+use gb_types::memory::put_bytes;
+use gb_types::{NodeId, NodeSet, OutOfMemory};
+use std::alloc::Global;
+
+/// What the system says of a process.
+#[derive(Clone, Copy, Debug, PartialEq, Eq)]
+pub struct Process {
+    /// The bytes of its memory that are in the machine's.
+    pub memory: u64,
+    /// How many descriptors it holds.
+    pub descriptors: u64,
+    /// The processor time that it took, in hundredths of a second.
+    pub hundredths: u64,
+}
+
+/// What a server says of itself.
+#[derive(Clone, Copy)]
+pub struct Facts<'a> {
+    /// The version of the program.
+    pub version: &'a [u8],
+    /// When it started, in seconds since the beginning of the year 1970.
+    pub started: u64,
+    /// What the system says of its process. `None`: it does not say.
+    pub process: Option<Process>,
+}
+
+/// The nodes that a node holds for crashed (noticed as crashed).
+#[derive(Drop)]
+pub struct NodeNoticed {
+    pub node: NodeId,
+    pub noticed: NodeSet,
+}
+
+// Returns what stands in front of the version.
+#[tactic(auto, unfolding(crate::specs::Facts::build_front))]
+fn build_front() -> &'static [u8]
+    ensures { result.now ≡ build_front }
+{
+    b"# HELP foqradesh_build_info The version of the program; always 1.\n# TYPE foqradesh_build_info gauge\nfoqradesh_build_info{version="
+}
+
+// Returns what stands in front of the start.
+#[tactic(auto, unfolding(crate::specs::Facts::started_front))]
+fn started_front() -> &'static [u8]
+    ensures { result.now ≡ started_front }
+{
+    b"# HELP process_start_time_seconds Start time of the process since unix epoch in seconds.\n# TYPE process_start_time_seconds gauge\nprocess_start_time_seconds "
+}
+
+// Returns what stands in front of the bytes of memory.
+#[tactic(auto, unfolding(crate::specs::Facts::memory_front))]
+fn memory_front() -> &'static [u8]
+    ensures { result.now ≡ memory_front }
+{
+    b"# HELP process_resident_memory_bytes Resident memory size in bytes.\n# TYPE process_resident_memory_bytes gauge\nprocess_resident_memory_bytes "
+}
+
+// Returns what stands in front of the number of descriptors.
+#[tactic(auto, unfolding(crate::specs::Facts::descriptors_front))]
+fn descriptors_front() -> &'static [u8]
+    ensures { result.now ≡ descriptors_front }
+{
+    b"# HELP process_open_fds Number of open file descriptors.\n# TYPE process_open_fds gauge\nprocess_open_fds "
+}
+
+// Returns what stands in front of the processor time.
+#[tactic(auto, unfolding(crate::specs::Facts::time_front))]
+fn time_front() -> &'static [u8]
+    ensures { result.now ≡ time_front }
+{
+    b"# HELP process_cpu_seconds_total Total user and system CPU time spent in seconds.\n# TYPE process_cpu_seconds_total counter\nprocess_cpu_seconds_total "
+}
+
+// Returns the lines above the nodes that are noticed.
+#[tactic(auto, unfolding(crate::specs::Facts::suspected_head))]
+fn suspected_head() -> &'static [u8]
+    ensures { result.now ≡ suspected_head }
+{
+    b"# HELP foqradesh_node_suspected 1 for each other node that the node has noticed as crashed.\n# TYPE foqradesh_node_suspected gauge\n"
+}
+
+// Returns what stands in front of the number of a node that has noticed another one.
+#[tactic(auto, unfolding(crate::specs::Facts::suspected_front))]
+fn suspected_front() -> &'static [u8]
+    ensures { result.now ≡ suspected_front }
+{
+    b"foqradesh_node_suspected{node="
+}
+
+// Appends a number behind its front.
+fn put_number_line(out: &mut Vec<u8>, front: &[u8], number: u64) -> Result<(), OutOfMemory>
+    ensures { OnOk result (out.new.items ≡ out.old.items ++ number_line front.now number) }
+{
+    put_bytes(out, front)?;
+    put_number(out, number)?;
+    put_bytes(out, b"\n")
+}
+
+// Appends a word in quotation marks.
+fn put_quoted(out: &mut Vec<u8>, word: &[u8]) -> Result<(), OutOfMemory>
+    ensures { OnOk result (out.new.items ≡ out.old.items ++ quoted word.now) }
+{
+    put_bytes(out, b"\"")?;
+    put_bytes(out, word)?;
+    put_bytes(out, b"\"")
+}
+
+// Appends the version of the program.
+fn put_build(out: &mut Vec<u8>, version: &[u8]) -> Result<(), OutOfMemory>
+    ensures { OnOk result (out.new.items ≡ out.old.items ++ build_text version.now) }
+{
+    put_bytes(out, build_front())?;
+    put_quoted(out, version)?;
+    put_bytes(out, b"} 1\n")
+}
+
+// Appends hundredths of a second as seconds.
+fn put_seconds(out: &mut Vec<u8>, hundredths: u64) -> Result<(), OutOfMemory>
+    ensures { OnOk result (out.new.items ≡ out.old.items ++ seconds_text hundredths) }
+{
+    put_number(out, hundredths / 100)?;
+    put_bytes(out, b".")?;
+    put_number(out, hundredths / 10 % 10)?;
+    put_number(out, hundredths % 10)
+}
+
+// Appends the processor time of the process.
+fn put_time(out: &mut Vec<u8>, hundredths: u64) -> Result<(), OutOfMemory>
+    ensures { OnOk result (out.new.items ≡ out.old.items ++ time_text hundredths) }
+{
+    put_bytes(out, time_front())?;
+    put_seconds(out, hundredths)?;
+    put_bytes(out, b"\n")
+}
+
+// Appends what the system says of the process.
+fn put_process(out: &mut Vec<u8>, process: Process) -> Result<(), OutOfMemory>
+    ensures { OnOk result (out.new.items ≡ out.old.items ++ process_text process) }
+{
+    put_number_line(out, memory_front(), process.memory)?;
+    put_number_line(out, descriptors_front(), process.descriptors)?;
+    put_time(out, process.hundredths)
+}
+
+// Appends what the system says of the process, if it does.
+fn put_known(out: &mut Vec<u8>, process: Option<Process>) -> Result<(), OutOfMemory>
+    ensures { OnOk result (out.new.items ≡ out.old.items ++ known_process process) }
+{
+    match process {
+        Some(process) => put_process(out, process),
+        None => Ok(()),
+    }
+}
+
+// Appends a number in quotation marks.
+fn put_quoted_number(out: &mut Vec<u8>, number: u64) -> Result<(), OutOfMemory>
+    ensures { OnOk result (out.new.items ≡ out.old.items ++ quoted (decimal number)) }
+{
+    put_bytes(out, b"\"")?;
+    put_number(out, number)?;
+    put_bytes(out, b"\"")
+}
+
+// Appends the line of a node that another one has noticed.
+fn put_noticed(out: &mut Vec<u8>, node: u64, other: u64) -> Result<(), OutOfMemory>
+    ensures { OnOk result (out.new.items ≡ out.old.items ++ noticed_line node other) }
+{
+    put_bytes(out, suspected_front())?;
+    put_quoted_number(out, node)?;
+    put_bytes(out, b",other=")?;
+    put_quoted_number(out, other)?;
+    put_bytes(out, b"} 1\n")
+}
+
+// Appends the lines of the nodes that a node has noticed.
+fn put_row(out: &mut Vec<u8>, node: u64, noticed: &NodeSet) -> Result<(), OutOfMemory>
+    ensures { OnOk result (out.new.items ≡ out.old.items ++ row_text node (rising noticed.now)) }
+{
+    for other in noticed.nodes() {
+        put_noticed(out, node, u64::from(other.number))?;
+    }
+    Ok(())
+}
+
+// Appends the lines of the nodes that nodes have noticed.
+fn put_rows(out: &mut Vec<u8>, rows: &[NodeNoticed]) -> Result<(), OutOfMemory>
+    ensures { OnOk result (out.new.items ≡ out.old.items ++ noticed_text rows.now) }
+{
+    for row in rows {
+        put_row(out, u64::from(row.node.number), &row.noticed)?;
+    }
+    Ok(())
+}
+
+/// Returns what a server says of itself, and which nodes each of its nodes has noticed, as text that Prometheus reads, in its text
+/// exposition format 0.0.4. `Err` if there is no memory.
+pub fn facts_text(
+    alloc: Global,
+    facts: &Facts<'_>,
+    rows: &[NodeNoticed],
+) -> Result<Vec<u8>, OutOfMemory>
+    ensures { IfOk result (λ text. text.items ≡ facts_text facts.now rows.now) }
+{
+    let mut out = Vec::new(alloc);
+    put_bytes(&mut out, suspected_head())?;
+    put_rows(&mut out, rows)?;
+    put_build(&mut out, facts.version)?;
+    put_number_line(&mut out, started_front(), facts.started)?;
+    put_known(&mut out, facts.process)?;
+    Ok(out)
+}
