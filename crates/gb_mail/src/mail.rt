@@ -5,10 +5,12 @@ ghost use Rattle.gb_worker.specs.{Answered.destination, Answered.gives_packet, A
 ghost use Rattle.gb_mail.specs.Mailed.{HasAnswer, HasCalled, HasCounted, HasMailed, HasMoved, IsTakenOrNot, WasAskedToSend, is_handed};
 ghost use Rattle.gb_mail.specs.Replied.{is_admitted, is_admitting, is_done, needs_admin};
 
+use crate::admitted::{Admitted, tenant_of};
 use crate::counts::{
     asked_figure, count_packet, count_reply, count_tick, places_asked, sent_figure,
 };
 use crate::hint::{Hint, hint_of, put_addresses};
+use crate::misfits::{NodeMisfit, misfit_of};
 use crate::operate::{Orders, Told, operate};
 use gb_host::{Host, HostFault, Open, Seat, Tapes};
 use gb_node::past::pasts_say;
@@ -19,6 +21,7 @@ use gb_status::{Figure, Figures};
 use gb_types::{Action, Addr, GroupCommand, NodeId, OutOfMemory, Refusal, Reply, Request};
 use indexmap::IndexSet;
 use std::alloc::Global;
+use std::os::fd::RawFd;
 use std::snapshot::Snapshot;
 use std::sync::Wait;
 
@@ -34,6 +37,8 @@ pub struct Arrival {
     /// None if it was no packet for this node, or there was no memory for it.
     pub good: Option<Good>,
     pub hint: Hint,
+    /// What does not fit, if it came from a node's address.
+    pub misfit: Option<NodeMisfit>,
 }
 
 /// What requests and operations showed of the client that made them.
@@ -68,6 +73,8 @@ pub struct Mail<'a, L: Tapes, H, P: Port> {
     returned: IndexSet<Addr>,
     // What the requests showed that were answered since it was last taken.
     shown: Shown,
+    // What the node admitted of what clients asked since it was last taken.
+    admitted: Admitted,
     orders: Orders,
     /// Something was left undone since the last tick for which there was no memory. The loop empties this, and looks at all again.
     pub is_short: bool,
@@ -212,10 +219,18 @@ fn packet_of(answer: NodeAnswer) -> Result<PacketText, Outcome>
     }
 }
 
-// Returns what a node made of a good packet.
-fn good_of(answer: NodeAnswer) -> Option<Good> {
+// Returns what a node made of bytes that came.
+fn taken_of(answer: NodeAnswer) -> Option<PacketAnswer> {
     match answer {
-        NodeAnswer::Taken(PacketAnswer::Good(good)) => Some(good),
+        NodeAnswer::Taken(taken) => Some(taken),
+        _ => None,
+    }
+}
+
+// Returns what a node made of a good packet.
+fn good_of(taken: Option<PacketAnswer>) -> Option<Good> {
+    match taken {
+        Some(PacketAnswer::Good(good)) => Some(good),
         _ => None,
     }
 }
@@ -229,8 +244,8 @@ fn count_lost(lost: &mut u64)
     }
 }
 
-// A packet that came is one event at a node, unless it is no packet for it. Returns what the node made of it if it was a good one. If the
-// host refuses the call, the packet is lost and counted.
+// A packet that came is one event at a node, unless it is no packet for it. Returns what the node made of it. If the host refuses the
+// call, the packet is lost and counted.
 fn take_packet<L: Tapes, H: Wait>(
     rt: &H,
     host: &Host<L>,
@@ -239,7 +254,7 @@ fn take_packet<L: Tapes, H: Wait>(
     bytes: Vec<u8>,
     lost: &mut u64,
     figures: &mut Figures,
-) -> Option<Good>
+) -> Option<PacketAnswer>
     ensures taken { IsTakenOrNot L.plan node bytes.items seat.old seat.new lost.old lost.new }
     ensures here { HasCalled node seat.old.calls seat.new.calls }
 {
@@ -249,7 +264,7 @@ fn take_packet<L: Tapes, H: Wait>(
     match ask(rt, host, seat, node, event) {
         Ok(answer) => {
             count_packet(figures, &answer);
-            good_of(answer)
+            taken_of(answer)
         }
         Err(_) => {
             count_lost(lost);
@@ -342,6 +357,7 @@ impl<'a, L: Tapes, H: Wait, P: Port> Mail<'a, L, H, P> {
             touched: IndexSet::new(alloc),
             returned: IndexSet::new(alloc),
             shown: NOTHING_SHOWN,
+            admitted: Admitted::new(),
             orders: Orders::new(),
             is_short: false,
             figures,
@@ -365,6 +381,7 @@ impl<'a, L: Tapes, H: Wait, P: Port> Mail<'a, L, H, P> {
             touched: _,
             returned: _,
             shown: _,
+            admitted: _,
             orders: _,
             is_short: _,
             figures: _,
@@ -416,12 +433,13 @@ impl<'a, L: Tapes, H: Wait, P: Port> Mail<'a, L, H, P> {
             None => return None,
         };
         plan_says(self.host);
+        let from = self.port.news().from;
         let hint = hint_of(&bytes);
         if is_wanted && !put_addresses(&bytes, came) {
             self.is_short = true;
         }
         let node = self.origin.node;
-        let good = take_packet(
+        let taken = take_packet(
             self.rt,
             self.host,
             &mut self.seat,
@@ -430,7 +448,35 @@ impl<'a, L: Tapes, H: Wait, P: Port> Mail<'a, L, H, P> {
             &mut self.lost,
             &mut self.figures,
         );
-        Some(Arrival { good, hint })
+        Some(Arrival {
+            good: good_of(taken),
+            hint,
+            misfit: misfit_of(from, taken),
+        })
+    }
+
+    /// Returns the descriptor of a source of the node's port, which is looked at only after `wake` from now on, as `Port::watch` says.
+    pub fn watch(&mut self, source: u8) -> Option<RawFd>
+        ensures origin { self.new.origin ≡ self.old.origin }
+    {
+        self.port.watch(source)
+    }
+
+    /// Notes that something may have come at a source of the node's port.
+    pub fn wake(&mut self, source: u8)
+        ensures origin { self.new.origin ≡ self.old.origin }
+    {
+        self.port.wake(source);
+    }
+
+    /// Counts what the node's port says beside its packets, and returns whether it has more of strangers than it takes in a row.
+    pub fn count_port(&mut self) -> bool
+        ensures origin { self.new.origin ≡ self.old.origin }
+    {
+        let news = self.port.news();
+        self.figures.set(Figure::Strangers, news.strangers);
+        self.figures.set(Figure::Unreached, news.unreached);
+        news.has_more
     }
 
     /// Makes one event happen at the node by which it sends to node `to`: a pack, an acknowledgement, or a frame once more. Waits for the
@@ -530,6 +576,15 @@ impl<'a, L: Tapes, H: Wait, P: Port> Mail<'a, L, H, P> {
         shown
     }
 
+    /// Returns what was admitted since the last call, and forgets it.
+    pub fn take_admitted(&mut self) -> Admitted
+        ensures origin { self.new.origin ≡ self.old.origin }
+    {
+        let admitted = self.admitted;
+        self.admitted = Admitted::new();
+        admitted
+    }
+
     /// Returns true if an administrator has asked for the end of the server.
     pub fn is_end_asked(&self) -> bool {
         self.orders.is_end_asked()
@@ -552,10 +607,12 @@ impl<'a, L: Tapes, H: Wait, P: Port> Answers for Mail<'a, L, H, P> {
         let is_admin = needs_admin(&request);
         let asked = asked_figure(&request);
         let places = places_asked(&request);
+        let tenant = tenant_of(&request);
         let event = NodeEvent::Request(request);
         let reply = reply_of(ask(self.rt, self.host, &mut self.seat, self.origin.node, event));
         count_reply(&mut self.figures, asked, places, &reply);
         let is_admitted = is_admitted(&reply);
+        self.admitted.note(tenant, is_admitted);
         self.shown = shown_more(self.shown, is_admin, is_admitted);
         self.touch(address, is_done(&reply));
         reply
