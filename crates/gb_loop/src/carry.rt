@@ -22,12 +22,17 @@ pub const FRAMES: usize = 64;
 const _: () = prove!(FRAMES == 64 && PACKETS == 64);
 
 impl<'a, L: Tapes, H: Wait + Clock, P: Port, S: Settle + Copy> NodeLoop<'a, L, H, P, S> {
-    // Returns the node with this number, if it is another one.
+    // Returns the node with this number, if it is another one and this one has not noticed it: to one that was noticed nothing is sent any
+    // more, so that it notices this one in turn.
     fn other(&self, number: u8) -> Option<NodeId> {
         if number == self.mail.origin.node.number || usize::from(number) >= NODES {
+            return None;
+        }
+        let other = NodeId::new(number);
+        if self.noticed.contains(other) {
             None
         } else {
-            Some(NodeId::new(number))
+            Some(other)
         }
     }
 
@@ -81,7 +86,7 @@ impl<'a, L: Tapes, H: Wait + Clock, P: Port, S: Settle + Copy> NodeLoop<'a, L, H
         if good.items > 0 || good.done > 0 {
             self.is_dirty = true;
         }
-        if hint.mask != 0 {
+        if hint.mask != 0 && !self.noticed.contains(from) {
             self.repair(from, hint);
         }
         if good.items > 0 && !self.parked.is_empty() {
@@ -133,7 +138,10 @@ impl<'a, L: Tapes, H: Wait + Clock, P: Port, S: Settle + Copy> NodeLoop<'a, L, H
                 self.has_packets = false;
                 return;
             };
-            let Arrival { good, hint } = arrival;
+            let Arrival { good, hint, misfit } = arrival;
+            if let Some(misfit) = misfit {
+                self.sources.note(misfit);
+            }
             if let Some(good) = good {
                 self.heed(good, hint);
             }
@@ -203,13 +211,16 @@ impl<'a, L: Tapes, H: Wait + Clock, P: Port, S: Settle + Copy> NodeLoop<'a, L, H
     pub(crate) fn patience(&self) -> u64 {
         if self.has_packets
             || self.has_clients
-            || !self.listed.is_empty()
+            || self.crowd.is_busy()
             || self.is_dirty
             || self.mail.is_touched()
         {
             return 0;
         }
-        let mut next = self.next_tick;
+        let mut next = self
+            .next_tick
+            .min(self.crowd.due_at())
+            .min(self.sources.due_at());
         'nodes: for number in 0..self.nodes {
             if let Some(to) = self.other(number) {
                 next = next.min(self.link(to).due_at(self.options.beat));

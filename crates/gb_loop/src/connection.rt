@@ -1,53 +1,170 @@
 //! A client's connection.
-use gb_mail::Client;
+use crate::timer::{Patience, Timer};
+use gb_mail::{Client, Way};
 use gb_types::Addr;
 use mio::net::TcpStream;
 use std::alloc::Global;
+
+/// The bytes of replies that a turn makes before they are written.
+pub const ROOM: usize = 65_536;
+
+const _: () = prove!(ROOM == 65_536);
+
+/// What a connection waits for.
+#[derive(Drop)]
+pub enum Waits {
+    /// For bytes of its client.
+    Bytes,
+    /// For room for replies: messages are whole that were not answered for lack of it.
+    Room,
+    /// For something to fetch from one of these groups, which its next message names.
+    Groups(Vec<Addr>),
+    /// For the end of the time that its next message names, and for nothing else: its tenant has as many that wait for groups as it may.
+    Time,
+}
+
+/// The place that a connection takes, and what was admitted of it.
+#[derive(Clone, Copy, Debug, PartialEq, Eq)]
+pub enum Standing {
+    /// A common place, and nothing was admitted.
+    Stranger,
+    /// A common place, and something was admitted.
+    Member,
+    /// A place that is kept for administrators, whose token it has not shown yet.
+    Unshown,
+    /// A place that is kept for administrators, whose token it has shown.
+    Administrator,
+}
+
+/// Why a connection is looked at.
+#[derive(Clone, Copy, Debug, PartialEq, Eq)]
+pub enum Look {
+    /// Bytes may have come.
+    Reads,
+    /// Its stream may take replies, or there may be room for more of them.
+    Writes,
+    /// There may be something to fetch for it.
+    Woken,
+    /// Its wait is over.
+    Late,
+    /// The loop ends.
+    Last,
+    /// The loop ends, and nothing that came before is left to answer.
+    LastReads,
+}
 
 /// A client's connection: its stream, its client, and what is to be done for it.
 #[derive(Drop)]
 pub struct Connection {
     pub stream: TcpStream,
     pub client: Client,
-    /// The session has bytes to answer although none came, since there was no room for replies.
-    pub is_full: bool,
-    /// The groups for which its next message waits; None: it does not wait.
-    pub parked: Option<Vec<Addr>>,
+    pub waits: Waits,
     /// Until when its next message waits, once it was tried.
-    pub parked_until: Option<u64>,
-    /// It is in the list of those that are looked at in this round.
+    pub wait_until: Option<u64>,
+    /// It stands in a line, or is held until its tenant may ask again.
     pub is_listed: bool,
+    /// It is among those whose wait is tried again.
+    pub is_woken: bool,
     /// The system said that there is no more to read for now.
     pub is_drained: bool,
     /// The peer sends no more.
     pub is_read_closed: bool,
-    /// A whole message was answered, or waits.
-    pub has_asked: bool,
-    /// When it last did something.
-    pub moved_at: u64,
+    pub standing: Standing,
+    /// The tenant of the last request of it that was admitted.
+    pub tenant: Option<u16>,
+    /// When it came, in microseconds.
+    pub came_at: u64,
+    pub timer: Timer,
+}
+
+impl Standing {
+    /// Returns the standing once something was admitted.
+    pub fn admitted(self) -> Standing {
+        match self {
+            Standing::Stranger => Standing::Member,
+            other => other,
+        }
+    }
+
+    /// Returns true if it takes one of the places that are kept for administrators.
+    pub fn is_kept(self) -> bool {
+        matches!(self, Standing::Unshown | Standing::Administrator)
+    }
+}
+
+impl Look {
+    /// Returns how a turn is made.
+    pub fn way(self) -> Way {
+        match self {
+            Look::Reads => Way {
+                reads: true,
+                is_late: false,
+                room: ROOM,
+            },
+            Look::Writes | Look::Woken => Way {
+                reads: false,
+                is_late: false,
+                room: ROOM,
+            },
+            Look::Late => Way {
+                reads: false,
+                is_late: true,
+                room: 1,
+            },
+            Look::Last => Way {
+                reads: false,
+                is_late: true,
+                room: ROOM,
+            },
+            Look::LastReads => Way {
+                reads: true,
+                is_late: true,
+                room: ROOM,
+            },
+        }
+    }
 }
 
 impl Connection {
     /// Returns a connection on which nothing came yet, made at the time `now`. Its client may make this number of requests.
-    pub fn new(alloc: Global, stream: TcpStream, requests: u64, now: u64) -> Connection {
+    pub fn new(
+        alloc: Global,
+        stream: TcpStream,
+        requests: u64,
+        standing: Standing,
+        now: u64,
+    ) -> Connection {
         Connection {
             stream,
             client: Client::new(alloc, requests),
-            is_full: false,
-            parked: None,
-            parked_until: None,
+            waits: Waits::Bytes,
+            wait_until: None,
             is_listed: false,
+            is_woken: false,
             is_drained: false,
             is_read_closed: false,
-            has_asked: false,
-            moved_at: now,
+            standing,
+            tenant: None,
+            came_at: now,
+            timer: Timer::new(now),
         }
     }
 
-    /// Returns true if nothing moved for longer than is allowed at time `now`: for `first` microseconds before the first whole
-    /// message, or for `idle` after it, if that is not 0.
-    pub fn is_stale(&self, now: u64, first: u64, idle: u64) -> bool {
-        let most = if self.has_asked { idle } else { first };
-        most > 0 && now.saturating_sub(self.moved_at) >= most
+    /// Returns true if its next message waits: for something to fetch, or for the end of its time.
+    pub fn is_parked(&self) -> bool {
+        matches!(&self.waits, Waits::Groups(_) | Waits::Time)
+    }
+
+    /// Returns true if the time that its next message names has passed at the time `now`.
+    pub fn is_due(&self, now: u64) -> bool {
+        match self.wait_until {
+            Some(until) => until <= now,
+            None => true,
+        }
+    }
+
+    /// Returns true if it takes longer than is allowed at the time `now`. One that waits does not.
+    pub fn is_late(&self, now: u64, patience: &Patience) -> bool {
+        !self.is_parked() && self.timer.is_late(now, patience)
     }
 }

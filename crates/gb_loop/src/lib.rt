@@ -1,19 +1,35 @@
 //! The event loop of a node: one thread that carries its packets, answers all its clients and makes its time tick, and waits in
 //! the system for the next of these. gb_mail has the node with its port, and each client's session. Here `links` has what is owed to each
-//! other node, and `parked` the clients that wait for a group. The loop itself is `node_loop::run_loop`; `carry` and `serving` are its two
-//! halves, packets and clients. Who runs a loop hands in a `Settle` and gets `Parts` back, so these names are passed on.
+//! other node, `sources` where it waits for packets, and `parked` the clients that wait for a group. The loop itself is `node_loop::run_loop`; `carry` is its half of packets. The
+//! others are its half of clients: `admitting` takes connections in, `serving` looks at them, `waiting` has those that wait, `ticking` does
+//! what is due at a tick and `closing` what is due at the end. `lines`, `timer`, `candidate`, `opening`, `bucket` and `rates` decide who is served, and
+//! know no socket. Who runs a loop hands in a `Settle` and gets `Parts` back, so these names are passed on.
 #![tactic(auto)]
 
+pub mod admitting;
+pub mod bucket;
+pub mod candidate;
 pub mod carry;
 pub mod clock;
+pub mod closing;
 pub mod connection;
+pub mod crowd;
+pub mod lines;
 pub mod links;
+pub mod meters;
 pub mod node_loop;
+pub mod opening;
 pub mod options;
 pub mod parked;
+pub mod rates;
 pub mod serving;
+pub mod sources;
+pub mod ticking;
+pub mod timer;
+pub mod waiting;
 
 pub use clock::LoopClock;
 pub use gb_mail::{Client, Parts, Settle, Turn, Unsettled, Way, hint};
 pub use node_loop::{Ending, LoopSockets};
 pub use options::LoopOptions;
+pub use rates::{Rate, RateLimits, TenantRate};

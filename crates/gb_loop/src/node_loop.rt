@@ -4,23 +4,23 @@ ghost use Rattle.gb_mail.specs.Mailed.{HasCalled, HasMailed};
 
 use crate::clock::LoopClock;
 use crate::connection::Connection;
+use crate::crowd::Crowd;
 use crate::links::Link;
 use crate::options::LoopOptions;
 use crate::parked::Parked;
+use crate::sources::{SOURCES, Sources};
 use gb_host::{Host, Seat, Tapes};
 use gb_mail::{Mail, Parts, Settle};
 use gb_port::Port;
-use gb_status::{Figure, Figures};
+use gb_status::{Figure, Figures, Misfit};
 use gb_types::{Addr, NodeId, NodeSet, OutOfMemory};
 use mio::event::Event;
 use mio::net::{TcpListener, TcpStream};
-use mio::unix::SourceFd;
 use mio::{Events, Interest, Poll, Token};
 use slab::Slab;
 use std::alloc::Global;
 use std::io;
 use std::net::Net;
-use std::os::fd::RawFd;
 use std::sync::Wait;
 use std::time::{Clock, Duration};
 
@@ -32,10 +32,8 @@ pub const LOOK: u64 = 100_000;
 
 const _: () = prove!(LOOK == 100_000 && PIECE == 65_536);
 
-// The tokens of the two sockets that are no connection.
-const UDP: usize = usize::MAX;
-
-const LISTENER: usize = usize::MAX - 1;
+// The token of the socket that is neither a connection nor a source of packets.
+const LISTENER: usize = SOURCES - 1;
 
 /// What a loop is told, and what it tells. Asked once a round.
 pub trait Ending {
@@ -57,6 +55,9 @@ pub trait Ending {
     /// What a node counted until its last tick, and the nodes that it noticed. Told when the loop begins, once a tick, and when it has
     /// ended.
     fn publish(&self, _node: NodeId, _figures: &Figures, _noticed: &NodeSet) {}
+
+    /// Packets that came to a node from the address of another one do not fit. Told at a tick, at most once a minute for each other one.
+    fn misfit(&self, _node: NodeId, _other: NodeId, _misfit: Misfit) {}
 }
 
 /// A node's loop: its sockets, its clients and its links.
@@ -73,7 +74,7 @@ pub struct NodeLoop<'a, L: Tapes, H, P: Port, S> {
     pub(crate) next_tick: u64,
     pub(crate) links: Vec<Link>,
     pub(crate) connections: Slab<Connection>,
-    pub(crate) listed: Vec<usize>,
+    pub(crate) crowd: Crowd,
     pub(crate) parked: Parked,
     // Bytes read, replies made and groups of items that came in one call.
     pub(crate) space: Vec<u8>,
@@ -93,6 +94,7 @@ pub struct NodeLoop<'a, L: Tapes, H, P: Port, S> {
     // Time passes at the node. It waits for the other nodes to be heard of, and these were.
     pub(crate) may_tick: bool,
     pub(crate) heard: NodeSet,
+    pub(crate) sources: Sources,
 }
 
 // A link to each node of a cluster.
@@ -111,8 +113,6 @@ pub struct LoopSockets<P> {
     pub node: NodeId,
     /// For packets.
     pub port: P,
-    /// The number that the system has for the port.
-    pub fd: RawFd,
     /// For clients.
     pub listener: TcpListener,
 }
@@ -150,7 +150,7 @@ impl<'a, L: Tapes, H: Wait + Clock, P: Port, S: Settle + Copy> NodeLoop<'a, L, H
             next_tick: options.tick,
             links,
             connections: Slab::new(alloc),
-            listed: Vec::new(alloc),
+            crowd: Crowd::new(alloc, options.rates),
             parked: Parked::new(alloc),
             space,
             out: Vec::new(alloc),
@@ -166,17 +166,19 @@ impl<'a, L: Tapes, H: Wait + Clock, P: Port, S: Settle + Copy> NodeLoop<'a, L, H
             noticed: NodeSet::new(),
             may_tick: options.wait == 0,
             heard: NodeSet::new(),
+            sources: Sources::new(),
         })
     }
 
     // Registers the sockets.
-    fn begin<N: Net>(&mut self, net: &N, fd: RawFd) -> io::Result<(Poll, Events)>
+    fn begin<N: Net>(&mut self, net: &N) -> io::Result<(Poll, Events)>
         ensures origin { self.new.mail.origin ≡ self.old.mail.origin }
     {
         let poll = Poll::new(net)?;
         let events = Events::with_capacity(self.alloc, 1_024)?;
-        poll.registry()
-            .register(&mut SourceFd(&fd), Token(UDP), Interest::READABLE)?;
+        if !self.watch_sources(&poll) {
+            return Err(io::Error::from(io::ErrorKind::Other));
+        }
         poll.registry()
             .register(&mut self.listener, Token(LISTENER), Interest::READABLE)?;
         Ok((poll, events))
@@ -204,8 +206,8 @@ impl<'a, L: Tapes, H: Wait + Clock, P: Port, S: Settle + Copy> NodeLoop<'a, L, H
     {
         'events: for event in events.iter() {
             match event.token().0 {
-                UDP => self.has_packets = true,
                 LISTENER => self.has_clients = true,
+                key if key >= SOURCES => self.wake_source(key - SOURCES),
                 key => self.hear(key, event),
             }
         }
@@ -215,12 +217,15 @@ impl<'a, L: Tapes, H: Wait + Clock, P: Port, S: Settle + Copy> NodeLoop<'a, L, H
     fn work(&mut self, poll: &Poll)
         ensures origin { self.new.mail.origin ≡ self.old.mail.origin }
     {
+        self.end_rest(poll);
         if self.has_packets {
             self.receive();
+            self.rest(poll);
         }
         if self.has_clients {
             self.accept(poll);
         }
+        self.release();
         self.look_all();
         if self.next_tick <= self.now {
             self.tick();
@@ -228,6 +233,7 @@ impl<'a, L: Tapes, H: Wait + Clock, P: Port, S: Settle + Copy> NodeLoop<'a, L, H
         if self.mail.is_touched() {
             self.wake_touched();
         }
+        self.wake_some();
         if self.is_dirty {
             self.pack_all();
         }
@@ -250,6 +256,7 @@ impl<'a, L: Tapes, H: Wait + Clock, P: Port, S: Settle + Copy> NodeLoop<'a, L, H
         if self.has_ticked {
             self.has_ticked = false;
             self.publish(ending);
+            self.tell_misfits(ending);
         }
         let most = self.options.sessions;
         if most > 0 && self.accepted >= most && self.open == 0 && !self.is_served {
@@ -266,10 +273,10 @@ impl<'a, L: Tapes, H: Wait + Clock, P: Port, S: Settle + Copy> NodeLoop<'a, L, H
     }
 
     // Runs until the end is told.
-    fn run<N: Net, E: Ending>(&mut self, net: &N, fd: RawFd, ending: &E)
+    fn run<N: Net, E: Ending>(&mut self, net: &N, ending: &E)
         ensures origin { self.new.mail.origin ≡ self.old.mail.origin }
     {
-        let Ok((mut poll, mut events)) = self.begin(net, fd) else {
+        let Ok((mut poll, mut events)) = self.begin(net) else {
             ending.fail();
             return;
         };
@@ -307,7 +314,7 @@ impl<'a, L: Tapes, H: Wait + Clock, P: Port, S: Settle + Copy> NodeLoop<'a, L, H
             next_tick: _,
             links: _,
             connections: _,
-            listed: _,
+            crowd: _,
             parked: _,
             space: _,
             out: _,
@@ -323,6 +330,7 @@ impl<'a, L: Tapes, H: Wait + Clock, P: Port, S: Settle + Copy> NodeLoop<'a, L, H
             noticed: _,
             may_tick: _,
             heard: _,
+            sources: _,
         } = self;
         mail.into_parts()
     }
@@ -349,7 +357,6 @@ pub fn run_loop<L: Tapes, H: Wait + Clock, N: Net, P: Port, S: Settle + Copy, E:
     let LoopSockets {
         node,
         port,
-        fd,
         listener,
     } = sockets;
     let nodes = host.plan().cluster.nodes;
@@ -357,7 +364,7 @@ pub fn run_loop<L: Tapes, H: Wait + Clock, N: Net, P: Port, S: Settle + Copy, E:
     match NodeLoop::new(rt, settle, alloc, mail, nodes, options, listener) {
         Ok(made) => {
             let mut node_loop = made;
-            node_loop.run(net, fd, ending);
+            node_loop.run(net, ending);
             node_loop.into_parts()
         }
         Err(mail) => {

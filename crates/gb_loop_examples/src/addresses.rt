@@ -32,19 +32,19 @@ fn is_refused<H: Net<Stream = TcpStream>>(rt: &H, port: u16) -> bool {
     TcpStream::connect(rt, other_address(port)).is_err()
 }
 
-// Returns the numbers of datagrams that node 1 has counted after ten were sent to the other address, and after one was sent to its
-// own.
+// Returns the numbers of strangers' datagrams that node 1 has counted after ten were sent to the other address, and after one was sent to
+// its own.
 fn come<H: Net<Stream = TcpStream> + Clock>(
     rt: &H,
     alloc: Global,
 ) -> Result<[u64; 2], ClientFault> {
     let mut member = joined(rt, 25_400, NodeId::new(1))?;
     let _ = send_to(rt, other_address(25_401), 10);
-    let before = figure(alloc, &mut member, b"fault_short=")?;
+    let before = figure(alloc, &mut member, b"strangers=")?;
     if !send_to(rt, address(25_401), 1) {
         return Err(ClientFault::Connection);
     }
-    let after = figure_at_last(rt, alloc, &mut member, b"fault_short=", 1)?;
+    let after = figure_at_last(rt, alloc, &mut member, b"strangers=", 1)?;
     Ok([before, after])
 }
 

@@ -309,6 +309,18 @@ pub fn fetches(alloc: Global, member: &mut Member, lines: &[&str]) -> Result<Vec
     reply_to(alloc, member, &body)
 }
 
+/// Sends one message with fetches that wait for at most `wait` milliseconds to a member's node, without reading the reply. Each of `lines`
+/// has the words of one fetch, as gb_ctl takes them. `Err` as with `ask`.
+pub fn wait_for(
+    alloc: Global,
+    member: &mut Member,
+    lines: &[&str],
+    wait: u32,
+) -> Result<(), ClientFault> {
+    let body = wait_of(alloc, member.node, lines, wait)?;
+    send(&mut member.stream, &body)
+}
+
 /// Sends one message with fetches that wait for at most `wait` milliseconds to a member's node. Each of `lines` has the words of
 /// one fetch, as gb_ctl takes them. Returns the milliseconds until the reply was there, and its text. `Err` as with `reply`, and
 /// with `Connection` if the clock fails.

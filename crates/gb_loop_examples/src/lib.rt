@@ -23,4 +23,13 @@ mod lists;
 #[cfg(test)]
 mod loops;
 #[cfg(test)]
+mod rates;
+#[cfg(test)]
+mod rules;
+#[cfg(test)]
+mod strangers;
+mod pairs;
+#[cfg(test)]
 mod ticks;
+#[cfg(test)]
+mod waiters;

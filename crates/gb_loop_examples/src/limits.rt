@@ -1,13 +1,14 @@
 // The limits of connections in a server's words: how many at once, how long they may be silent, and how much they may ask.
 use crate::clients::{
-    DENIED, Member, OPEN, ask, connect, gives, is_sound, joined as member_of, serves, told,
+    DENIED, Member, OPEN, ask, connect, end_server, figure, gives, is_at_end, is_sound,
+    joined as member_of, serves, told,
 };
 use gb_client::ClientFault;
 use gb_session::Head;
 use gb_spelling::CommandHead;
 use gb_types::NodeId;
 use std::alloc::Global;
-use std::io::{Read, Write};
+use std::io::{ErrorKind, Read, Write};
 use std::net::{Net, TcpListener, TcpStream};
 use std::rt::HostRuntime;
 use std::thread;
@@ -38,57 +39,70 @@ fn is_closed_after<H: Net<Stream = TcpStream> + Clock>(
     }
 }
 
-// Returns true if a connection answers a request.
-fn answers(stream: &mut TcpStream) -> bool {
-    let mut reply = [0u8; 20];
-    stream.write_all(OPEN).is_ok()
-        && stream.read_exact(&mut reply).is_ok()
-        && reply.as_slice() == DENIED
-}
-
-// Returns a new connection on which one request was answered.
-fn answered<H: Net<Stream = TcpStream> + Clock>(rt: &H, port: u16) -> Option<TcpStream> {
-    let mut stream = connect(rt, port)?;
-    if answers(&mut stream) {
-        Some(stream)
+// Returns a new connection on which an administrator was answered.
+fn admitted<H: Net<Stream = TcpStream> + Clock>(
+    rt: &H,
+    alloc: Global,
+    base_port: u16,
+) -> Option<Member> {
+    let mut member = member_of(rt, base_port, NodeId::new(0)).ok()?;
+    if is_answered(alloc, &mut member) {
+        Some(member)
     } else {
         None
     }
 }
 
-// Asks on new connections until one is answered. Returns true if one is.
-fn is_answered_at_last<H: Net<Stream = TcpStream> + Clock>(rt: &H, port: u16) -> bool {
-    for _ in 0..100 {
-        if answered(rt, port).is_some() {
-            return true;
-        }
-        thread::sleep(rt, Duration::from_millis(10));
-    }
-    false
+// Returns true if an administrator is answered on this connection.
+fn is_answered(alloc: Global, member: &mut Member) -> bool {
+    figure(alloc, member, b"running=").is_ok()
 }
 
-// Returns true if two connections are still served while one more is closed. Both end here.
-fn are_undisturbed<H: Net<Stream = TcpStream> + Clock>(rt: &H, alloc: Global, port: u16) -> bool {
-    let (Some(mut first), Some(mut second)) = (answered(rt, port), answered(rt, port)) else {
+// Returns true if the server closes a new connection on which these bytes were sent, without a reply.
+fn is_dropped<H: Net<Stream = TcpStream> + Clock>(rt: &H, port: u16, bytes: &[u8]) -> bool {
+    let Some(mut stream) = connect(rt, port) else {
         return false;
     };
-    let is_closed = is_closed_after(rt, alloc, port, b"", b"");
-    is_closed && answers(&mut first) && answers(&mut second)
+    let _ = stream.write_all(bytes);
+    let mut space = [0u8; 1];
+    match stream.read(&mut space) {
+        Ok(count) => count == 0,
+        // Bytes that the server did not read end a connection so.
+        Err(error) => error.kind() == ErrorKind::ConnectionReset,
+    }
 }
 
-static TWO_AT_ONCE: [&str; 6] = [
+static TWO_AT_ONCE: [&str; 5] = [
     "gb_serve",
     "--nodes=1",
     "--base-port=26000",
-    "--sessions=3",
     "--connections",
     "2",
 ];
 
+// Returns true for each of these: of two connections of which something was admitted none makes room; one more that asks something else
+// is closed without a reply; an administrator is answered on one more; and both go on.
+fn are_undisturbed<H: Net<Stream = TcpStream> + Clock>(rt: &H, alloc: Global) -> [bool; 4] {
+    let (Some(mut first), Some(mut second)) = (
+        admitted(rt, alloc, 26_000),
+        admitted(rt, alloc, 26_000),
+    ) else {
+        return [false; 4];
+    };
+    let is_closed = is_dropped(rt, 26_064, OPEN);
+    let is_admin = admitted(rt, alloc, 26_000).is_some();
+    [
+        is_closed,
+        is_admin,
+        is_answered(alloc, &mut first),
+        is_answered(alloc, &mut second),
+    ]
+}
+
 #[test]
 fn one_more_connection_is_closed(rt: HostRuntime) {
     let alloc = rt.alloc();
-    let (is_served, is_closed) = thread::join(
+    let (is_served, (are_right, is_over)) = thread::join(
         &rt,
         || serves(
             &rt,
@@ -96,9 +110,9 @@ fn one_more_connection_is_closed(rt: HostRuntime) {
             &TWO_AT_ONCE,
             b"serving 1 nodes from port 26000\nclosed\n",
         ),
-        || are_undisturbed(&rt, alloc, 26_064) && is_answered_at_last(&rt, 26_064),
+        || (are_undisturbed(&rt, alloc), end_server(&rt, alloc, 26_000)),
     );
-    assert!(rt; is_served && is_closed);
+    assert!(rt; is_served && is_over && are_right == [true; 4]);
 }
 
 static SHORT: [&str; 8] = [
@@ -128,7 +142,10 @@ fn silence_and_many_requests_end_a_connection(rt: HostRuntime) {
         || {
             let three = [OPEN, OPEN, OPEN];
             let two = [DENIED, DENIED];
-            let is_idle = is_closed_after(&rt, alloc, 26_164, OPEN, DENIED);
+            let is_idle = match admitted(&rt, alloc, 26_100) {
+                Some(mut member) => is_at_end(&mut member),
+                None => false,
+            };
             let asked = joined(alloc, &three);
             let replies = joined(alloc, &two);
             (

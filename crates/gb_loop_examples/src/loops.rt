@@ -8,8 +8,8 @@ use gb_host::here::only;
 use gb_host::pasts::new_pasts;
 use gb_host::{Host, HostPlan, NodePast, Seat, Tapes};
 use gb_loop::node_loop::run_loop;
-use gb_loop::{Ending, LoopOptions, LoopSockets, Parts, Unsettled};
-use gb_port::UdpPort;
+use gb_loop::{Ending, LoopOptions, LoopSockets, Parts, RateLimits, Unsettled};
+use gb_port::{Port, UdpPort};
 use gb_status::{Figure, Figures};
 use gb_types::limits::NODES;
 use gb_types::{NodeId, NodeSet, Plan, Version};
@@ -25,7 +25,7 @@ use std::time::{Clock, Duration, Instant};
 const ME: NodeId = NodeId { number: 0 };
 
 /// A node that runs alone: the number of nodes of its cluster, the ticks after which it notices the others, the microseconds of a
-/// tick, and the port for its packets. The port for its clients is 64 above.
+/// tick, and the port for its packets. The port for its clients is 64 above. `wait`, `beat` and `first` are those of its loop.
 #[derive(Clone, Copy)]
 pub struct Alone {
     pub nodes: u8,
@@ -33,6 +33,8 @@ pub struct Alone {
     pub tick: u64,
     pub port: u16,
     pub wait: u64,
+    pub beat: u64,
+    pub first: u64,
 }
 
 /// The progress of a loop, and its end: when it is told, when this number of nodes is noticed, or after this number of rounds.
@@ -139,22 +141,24 @@ fn plan_of(alone: Alone) -> HostPlan
     }
 }
 
-// Returns the options of its loop: it serves for ever, and gives a sign of life once a second.
-fn options_of(alone: Alone) -> LoopOptions {
+/// Returns the options of its loop: it serves for ever.
+pub fn options_of(alone: Alone, rates: RateLimits) -> LoopOptions {
     LoopOptions {
         tick: alone.tick,
-        beat: 1_000_000,
+        beat: alone.beat,
         idle: 0,
-        first: 10_000_000,
+        first: alone.first,
+        later: 60_000_000,
         sessions: 0,
         connections: 16,
         requests: u64::MAX,
         wait: alone.wait,
+        rates,
     }
 }
 
-// Returns a listener for clients on a port.
-fn listen<N: Net<Listener = TcpListener, Stream = TcpStream>>(
+/// Returns a listener for clients on a port.
+pub fn listen<N: Net<Listener = TcpListener, Stream = TcpStream>>(
     net: &N,
     port: u16,
 ) -> Option<mio::net::TcpListener> {
@@ -174,11 +178,9 @@ fn open_sockets<N: Net<Listener = TcpListener, Stream = TcpStream>>(
 {
     let port = UdpPort::bind_loopback(net, alloc, ME, alone.nodes, alone.port).ok()?;
     let listener = listen(net, alone.port + 64)?;
-    let fd = port.raw_fd();
     Some(LoopSockets {
         node: ME,
         port,
-        fd,
         listener,
     })
 }
@@ -188,15 +190,16 @@ fn run_host<
     L: Tapes,
     H: Wait + Clock,
     N: Net<Listener = TcpListener, Stream = TcpStream>,
+    P: Port + Drop,
     E: Ending,
 >(
     rt: &H,
     net: &N,
     alloc: Global,
-    alone: Alone,
+    options: LoopOptions,
     plan: HostPlan,
     pasts: Vec<NodePast>,
-    sockets: LoopSockets<UdpPort>,
+    sockets: LoopSockets<P>,
     ending: &E,
 ) -> Option<bool>
     requires plan { plan ≡ L.plan }
@@ -205,9 +208,8 @@ fn run_host<
     requires pasts { (vec_len pasts ≡ plan.cluster.nodes) × AreBlank pasts.items }
     requires books { books_of pasts.items ≡ L.books }
 {
-    let (host, mut seats, _) = Host::<L>::open(alloc, plan, only(ME), 1, pasts).ok()?;
+    let (host, mut seats, _) = Host::<L>::open(alloc, plan, only(sockets.node), 1, pasts).ok()?;
     let seat = seats.pop()?;
-    let options = options_of(alone);
     let Parts { seat, .. } = run_loop(
         rt, net, alloc, &host, seat, sockets, options, &Unsettled, ending,
     );
@@ -215,8 +217,7 @@ fn run_host<
     Some(close(host, seats).is_ok())
 }
 
-/// Opens the sockets of a node that runs alone and runs its loop, until `ending` ends it. Returns true if the loop ran and the host
-/// was closed well. Returns false if a socket could not be opened, memory was refused, or the host was not closed well.
+/// Runs the loop of a node, as `runs_limited` does, whose tenants have no limits.
 pub fn runs<H: Wait + Clock, N: Net<Listener = TcpListener, Stream = TcpStream>, E: Ending>(
     rt: &H,
     net: &N,
@@ -228,14 +229,56 @@ pub fn runs<H: Wait + Clock, N: Net<Listener = TcpListener, Stream = TcpStream>,
     requires silence { (2 ≤ alone.silence) × (alone.silence ≤ 1000) }
     requires port { (1024 ≤ alone.port) × (alone.port ≤ 32000) }
 {
+    runs_limited(rt, net, alloc, alone, RateLimits::none(), ending)
+}
+
+/// Opens the sockets of a node that runs alone and runs its loop, until `ending` ends it. Returns true if the loop ran and the host
+/// was closed well. Returns false if a socket could not be opened, memory was refused, or the host was not closed well.
+pub fn runs_limited<H: Wait + Clock, N: Net<Listener = TcpListener, Stream = TcpStream>, E: Ending>(
+    rt: &H,
+    net: &N,
+    alloc: Global,
+    alone: Alone,
+    rates: RateLimits,
+    ending: &E,
+) -> bool
+    requires nodes { (1 ≤ alone.nodes) × (alone.nodes ≤ 16) }
+    requires silence { (2 ≤ alone.silence) × (alone.silence ≤ 1000) }
+    requires port { (1024 ≤ alone.port) × (alone.port ≤ 32000) }
+{
     let Some(sockets) = open_sockets(net, alloc, alone) else {
         return false;
     };
+    let options = options_of(alone, rates);
+    runs_on(rt, net, alloc, alone, options, sockets, ending)
+}
+
+/// Runs the loop of a node on these sockets, until `ending` ends it. Returns true if the host was closed well, and false if it was not, or
+/// memory was refused.
+pub fn runs_on<
+    H: Wait + Clock,
+    N: Net<Listener = TcpListener, Stream = TcpStream>,
+    P: Port + Drop,
+    E: Ending,
+>(
+    rt: &H,
+    net: &N,
+    alloc: Global,
+    alone: Alone,
+    options: LoopOptions,
+    sockets: LoopSockets<P>,
+    ending: &E,
+) -> bool
+    requires nodes { (1 ≤ alone.nodes) × (alone.nodes ≤ 16) }
+    requires silence { (2 ≤ alone.silence) × (alone.silence ≤ 1000) }
+{
     let Ok(pasts) = new_pasts(alloc, alone.nodes) else {
         return false;
     };
     let plan = plan_of(alone);
-    run_host::<Brand, H, N, E>(rt, net, alloc, alone, plan, pasts, sockets, ending).unwrap_or(false)
+    run_host::<Brand, H, N, P, E>(rt, net, alloc, options, plan, pasts, sockets, ending).unwrap_or(
+        false,
+    )
 }
 
 // A node of a cluster of one node that ticks in each round.
@@ -245,6 +288,8 @@ const RESTLESS: Alone = Alone {
     tick: 1,
     port: 25_800,
     wait: 0,
+    beat: 1_000_000,
+    first: 10_000_000,
 };
 
 // Asks a loop a hundred times at its beginning, and again after thirty thousand rounds. Then tells it to end. Returns the numbers

@@ -20,6 +20,8 @@ const OF_TWO: Alone = Alone {
     tick: 20_000,
     port: 25_500,
     wait: 0,
+    beat: 1_000_000,
+    first: 10_000_000,
 };
 
 const OF_EIGHT: Alone = Alone {
@@ -28,6 +30,8 @@ const OF_EIGHT: Alone = Alone {
     tick: 40_000,
     port: 25_600,
     wait: 0,
+    beat: 1_000_000,
+    first: 10_000_000,
 };
 
 // How a node that runs alone notices the others: whether its loop ended well, after how many ticks, and after how many microseconds.
@@ -87,6 +91,8 @@ const STEPS_OF_TWO: Alone = Alone {
     tick: 2_000,
     port: 25_700,
     wait: 0,
+    beat: 1_000_000,
+    first: 10_000_000,
 };
 
 const STEPS_OF_EIGHT: Alone = Alone {
@@ -95,6 +101,8 @@ const STEPS_OF_EIGHT: Alone = Alone {
     tick: 2_000,
     port: 26_300,
     wait: 0,
+    beat: 1_000_000,
+    first: 10_000_000,
 };
 
 // The same by the clock of steps.
@@ -131,6 +139,8 @@ const WAITING: Alone = Alone {
     tick: 2_000,
     port: 26_700,
     wait: 20_500,
+    beat: 1_000_000,
+    first: 10_000_000,
 };
 
 #[test]

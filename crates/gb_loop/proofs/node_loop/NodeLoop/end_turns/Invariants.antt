@@ -1,5 +1,5 @@
 use Rattle.gb_types.specs.Common.{◌≡◌}
 use Rattle.gb_loop.proofs.node_loop.NodeLoop.end_turns.Given as goal
 
-abbrev pub invariant-turns : goal.invariant-turns
-invariant-turns g l = l.self.mail.origin ≡ l.fn.self.mail.origin
+abbrev pub invariant-keys : goal.invariant-keys
+invariant-keys g l = l.self.mail.origin ≡ l.fn.self.mail.origin

@@ -1,0 +1,122 @@
+//! The end of a loop.
+ghost use Rattle.std.specs.Prelude.{◌≡◌};
+
+use crate::connection::Look;
+use crate::node_loop::{NodeLoop, PIECE};
+use gb_host::Tapes;
+use gb_mail::{Settle, Turn};
+use gb_port::Port;
+use gb_session::Step;
+use std::sync::Wait;
+use std::thread;
+use std::time::{Clock, Duration};
+
+/// How many turns a connection gets at the loop's end while its stream takes the replies, and how often it is looked at again, every 10
+/// milliseconds, where its stream does not.
+pub const LAST_TURNS: usize = 64;
+
+pub const LAST_LOOKS: usize = 100;
+
+/// How long all of these take at most, in microseconds.
+pub const LAST: u64 = 2_000_000;
+
+const _: () = prove!(LAST_LOOKS == 100 && LAST_TURNS == 64 && LAST == 2_000_000);
+
+/// What the last turn of a connection leaves to do.
+#[derive(Clone, Copy, Debug, PartialEq, Eq)]
+enum Rest {
+    /// Nothing.
+    Nothing,
+    /// Replies wait for its stream, which takes none now.
+    Replies,
+    /// There may be more to answer.
+    More,
+}
+
+impl Rest {
+    // Returns the greater of two: more to answer before replies that wait.
+    fn with(self, other: Rest) -> Rest {
+        match (self, other) {
+            (Rest::More, _) | (_, Rest::More) => Rest::More,
+            (Rest::Replies, _) | (_, Rest::Replies) => Rest::Replies,
+            _ => Rest::Nothing,
+        }
+    }
+}
+
+impl<'a, L: Tapes, H: Wait + Clock, P: Port, S: Settle + Copy> NodeLoop<'a, L, H, P, S> {
+    // Makes a last turn of a connection: what is whole is answered, what waits as late; then what came is read.
+    fn end_turn(&mut self, key: usize) -> Rest
+        ensures origin { self.new.mail.origin ≡ self.old.mail.origin }
+    {
+        let _ = self.unpark(key);
+        match self.turn(key, Look::Last, PIECE) {
+            Some(Turn::Took(Step::Hungry, _)) | Some(Turn::Took(Step::Parked(_), _)) => {
+                self.end_read(key)
+            }
+            Some(Turn::Took(_, _)) | Some(Turn::Again) => Rest::More,
+            Some(Turn::Blocked) => Rest::Replies,
+            _ => Rest::Nothing,
+        }
+    }
+
+    // Makes a last turn of a connection in which it is read.
+    fn end_read(&mut self, key: usize) -> Rest
+        ensures origin { self.new.mail.origin ≡ self.old.mail.origin }
+    {
+        match self.turn(key, Look::LastReads, PIECE) {
+            Some(Turn::Took(_, _)) | Some(Turn::Again) => Rest::More,
+            Some(Turn::Blocked) => Rest::Replies,
+            _ => Rest::Nothing,
+        }
+    }
+
+    // Makes a last turn of each connection, as long as there is time.
+    fn end_turns(&mut self, until: u64) -> Rest
+        ensures origin { self.new.mail.origin ≡ self.old.mail.origin }
+    {
+        let mut rest = Rest::Nothing;
+        'keys: for key in 0..self.connections.capacity() {
+            rest = rest.with(self.end_turn(key));
+            if self.clock.now(self.rt) >= until {
+                return Rest::Nothing;
+            }
+        }
+        rest
+    }
+
+    // Makes last turns of all connections, one of each in turn, until there is no more to answer. Returns true if replies wait for the
+    // stream of one.
+    fn answer_last(&mut self, until: u64) -> bool
+        ensures origin { self.new.mail.origin ≡ self.old.mail.origin }
+    {
+        let mut rest = Rest::Nothing;
+        'turns: for _ in 0..LAST_TURNS {
+            rest = self.end_turns(until);
+            if rest != Rest::More {
+                break;
+            }
+        }
+        rest != Rest::Nothing
+    }
+
+    // The end: no connection is accepted any more; those that wait are answered as late, and what is whole is answered. Replies that a
+    // stream does not take get a second. Then all are closed, `LAST` microseconds after the end was seen if something is left to do then.
+    pub(crate) fn finish(&mut self)
+        ensures origin { self.new.mail.origin ≡ self.old.mail.origin }
+    {
+        let until = self.clock.now(self.rt).saturating_add(LAST);
+        let mut is_left = self.answer_last(until);
+        'looks: for _ in 0..LAST_LOOKS {
+            if !is_left || self.clock.now(self.rt) >= until {
+                break;
+            }
+            thread::sleep(self.rt, Duration::from_millis(10));
+            is_left = self.end_turns(until) != Rest::Nothing;
+        }
+        'keys: for key in 0..self.connections.capacity() {
+            self.close(key);
+        }
+        self.count_connections(0);
+    }
+}
