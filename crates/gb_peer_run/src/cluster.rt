@@ -10,10 +10,10 @@ use gb_cluster_file::ClusterFile;
 use gb_host::HostPlan;
 use gb_keys::Keys;
 use gb_keys::keys::keys_of_run;
-use gb_loop::LoopOptions;
+use gb_loop::{LoopOptions, RateLimits};
 use gb_peer_words::PeerPlan;
 use gb_rules::room::ROOMS;
-use gb_server::serve_main::{FIRST, beats_of};
+use gb_server::serve_main::{FIRST, LATER, beats_of};
 use gb_types::Plan;
 use gb_types::limits::NODES;
 
@@ -66,6 +66,7 @@ pub fn options_of(file: &ClusterFile, plan: PeerPlan, connections: u64) -> LoopO
         beat,
         idle: u64::from(plan.idle) * 1_000_000,
         first: FIRST,
+        later: LATER,
         sessions: u64::from(plan.sessions),
         connections,
         requests: if plan.session_requests == 0 {
@@ -74,5 +75,6 @@ pub fn options_of(file: &ClusterFile, plan: PeerPlan, connections: u64) -> LoopO
             u64::from(plan.session_requests)
         },
         wait: u64::from(plan.wait) * 1_000_000,
+        rates: RateLimits::none(),
     }
 }

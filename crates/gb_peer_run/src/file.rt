@@ -5,14 +5,14 @@ ghost use Rattle.gb_peer_run.specs.Told.{fault_status};
 
 use crate::complaint::NAME;
 use crate::fault::PeerFault;
-use gb_cluster_file::read::read_cluster;
+use gb_cluster_file::read::{TEXT, read_cluster};
 use gb_cluster_file::words::fault_text;
 use gb_cluster_file::{ClusterFile, FileFault};
 use gb_server::ServeFault;
-use std::alloc::{AllocGlobal, Global};
-use std::fs::Files;
-use std::io::Write;
-use std::{fs, str};
+use std::alloc::Global;
+use std::fs::{File, Files};
+use std::io::{Read, Write};
+use std::str;
 
 // Says why a file is refused.
 fn refuse<E: Write>(errors: &mut E, name: &str, why: &str) -> PeerFault
@@ -41,10 +41,21 @@ fn refuse_text<E: Write>(
     }
 }
 
-/// Reads the cluster file with this name from the disk, and returns what it says. `Err` with `RefusedFile` if it cannot be read, is
-/// no UTF-8 text or is no cluster file; then a line in `errors` says why. `Err` with `OutOfMemory`, as a server's fault, if memory
-/// is refused.
-pub fn read_file<F: Files + AllocGlobal, E: Write>(
+// Returns the bytes of the file with this name, of which at most one more is read than a cluster file may have. `None` if it cannot be
+// read.
+fn bytes_of<F: Files>(files: &F, alloc: Global, name: &str) -> Option<Vec<u8>> {
+    let file = File::open(files, name).ok()?;
+    let mut bytes = Vec::new(alloc);
+    match file.take(TEXT as u64 + 1).read_to_end(&mut bytes) {
+        Ok(_) => Some(bytes),
+        Err(_) => None,
+    }
+}
+
+/// Reads the cluster file with this name from the disk, and returns what it says. Reads no more of it than shows that it is too long.
+/// `Err` with `RefusedFile` if it cannot be read, is too long, is no UTF-8 text or is no cluster file; then a line in `errors` says
+/// why. `Err` with `OutOfMemory`, as a server's fault, if memory is refused.
+pub fn read_file<F: Files, E: Write>(
     files: &F,
     alloc: Global,
     name: &str,
@@ -53,9 +64,12 @@ pub fn read_file<F: Files + AllocGlobal, E: Write>(
     ensures file { IfOk result (λ file. (text : List ℕ) × IsFileOf text file) }
     ensures refused { IfErr result (λ fault. fault_status fault ≡ 2 → fault ≡ PeerFault.RefusedFile) }
 {
-    let Ok(bytes) = fs::read(files, name) else {
+    let Some(bytes) = bytes_of(files, alloc, name) else {
         return Err(refuse(errors, name, "it cannot be read"));
     };
+    if bytes.len() > TEXT {
+        return Err(refuse_text(alloc, errors, name, "", FileFault::TooLong));
+    }
     let Ok(text) = str::from_utf8(&bytes) else {
         return Err(refuse(errors, name, "it is no UTF-8 text"));
     };

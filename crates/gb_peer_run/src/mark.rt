@@ -2,6 +2,7 @@
 ghost use Rattle.std.specs.Prelude.{◌≡◌, ◌++◌, OnOk, IfOk};
 ghost use Rattle.gb_peer_run.specs.Marks.{mark_name};
 
+use gb_server::record_file::{make_folder, settle_folder};
 use gb_spelling::number::put_number;
 use gb_types::OutOfMemory;
 use gb_types::memory::put_bytes;
@@ -44,7 +45,8 @@ pub fn mark_name(alloc: Global, dir: &str, run: u64, node: u8) -> Result<Vec<u8>
     Ok(name)
 }
 
-// Makes a file that was not there, which its owner alone may read, and sees that it is on the disk.
+// Makes a file that was not there, which its owner alone may read, and sees that it is on the disk. A file that cannot be written is
+// removed.
 fn make<F: Files>(files: &F, name: &str) -> Marked {
     let mut options = OpenOptions::new();
     options.write(true).create_new(true).mode(0o600);
@@ -54,6 +56,7 @@ fn make<F: Files>(files: &F, name: &str) -> Marked {
             if file.write_all(b"begun\n").is_ok() && file.sync_all().is_ok() {
                 Marked::New
             } else {
+                let _ = fs::remove_file(files, name);
                 Marked::Failed
             }
         }
@@ -64,16 +67,9 @@ fn make<F: Files>(files: &F, name: &str) -> Marked {
     }
 }
 
-// Sees that what a folder has is on the disk. A system that does not do so for folders is passed over.
-fn settle<F: Files>(files: &F, dir: &str) {
-    if let Ok(folder) = OpenOptions::new().read(true).open(files, dir) {
-        let _ = folder.sync_all();
-    }
-}
-
-/// Marks that a node begins in a run, by a new file in the folder `dir`. The folder is made if it was not there, and the file is on
-/// the disk when the function returns. Returns `New` if the file was made now, `Old` if it was there before, `Failed` if it could
-/// not be made or written. `Err` if memory is refused.
+/// Marks that a node begins in a run, by a new file in the folder `dir`. The folder is made if it was not there, for its owner alone,
+/// and the file is on the disk when the function returns. Returns `New` if the file was made now, `Old` if it was there before,
+/// `Failed` if it could not be made or written; then it is not there. `Err` if memory is refused.
 pub fn mark<F: Files>(
     files: &F,
     alloc: Global,
@@ -85,10 +81,20 @@ pub fn mark<F: Files>(
     let Ok(name) = str::from_utf8(&bytes) else {
         return Ok(Marked::Failed);
     };
-    let _ = fs::create_dir_all(files, dir);
+    make_folder(files, dir);
     let marked = make(files, name);
     if marked == Marked::New {
-        settle(files, dir);
+        settle_folder(files, dir);
     }
     Ok(marked)
+}
+
+/// Removes the mark of a node in a run from the folder `dir`: the node did not begin. What cannot be removed stays.
+pub fn unmark<F: Files>(files: &F, alloc: Global, dir: &str, run: u64, node: u8) {
+    if let Ok(bytes) = mark_name(alloc, dir, run, node)
+        && let Ok(name) = str::from_utf8(&bytes)
+    {
+        let _ = fs::remove_file(files, name);
+        settle_folder(files, dir);
+    }
 }

@@ -13,7 +13,7 @@ use crate::cluster::{host_plan, node_count, options_of};
 use crate::complaint::{NAME, complain};
 use crate::fault::PeerFault;
 use crate::file::read_file;
-use crate::mark::{Marked, mark};
+use crate::mark::{Marked, mark, unmark};
 use crate::places::{Places, places_of};
 use crate::sockets::open_sockets;
 use crate::told::{fault_status, serving_line, tell_closed, tell_fault};
@@ -27,13 +27,13 @@ use gb_peer_words::words::read_words;
 use gb_peer_words::{PeerPlan, PeerWords};
 use gb_serve_words::options::may_reach;
 use gb_server::complaint::complain as complain_of_server;
-use gb_server::descriptors::{connections_of, descriptor_limit};
+use gb_server::descriptors::{allow_nodes, connections_of, descriptor_limit};
 use gb_server::ending::end_recorded;
-use gb_server::record_file::open_records;
+use gb_server::record_file::{RecordFault, RecordTrouble, open_records, remove_record};
 use gb_server::recorded::logs_of;
 use gb_server::run::run;
 use gb_server::server_log::put_address;
-use gb_server::sockets::open_status;
+use gb_server::sockets::{open_status, port_sockets};
 use gb_server::{Given, Held, Input, Keys, Opened, RecordFile, RecordPlace, ServeFault, Service};
 use gb_spelling::number::put_number;
 use gb_types::memory::put_bytes;
@@ -159,10 +159,32 @@ fn service_of(
     })
 }
 
-// Serves a node on sockets that are bound.
+// A node's start in a run, by its words.
+#[derive(Clone, Copy)]
+struct Start<'a> {
+    words: &'a PeerWords<'a>,
+    run: u64,
+    node: NodeId,
+}
+
+// Removes the mark and the record of a start that failed before anything could leave the node: it has not begun.
+fn withdraw<F: Files<File = File>>(files: &F, alloc: Global, start: Start<'_>) {
+    let Start { words, run, node } = start;
+    if let Some(place) = place_of(words, run) {
+        remove_record(files, alloc, place, node);
+    }
+    unmark(files, alloc, words.dir, run, node.number);
+}
+
+// Serves a node on sockets that are bound. If its loop is not reached, the mark and the record of its start are removed.
 fn serve_host<
     L: Tapes + Send + Sync,
-    H: Net<Listener = TcpListener, Stream = TcpStream> + Threads + Wait + Clock + Sync,
+    H: Net<Listener = TcpListener, Stream = TcpStream>
+        + Threads
+        + Wait
+        + Clock
+        + Sync
+        + Files<File = File>,
     R: Input,
     W: Write,
     E: Write + Send,
@@ -170,7 +192,7 @@ fn serve_host<
     rt: &H,
     alloc: Global,
     plan: HostPlan,
-    me: NodeId,
+    start: Start<'_>,
     service: &Service,
     options: LoopOptions,
     opened: Opened,
@@ -181,7 +203,7 @@ fn serve_host<
 ) -> Result<(), PeerFault>
     requires plan { plan ≡ L.plan }
     requires limits { IsPlan plan }
-    requires member { me.number < plan.cluster.nodes }
+    requires member { start.entry.node.number < plan.cluster.nodes }
     requires pasts { (vec_len pasts ≡ plan.cluster.nodes) × AreBlank pasts.items }
     requires books { books_of pasts.items ≡ L.books }
     ensures told { OnOk result (Appends (W.contents writer.old) (W.contents writer.new) service.now.line.items) }
@@ -193,11 +215,20 @@ fn serve_host<
         files,
         listener,
     } = opened;
-    let (host, seats, recorders) = match Host::<L>::open(alloc, plan, only(me), 1, pasts) {
+    let (host, seats, recorders) = match Host::<L>::open(alloc, plan, only(start.node), 1, pasts) {
         Ok(opened) => opened,
-        Err(fault) => return Err(PeerFault::Serve(ServeFault::from(fault))),
+        Err(fault) => {
+            withdraw(rt, alloc, start);
+            return Err(PeerFault::Serve(ServeFault::from(fault)));
+        }
     };
-    let logs = logs_of(alloc, &plan, host.here(), recorders, files)?;
+    let logs = match logs_of(alloc, &plan, host.here(), recorders, files) {
+        Ok(logs) => logs,
+        Err(OutOfMemory) => {
+            withdraw(rt, alloc, start);
+            return Err(PeerFault::Serve(ServeFault::OutOfMemory));
+        }
+    };
     let given = Given {
         seats,
         sockets,
@@ -226,20 +257,35 @@ fn place_of<'a>(words: &PeerWords<'a>, run: u64) -> Option<RecordPlace<'a>> {
     Some(RecordPlace { dir, run, syncs })
 }
 
-// Makes the record of the node if one is wanted. Returns its file, or no file.
+// Makes the record of the node if one is wanted. Returns its file, or no file. If it cannot be made, the mark of the start is removed,
+// but not where a record was there before: by that the node has begun.
 fn open_files<F: Files<File = File>>(
     files: &F,
     alloc: Global,
-    words: &PeerWords<'_>,
-    run: u64,
+    start: Start<'_>,
     plan: &HostPlan,
-    me: NodeId,
 ) -> Result<Vec<RecordFile>, PeerFault>
     ensures { IfErr result (λ fault. fault_status fault ≡ 1) }
 {
-    match open_records(files, alloc, place_of(words, run), plan, me, 1) {
+    let Start { words, run, node } = start;
+    match open_records(files, alloc, place_of(words, run), plan, node, 1) {
         Ok(records) => Ok(records),
-        Err(fault) => Err(PeerFault::Serve(ServeFault::from(fault))),
+        Err(fault) => {
+            if fault != RecordFault::Trouble(RecordTrouble::There) {
+                unmark(files, alloc, words.dir, run, node.number);
+            }
+            Err(PeerFault::Serve(ServeFault::from(fault)))
+        }
+    }
+}
+
+// Refuses to serve where the process may hold too few descriptors for the node.
+fn allow_descriptors(plan: PeerPlan) -> Result<(), PeerFault>
+    ensures { IfErr result (λ fault. fault_status fault ≡ 1) }
+{
+    match allow_nodes(descriptor_limit(), 1, plan.records) {
+        Ok(()) => Ok(()),
+        Err(fault) => Err(PeerFault::Serve(fault)),
     }
 }
 
@@ -284,15 +330,25 @@ fn serve_node<
         places.packets[me.index()],
         places.sessions,
     )?;
+    allow_descriptors(plan)?;
     let sockets = open_sockets(rt, alloc, me, places)?;
     let listener = match open_status(rt, plan.status) {
         Ok(listener) => listener,
         Err(fault) => return Err(PeerFault::Serve(ServeFault::from(fault))),
     };
-    begin(rt, alloc, words.dir, file.run, me)?;
+    let pasts = new_pasts(alloc, node_count(file))?;
     let host = host_plan(file, keys, plan.records);
-    let files = open_files(rt, alloc, words, file.run, &host, me)?;
-    let descriptors = descriptor_limit().saturating_sub(files.len() as u64);
+    let start = Start {
+        words,
+        run: file.run,
+        node: me,
+    };
+    begin(rt, alloc, words.dir, file.run, me)?;
+    let files = open_files(rt, alloc, start, &host)?;
+    let own = port_sockets(&sockets).own;
+    let descriptors = descriptor_limit()
+        .saturating_sub(files.len() as u64)
+        .saturating_sub(own);
     let connections = connections_of(u64::from(plan.connections), 1, descriptors);
     let options = options_of(file, plan, connections);
     let opened = Opened {
@@ -300,9 +356,8 @@ fn serve_node<
         files,
         listener,
     };
-    let pasts = new_pasts(alloc, node_count(file))?;
     serve_host::<Brand, H, R, W, E>(
-        rt, alloc, host, me, &service, options, opened, pasts, reader, writer, errors,
+        rt, alloc, host, start, &service, options, opened, pasts, reader, writer, errors,
     )
 }
 

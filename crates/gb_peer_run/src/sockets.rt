@@ -11,8 +11,8 @@ use gb_types::NodeId;
 use std::alloc::Global;
 use std::net::{Net, TcpListener, TcpStream};
 
-/// Binds the sockets of node `me`, and returns them alone in a list: UDP for packets at its own place in `places`, and TCP for
-/// sessions. `Err` with `Packets` or `Sessions` and the address if that one cannot be bound, and with `OutOfMemory`, as a server's
+/// Binds the sockets of node `me`, and returns them alone in a list: UDP for packets at its own place in `places`, with an own socket
+/// for each other node as far as the system gives them, and TCP for sessions. `Err` with `Packets` or `Sessions` and the address if that one cannot be bound, and with `OutOfMemory`, as a server's
 /// fault, if memory is refused. Then no socket is left open.
 pub fn open_sockets<H: Net<Listener = TcpListener, Stream = TcpStream>>(
     rt: &H,
@@ -29,11 +29,15 @@ pub fn open_sockets<H: Net<Listener = TcpListener, Stream = TcpStream>>(
     };
     let Places { packets, sessions } = places;
     let own = packets[me.index()];
-    let port = match UdpPort::bind(rt, alloc, me, packets) {
+    let mut port = match UdpPort::bind(rt, alloc, me, packets) {
         Ok(port) => port,
         Err(BindFault::Port) => return Err(PeerFault::Packets(own)),
         Err(BindFault::OutOfMemory) => return Err(PeerFault::Serve(ServeFault::OutOfMemory)),
     };
+    if port.part().is_err() {
+        return Err(PeerFault::Serve(ServeFault::OutOfMemory));
+    }
+    port.widen();
     let Some(listener) = listen(rt, sessions) else {
         return Err(PeerFault::Sessions(sessions));
     };

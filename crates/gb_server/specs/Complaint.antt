@@ -5,7 +5,7 @@ use Rattle.gb_merge.specs.declared.fault.AuditFault.{AuditFault}
 use Rattle.gb_merge.specs.declared.fault.AuditFault.TheVariants as audit
 use Rattle.gb_server.specs.Told.{lined}
 use Rattle.gb_server.specs.declared.{fault.ServeFault.ServeFault, record_file.RecordTrouble.RecordTrouble, sockets.PortName.TheVariants.Udp, sockets.PortName.TheVariants.Tcp, sockets.PortName.TheVariants.Status}
-use Rattle.gb_server.specs.declared.fault.ServeFault.TheVariants.{RefusedWords, BadKeys, NoNode, ForeignSeat, Port, Differs, OutOfMemory, Full, Audit, Write, NoRun, Record}
+use Rattle.gb_server.specs.declared.fault.ServeFault.TheVariants.{RefusedWords, BadKeys, NoNode, ForeignSeat, Port, Differs, OutOfMemory, Full, Audit, Write, NoRun, Descriptors, Record}
 use Rattle.gb_server.specs.declared.record_file.RecordTrouble.TheVariants as record_troubles
 use Rattle.gb_keys.specs.declared.keys.KeyFault.{KeyFault}
 use Rattle.gb_keys.specs.declared.keys.KeyFault.TheVariants as keys
@@ -46,6 +46,8 @@ fault_words Full = codes "too many calls"
 fault_words (Audit fault) = audit_words fault
 fault_words Write = codes "a line could not be written to standard output"
 fault_words NoRun = codes "the system has no random number for the run"
+fault_words (Descriptors needed limit) =
+    codes "the nodes need " ++ decimal needed ++ codes " descriptors, and the process may hold " ++ decimal limit ++ codes ": raise its limit of open files, ulimit -n"
 fault_words (Record trouble) = record_words trouble
 
 -- the line that tells it, behind the name of the program

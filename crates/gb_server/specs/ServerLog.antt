@@ -3,6 +3,7 @@ use Rattle.std.specs.Prelude.{ℕ, ◌+◌, ◌-◌, List, [], ◌++◌, Option,
 use Rattle.std.specs.Net.Text.{socket_text}
 use Rattle.std.specs.declared.net.socket_addr.SocketAddr.{SocketAddr}
 use Rattle.gb_server.specs.Told.{lined}
+use Rattle.gb_port.specs.declared.{udp.PortSockets.PortSockets, source.TheConstants.BUFFER}
 use Rattle.gb_server.specs.declared.signals.Why.{Why}
 use Rattle.gb_server.specs.declared.signals.Why.TheVariants.{Served, Asked, Stopped, InputEnded, Failed, Unwritten, Unrecorded}
 
@@ -27,6 +28,11 @@ begin_front version nodes port = (codes "gb_serve " ++ version ++ codes ": " ++ 
 -- the first line: what it begins with, and where the status is told
 abbrev pub first_line : List ℕ → Option SocketAddr → List ℕ
 first_line front status = lined (front ++ status_words status)
+
+-- the second line: how many links between nodes have an own socket, and what the system keeps at a socket of what was asked for
+abbrev pub sockets_line_of : List ℕ → PortSockets → List ℕ
+sockets_line_of name sockets =
+    lined (name ++ codes ": " ++ decimal sockets.own ++ codes " of " ++ decimal sockets.others ++ codes " links have an own socket, each receive buffer has " ++ decimal sockets.buffer ++ codes " of " ++ decimal BUFFER ++ codes " bytes")
 
 -- why a server ends
 abbrev pub end_words : Why → List ℕ

@@ -183,6 +183,14 @@ fn put_fault_words(text: &mut Vec<u8>, fault: ServeFault) -> Result<(), OutOfMem
         ServeFault::Audit(fault) => put_bytes(text, audit_words(fault)),
         ServeFault::Write => put_bytes(text, b"a line could not be written to standard output"),
         ServeFault::NoRun => put_bytes(text, b"the system has no random number for the run"),
+        ServeFault::Descriptors { needed, limit } => put_two(
+            text,
+            b"the nodes need ",
+            needed,
+            b" descriptors, and the process may hold ",
+            limit,
+            b": raise its limit of open files, ulimit -n",
+        ),
         ServeFault::Record(trouble) => put_bytes(text, record_words(trouble)),
     }
 }

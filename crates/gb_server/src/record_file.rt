@@ -9,9 +9,9 @@ use gb_spelling::number::put_number;
 use gb_types::memory::put_bytes;
 use gb_types::{NodeId, OutOfMemory};
 use std::alloc::Global;
-use std::fs::{File, Files, OpenOptions};
+use std::fs::{DirBuilder, File, Files, OpenFile, OpenOptions};
 use std::io::{ErrorKind, Write};
-use std::os::unix::fs::OpenOptionsExt;
+use std::os::unix::fs::{DirBuilderExt, OpenOptionsExt};
 use std::{fs, io, str};
 
 /// What became of a record.
@@ -93,6 +93,13 @@ pub fn record_name(
     Ok(name)
 }
 
+/// Makes the folder `dir` if it is not there, and those above it that are not. Its owner alone may read what is made so.
+pub fn make_folder<F: Files>(files: &F, dir: &str) {
+    let mut builder = DirBuilder::new();
+    builder.recursive(true).mode(0o700);
+    let _ = builder.create(files, dir);
+}
+
 // Makes a file that was not there, which its owner alone may read.
 fn make<F: Files<File = File>>(files: &F, name: &str) -> Result<File, RecordTrouble> {
     let mut options = OpenOptions::new();
@@ -127,7 +134,7 @@ fn begin(alloc: Global, file: &mut File, head: &RecordHead) -> bool {
 
 /// Makes the file of a node's record in the folder of `place`, writes its first line to the disk, and returns it. The folder is made if
 /// it is not there. `Err` with `There` if the file is there already, `Unmade` if it cannot be made, `Unwritten` if its first line
-/// cannot be written, and `OutOfMemory` if there is no memory for its name.
+/// cannot be written, and `OutOfMemory` if there is no memory for its name. Then no file is left that was not there.
 pub fn open_record<F: Files<File = File>>(
     files: &F,
     alloc: Global,
@@ -141,12 +148,13 @@ pub fn open_record<F: Files<File = File>>(
     let Ok(name) = str::from_utf8(&bytes) else {
         return Err(RecordFault::Trouble(RecordTrouble::Unmade));
     };
-    let _ = fs::create_dir_all(files, place.dir);
+    make_folder(files, place.dir);
     let mut file = match make(files, name) {
         Ok(file) => file,
         Err(trouble) => return Err(RecordFault::Trouble(trouble)),
     };
     if !begin(alloc, &mut file, &head_of(plan, node)) {
+        let _ = fs::remove_file(files, name);
         return Err(RecordFault::Trouble(RecordTrouble::Unwritten));
     }
     Ok(RecordFile {
@@ -168,25 +176,40 @@ pub fn open_records<F: Files<File = File>>(
     first: NodeId,
     nodes: u8,
 ) -> Result<Vec<RecordFile>, RecordFault> {
-    let mut records = Vec::new(alloc);
     let Some(place) = place else {
-        return Ok(records);
+        return Ok(Vec::new(alloc));
+    };
+    let Ok(mut records) = Vec::with_capacity(alloc, usize::from(nodes)) else {
+        return Err(RecordFault::OutOfMemory);
     };
     for above in 0..nodes {
         let Some(node) = NodeId::from_number(first.number.saturating_add(above)) else {
             return Err(RecordFault::Trouble(RecordTrouble::Unmade));
         };
         let made = open_record(files, alloc, place, plan, node)?;
-        if records.push(made).is_err() {
-            return Err(RecordFault::OutOfMemory);
-        }
+        records.push_reserved(made);
     }
     settle_folder(files, place.dir);
     Ok(records)
 }
 
-// Sees that the names in a folder are on the disk. A system that does not do so for folders is passed over.
-fn settle_folder<F: Files<File = File>>(files: &F, dir: &str) {
+/// Removes the file of a node's record from the folder of `place`. What cannot be removed stays.
+pub fn remove_record<F: Files<File = File>>(
+    files: &F,
+    alloc: Global,
+    place: RecordPlace<'_>,
+    node: NodeId,
+) {
+    if let Ok(bytes) = record_name(alloc, place.dir, place.run, node)
+        && let Ok(name) = str::from_utf8(&bytes)
+    {
+        let _ = fs::remove_file(files, name);
+        settle_folder(files, place.dir);
+    }
+}
+
+/// Sees that the names in a folder are on the disk. A system that does not do so for folders is passed over.
+pub fn settle_folder<F: Files>(files: &F, dir: &str) {
     if let Ok(folder) = OpenOptions::new().read(true).open(files, dir) {
         let _ = folder.sync_all();
     }

@@ -6,14 +6,19 @@ use crate::crew::{Held, hold_beside};
 use crate::desk::Desk;
 use crate::given::{Given, Server};
 use crate::input::Input;
-use crate::server_log::{ServerLog, first_line};
+use crate::pulse::{Cluster, patience_of};
+use crate::server_log::{ServerLog, first_line, sockets_line};
 use crate::signals::Signals;
+use crate::sockets::port_sockets;
 use crate::status::StatusServer;
 use crate::watch::{Attending, watch};
 use gb_host::{Host, Tapes};
 use gb_loop::LoopOptions;
+use gb_port::PortSockets;
+use gb_types::memory::put_bytes;
 use gb_types::{NodeId, OutOfMemory};
 use std::alloc::Global;
+use std::fs::Files;
 use std::io::Write;
 use std::net::{Net, TcpListener, TcpStream};
 use std::sync::Wait;
@@ -65,6 +70,8 @@ fn desk_of<H: Clock>(
     rt: &H,
     alloc: Global,
     service: &Service,
+    cluster: Cluster,
+    sockets: PortSockets,
     listener: Option<TcpListener>,
 ) -> Result<Desk, OutOfMemory> {
     let log = ServerLog::new(
@@ -75,14 +82,15 @@ fn desk_of<H: Clock>(
         service.is_quiet,
     )?;
     let status = match listener {
-        Some(listener) => Some(StatusServer::new(rt, alloc, listener)),
+        Some(listener) => Some(StatusServer::new(rt, alloc, listener, cluster)),
         None => None,
     };
     let address = match &status {
         Some(status) => status.address(),
         None => None,
     };
-    let first = first_line(alloc, &service.front, address)?;
+    let mut first = first_line(alloc, &service.front, address)?;
+    put_bytes(&mut first, &sockets_line(alloc, service.name, sockets)?)?;
     Ok(Desk { log, first, status })
 }
 
@@ -92,7 +100,7 @@ fn desk_of<H: Clock>(
 /// `Write` if the line could not be written; and with `Unrecorded` if a record could not be written.
 pub fn run<
     L: Tapes + Send + Sync,
-    H: Net<Listener = TcpListener, Stream = TcpStream> + Threads + Wait + Clock + Sync,
+    H: Net<Listener = TcpListener, Stream = TcpStream> + Threads + Wait + Clock + Sync + Files,
     R: Input,
     W: Write,
     E: Write + Send,
@@ -112,7 +120,20 @@ pub fn run<
     ensures read { OnOk result ((bytes : List ℕ) × Consumes (R.remaining reader.old) (R.remaining reader.new) bytes) }
 {
     let signals = Signals::new(alloc, service.first, service.nodes)?;
-    let desk = desk_of(rt, alloc, service, listener)?;
+    let cluster = Cluster {
+        first: service.first,
+        served: service.nodes,
+        nodes: host.plan().cluster.nodes,
+        patience: patience_of(options.tick),
+    };
+    let desk = desk_of(
+        rt,
+        alloc,
+        service,
+        cluster,
+        port_sockets(&given.sockets),
+        listener,
+    )?;
     let attending = Attending { desk, errors };
     let server = Server {
         host,

@@ -9,7 +9,7 @@ ghost use Rattle.gb_server.specs.Ended.{EndsSo, has_closed};
 
 use crate::complaint::complain;
 use crate::crew::Held;
-use crate::descriptors::{connections_of, descriptor_limit};
+use crate::descriptors::{allow_nodes, connections_of, descriptor_limit};
 use crate::ending::{Ended, end, end_recorded};
 use crate::fault::ServeFault;
 use crate::given::{Given, Opened};
@@ -18,14 +18,14 @@ use crate::record_file::{RecordPlace, open_records};
 use crate::recorded::logs_of;
 use crate::run::{Service, run};
 use crate::server_log::begin_front;
-use crate::sockets::{open_sockets, open_status};
+use crate::sockets::{open_sockets, open_status, port_sockets};
 use crate::told::{serving_line, status_of, tell_end};
 use gb_host::here::all_nodes;
 use gb_host::pasts::new_pasts;
 use gb_host::{Host, HostPlan, NodePast, Tapes};
 use gb_keys::Keys;
 use gb_keys::keys::{keys_of_run, read_keys};
-use gb_loop::LoopOptions;
+use gb_loop::{LoopOptions, RateLimits};
 use gb_rules::room::ROOMS;
 use gb_serve_words::words::read_words;
 use gb_serve_words::{ServePlan, ServeWords};
@@ -74,10 +74,12 @@ fn host_plan(plan: ServePlan, keys: Keys, run: u64) -> HostPlan
 // The name of the program.
 const NAME: &[u8] = b"gb_serve";
 
-/// How long a connection may be silent that asked nothing yet, in microseconds.
+/// Within what time a message comes whole, in microseconds: while nothing was admitted of a connection, and later.
 pub const FIRST: u64 = 10_000_000;
 
-const _: () = prove!(FIRST == 10_000_000);
+pub const LATER: u64 = 60_000_000;
+
+const _: () = prove!(FIRST == 10_000_000 && LATER == 60_000_000);
 
 /// Returns two times in microseconds. The first is that between two ticks; `tick` is in milliseconds. The second is how long nothing
 /// may be sent to a node before it is sent a sign of life: an eighth of `silence` ticks, rounded down to ticks, or half a tick if
@@ -105,6 +107,7 @@ fn options_of(plan: ServePlan, connections: u64) -> LoopOptions
         beat,
         idle: u64::from(plan.idle) * 1_000_000,
         first: FIRST,
+        later: LATER,
         sessions: u64::from(plan.sessions),
         connections,
         requests: if plan.session_requests == 0 {
@@ -113,6 +116,7 @@ fn options_of(plan: ServePlan, connections: u64) -> LoopOptions
             u64::from(plan.session_requests)
         },
         wait: 0,
+        rates: RateLimits::none(),
     }
 }
 
@@ -138,7 +142,7 @@ fn service_of(alloc: Global, plan: ServePlan) -> Result<Service, OutOfMemory>
 // Serves on sockets that are bound.
 fn serve_host<
     L: Tapes + Send + Sync,
-    H: Net<Listener = TcpListener, Stream = TcpStream> + Threads + Wait + Clock + Sync,
+    H: Net<Listener = TcpListener, Stream = TcpStream> + Threads + Wait + Clock + Sync + Files,
     R: Input,
     W: Write,
     E: Write + Send,
@@ -172,7 +176,10 @@ fn serve_host<
     let seats = u32::from(plan.cluster.nodes);
     let here = all_nodes(plan.cluster.nodes);
     let (host, seats, recorders) = Host::<L>::open(alloc, plan, here, seats, pasts)?;
-    let descriptors = descriptor_limit().saturating_sub(files.len() as u64);
+    let own = port_sockets(&sockets).own;
+    let descriptors = descriptor_limit()
+        .saturating_sub(files.len() as u64)
+        .saturating_sub(own);
     let logs = logs_of(alloc, &plan, host.here(), recorders, files)?;
     let wanted = u64::from(serve.connections);
     let connections = connections_of(wanted, serve.nodes, descriptors);
@@ -231,6 +238,7 @@ fn serve_plan<
 {
     let serve = words.plan;
     let plan = host_plan(serve, keys, run);
+    allow_nodes(descriptor_limit(), serve.nodes, serve.records)?;
     let sockets = open_sockets(rt, alloc, serve.nodes, serve.base_port)?;
     let listener = open_status(rt, serve.status)?;
     let place = place_of(words, run);
@@ -249,7 +257,7 @@ fn serve_plan<
 /// Runs a whole server by the words of a command line, in the run with the number `run`. Reads the keys from `reader`, and behind them
 /// the line `stop`. Writes the line that tells what is served to `writer`, and the log to `errors`. Binds sockets, makes threads and,
 /// if the words ask for it, files of records. Returns how it ended; no line tells that yet. `Err` with the first fault: `RefusedWords`
-/// before anything is read or written, then `BadKeys`, `NoRun` if `run` is `None`, and those of sockets, records, threads and the end.
+/// before anything is read or written, then `BadKeys`, `NoRun` if `run` is `None`, `Descriptors`, and those of sockets, records, threads and the end.
 pub fn serve<
     H: Net<Listener = TcpListener, Stream = TcpStream>
         + Threads

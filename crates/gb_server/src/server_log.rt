@@ -1,14 +1,18 @@
 //! The log of a server, on standard error: one line for each event that an operator must know.
 ghost use Rattle.std.specs.Prelude.{◌≡◌, ◌≤◌, ◌++◌, ◌+◌, ◌-◌, IfOk, OnOk, codes, decimal, true};
-ghost use Rattle.gb_server.specs.ServerLog.{begin_front, end_line_of, end_words, first_line, port_words, range_words, status_words};
+ghost use Rattle.gb_server.specs.ServerLog.{begin_front, end_line_of, end_words, first_line, port_words, range_words, sockets_line_of, status_words};
 ghost use Rattle.std.specs.Net.Text.{socket_text};
 
 use crate::signals::{Signals, Why};
 use crate::told::tell;
 use gb_loop::Ending;
+use gb_port::PortSockets;
+use gb_port::source::BUFFER;
 use gb_spelling::number::put_number;
+use gb_status::misfit::put_misfit;
 use gb_status::news::put_news;
-use gb_status::{Board, Told};
+use gb_status::{Board, Misfit, Told};
+use gb_types::limits::NODES;
 use gb_types::memory::put_bytes;
 use gb_types::{NodeId, OutOfMemory};
 use std::alloc::Global;
@@ -28,6 +32,8 @@ pub struct ServerLog {
     nodes: u8,
     // Of each node.
     told: Vec<Told>,
+    // Of each node and each other one, how many lines of each misfit were written.
+    misfits: Vec<[u64; 2]>,
     // Why the server ends.
     is_end_told: bool,
 }
@@ -120,6 +126,32 @@ pub fn first_line(
     Ok(line)
 }
 
+/// Returns the line of a server's log that tells how many links between nodes have an own socket, and what the system keeps at a socket.
+/// `name` is the name of the program. `Err` if there is no memory.
+pub fn sockets_line(
+    alloc: Global,
+    name: &[u8],
+    sockets: PortSockets,
+) -> Result<Vec<u8>, OutOfMemory>
+    ensures { IfOk result (λ line. line.items ≡ sockets_line_of name.now sockets) }
+{
+    let mut line = Vec::new(alloc);
+    put_bytes(&mut line, name)?;
+    put_bytes(&mut line, b": ")?;
+    put_number(&mut line, sockets.own)?;
+    put_bytes(&mut line, b" of ")?;
+    put_number(&mut line, sockets.others)?;
+    put_bytes(
+        &mut line,
+        b" links have an own socket, each receive buffer has ",
+    )?;
+    put_number(&mut line, sockets.buffer)?;
+    put_bytes(&mut line, b" of ")?;
+    put_number(&mut line, BUFFER)?;
+    put_bytes(&mut line, b" bytes\n")?;
+    Ok(line)
+}
+
 // Why a server ends.
 fn end_words(why: Why) -> &'static [u8]
     ensures { result.now ≡ end_words why }
@@ -186,8 +218,12 @@ impl ServerLog {
         ensures { IfOk result (λ made. made.is_quiet ≡ is_quiet) }
     {
         let mut told = Vec::new(alloc);
+        let mut misfits = Vec::new(alloc);
         for _ in 0..nodes {
             told.push(Told::new())?;
+            for _ in 0..NODES {
+                misfits.push([0; 2])?;
+            }
         }
         Ok(ServerLog {
             is_quiet,
@@ -196,6 +232,7 @@ impl ServerLog {
             first: first.number,
             nodes,
             told,
+            misfits,
             is_end_told: false,
         })
     }
@@ -223,6 +260,56 @@ impl ServerLog {
         }
     }
 
+    // Writes that packets from a node's address do not fit, if a line of it is due.
+    fn tell_misfit<E: Write>(
+        &mut self,
+        board: &Board,
+        node: NodeId,
+        other: NodeId,
+        misfit: Misfit,
+        errors: &mut E,
+    )
+        ensures quiet { self.new.is_quiet ≡ self.old.is_quiet }
+    {
+        let place = node.index().saturating_sub(usize::from(self.first));
+        let row = place.saturating_mul(NODES).saturating_add(other.index());
+        let kind = usize::from(misfit == Misfit::Node);
+        let due = board.misfits(node, other, misfit);
+        if let Some(told) = self.misfits.get_mut(row)
+            && let Some(told) = told.get_mut(kind)
+            && *told < due
+        {
+            *told = due;
+            let (number, other) = (u64::from(node.number), u64::from(other.number));
+            let mut line = Vec::new(self.alloc);
+            let put = put_misfit(&mut line, &self.name, number, other, misfit);
+            write(errors, put.map(|()| line));
+        }
+    }
+
+    // Writes which packets that came to a node from the addresses of other nodes do not fit.
+    fn tell_misfits_of<E: Write>(&mut self, board: &Board, node: NodeId, errors: &mut E)
+        ensures quiet { self.new.is_quiet ≡ self.old.is_quiet }
+    {
+        for number in 0..NODES as u8 {
+            if let Some(other) = NodeId::from_number(number) {
+                self.tell_misfit(board, node, other, Misfit::Key, errors);
+                self.tell_misfit(board, node, other, Misfit::Node, errors);
+            }
+        }
+    }
+
+    // Writes which packets from the addresses of other nodes do not fit.
+    fn tell_misfits<E: Write>(&mut self, board: &Board, errors: &mut E)
+        ensures quiet { self.new.is_quiet ≡ self.old.is_quiet }
+    {
+        for place in 0..self.nodes {
+            if let Some(node) = NodeId::from_number(self.first.saturating_add(place)) {
+                self.tell_misfits_of(board, node, errors);
+            }
+        }
+    }
+
     // Writes why the server ends, once.
     fn tell_end<E: Write>(&mut self, signals: &Signals, errors: &mut E)
         ensures quiet { self.new.is_quiet ≡ self.old.is_quiet }
@@ -236,7 +323,8 @@ impl ServerLog {
         }
     }
 
-    /// Writes to `errors` what is new since the last look, unless the log is quiet: news of the nodes, and, once, why the server ends.
+    /// Writes to `errors` what is new since the last look, unless the log is quiet: news of the nodes, which packets from their addresses do
+    /// not fit, and, once, why the server ends.
     /// Notes in this log what was told. A line that cannot be written is lost.
     pub fn look<E: Write>(&mut self, signals: &Signals, errors: &mut E)
         ensures quiet { self.old.is_quiet ≡ true → errors.new ≡ errors.old }
@@ -246,6 +334,7 @@ impl ServerLog {
             return;
         }
         self.tell_news(signals.board(), errors);
+        self.tell_misfits(signals.board(), errors);
         self.tell_end(signals, errors);
     }
 }

@@ -1,6 +1,6 @@
 //! What the threads of a server tell one another.
 use gb_loop::Ending;
-use gb_status::{Board, Figures};
+use gb_status::{Board, Figures, Misfit};
 use gb_types::{NodeId, NodeSet, OutOfMemory};
 use std::alloc::Global;
 use std::sync::atomic::{AtomicBool, AtomicU64, Ordering};
@@ -169,5 +169,9 @@ impl Ending for Signals {
 
     fn publish(&self, node: NodeId, figures: &Figures, noticed: &NodeSet) {
         self.board.put(node, figures, noticed);
+    }
+
+    fn misfit(&self, node: NodeId, other: NodeId, misfit: Misfit) {
+        self.board.note_misfit(node, other, misfit);
     }
 }

@@ -1,10 +1,15 @@
 //! Who asks for the status of a server by HTTP, and how they are answered: a thread looks at them now and then, and waits for none.
+use crate::process::process_of;
+use crate::pulse::{Cluster, Pulses};
 use gb_loop::LoopClock;
-use gb_status::Board;
-use gb_status::http::{all_run, reply};
+use gb_status::facts::facts_text;
+use gb_status::http::{asked_for, reply};
+use gb_status::{Asked, Board, Facts, Health};
 use gb_types::OutOfMemory;
 use gb_types::memory::put_bytes;
+use gb_version::VERSION;
 use std::alloc::Global;
+use std::fs::Files;
 use std::io::{ErrorKind, Read, Write};
 use std::net::{Shutdown, SocketAddr, TcpListener, TcpStream};
 use std::time::Clock;
@@ -54,25 +59,62 @@ pub struct StatusServer {
     alloc: Global,
     listener: TcpListener,
     clock: LoopClock,
+    // When it was made, in seconds since the beginning of the year 1970.
+    started: u64,
     clients: Vec<StatusClient>,
+    pulses: Pulses,
+}
+
+// Returns the seconds since the beginning of the year 1970; 0 if the clock cannot be read.
+fn seconds_now<H: Clock>(rt: &H) -> u64 {
+    match rt.since_1970() {
+        Ok(since) => since.as_secs(),
+        Err(_) => 0,
+    }
+}
+
+// What a server says of itself: its figures, when it started, and how it is.
+#[derive(Clone, Copy)]
+struct Telling<'a> {
+    board: &'a Board,
+    started: u64,
+    health: Health,
+}
+
+// Returns what the server tells of itself, and which nodes have noticed which.
+fn facts_by<F: Files>(
+    files: &F,
+    alloc: Global,
+    telling: Telling<'_>,
+) -> Result<Vec<u8>, OutOfMemory> {
+    let facts = Facts {
+        version: VERSION.as_bytes(),
+        started: telling.started,
+        process: process_of(files, alloc),
+    };
+    let noticed = telling.board.all_noticed(alloc)?;
+    facts_text(alloc, &facts, &noticed)
 }
 
 // Returns the answer to the bytes of a request, by what stands at a board; None: more are waited for.
-fn reply_by(
+fn reply_by<F: Files>(
+    files: &F,
     alloc: Global,
     bytes: &[u8],
     may_come: bool,
-    board: &Board,
-    is_over: bool,
+    telling: Telling<'_>,
 ) -> Result<Option<Vec<u8>>, OutOfMemory> {
-    let all = board.all(alloc)?;
-    let is_serving = all_run(&all) && !is_over;
-    reply(alloc, bytes, may_come, &all, is_serving)
+    let all = telling.board.all(alloc)?;
+    let mut facts = Vec::new(alloc);
+    if asked_for(bytes) == Asked::Metrics {
+        facts = facts_by(files, alloc, telling)?;
+    }
+    reply(alloc, bytes, may_come, &all, &facts, telling.health)
 }
 
 impl StatusClient {
     // Reads what came of the request, and makes the answer once it is whole. Returns false if the client is lost.
-    fn hear(&mut self, alloc: Global, board: &Board, is_over: bool) -> bool {
+    fn hear<F: Files>(&mut self, files: &F, alloc: Global, telling: Telling<'_>) -> bool {
         let mut space = [0u8; MOST];
         let mut reader = &self.stream;
         let count = match reader.read(&mut space) {
@@ -86,7 +128,7 @@ impl StatusClient {
             return false;
         }
         let may_come = count > 0 && self.bytes.len() < MOST;
-        match reply_by(alloc, &self.bytes, may_come, board, is_over) {
+        match reply_by(files, alloc, &self.bytes, may_come, telling) {
             Ok(Some(answer)) => {
                 self.bytes = answer;
                 self.stage = Stage::IsTold;
@@ -134,11 +176,11 @@ impl StatusClient {
     }
 
     // Does what there is to do. Returns false if the client is served or lost.
-    fn look(&mut self, alloc: Global, board: &Board, is_over: bool, now: u64) -> bool {
+    fn look<F: Files>(&mut self, files: &F, alloc: Global, telling: Telling<'_>, now: u64) -> bool {
         if now >= self.until {
             return false;
         }
-        if self.stage == Stage::Asks && !self.hear(alloc, board, is_over) {
+        if self.stage == Stage::Asks && !self.hear(files, alloc, telling) {
             return false;
         }
         if self.stage == Stage::IsTold && !self.tell() {
@@ -149,13 +191,20 @@ impl StatusClient {
 }
 
 impl StatusServer {
-    /// Returns a server of the status by HTTP, at this listener, without clients. The calls of the listener do not wait.
-    pub fn new<H: Clock>(rt: &H, alloc: Global, listener: TcpListener) -> StatusServer {
+    /// Returns a server of the status by HTTP of these nodes, at this listener, without clients. The calls of the listener do not wait.
+    pub fn new<H: Clock>(
+        rt: &H,
+        alloc: Global,
+        listener: TcpListener,
+        cluster: Cluster,
+    ) -> StatusServer {
         StatusServer {
             alloc,
             listener,
             clock: LoopClock::new(rt),
+            started: seconds_now(rt),
             clients: Vec::new(alloc),
+            pulses: Pulses::new(cluster),
         }
     }
 
@@ -195,13 +244,18 @@ impl StatusServer {
     /// Takes in new clients that ask for the status, and answers each client as far as it can now, with the figures of `board`. Drops
     /// clients that are served or lost, and those that came 2 seconds ago or earlier. `is_over` says that the server ends. Waits for
     /// nobody.
-    pub fn look<H: Clock>(&mut self, rt: &H, board: &Board, is_over: bool) {
+    pub fn look<H: Clock + Files>(&mut self, rt: &H, board: &Board, is_over: bool) {
         let now = self.clock.now(rt);
         self.accept(now);
+        let telling = Telling {
+            board,
+            started: self.started,
+            health: self.pulses.look(board, is_over, now),
+        };
         let clients = std::mem::replace(&mut self.clients, Vec::new(self.alloc));
         for client in clients {
             let mut client = client;
-            if client.look(self.alloc, board, is_over, now) {
+            if client.look(rt, self.alloc, telling, now) {
                 let _ = self.clients.push(client);
             }
         }

@@ -33,7 +33,6 @@ fn loop_sockets(sockets: Sockets) -> LoopSockets<UdpPort> {
     } = sockets;
     LoopSockets {
         node,
-        fd: port.raw_fd(),
         port,
         listener: mio::net::TcpListener::from_std(listener),
     }
@@ -80,7 +79,6 @@ fn run_recorded<
     let LoopSockets {
         node,
         port,
-        fd,
         listener,
     } = sockets;
     let (recorder, file) = log.into_parts();
@@ -94,7 +92,6 @@ fn run_recorded<
     let sockets = LoopSockets {
         node,
         port: WrittenFirst::new(port, &shared, seen),
-        fd,
         listener,
     };
     let Parts { seat, port, .. } = run_loop(

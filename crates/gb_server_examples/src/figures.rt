@@ -2,10 +2,11 @@
 ghost use Rattle.std.specs.Prelude.{◌<◌};
 
 use crate::texts::has;
+use gb_status::facts::facts_text;
 use gb_status::figure::{COUNT, FIGURES};
 use gb_status::http::{answer, asked_for};
 use gb_status::text::{metrics_text, status_text};
-use gb_status::{Asked, Board, Figure, Figures, NodeFigures};
+use gb_status::{Asked, Board, Facts, Figure, Figures, Health, NodeFigures, NodeNoticed, Process};
 use gb_types::{NodeId, NodeSet};
 use std::alloc::Global;
 use std::rt::HostRuntime;
@@ -77,7 +78,67 @@ fn metrics_are_told_of_each_node(rt: HostRuntime) {
         assert!(rt; has(&text, part));
     }
     assert!(rt; text.ends_with(b"foqradesh_node_running{node=\"1\"} 0\n"));
-    assert!(rt; text.iter().filter(|byte| **byte == b'#').count() == 2 * 22);
+    assert!(rt; text.iter().filter(|byte| **byte == b'#').count() == 2 * 24);
+}
+
+// What a server tells of itself at a known time, with two rows of noticed nodes.
+static FACTS: &[u8] =
+    b"# HELP foqradesh_node_suspected 1 for each other node that the node has noticed as crashed.\n\
+# TYPE foqradesh_node_suspected gauge\n\
+foqradesh_node_suspected{node=\"0\",other=\"1\"} 1\n\
+foqradesh_node_suspected{node=\"0\",other=\"31\"} 1\n\
+foqradesh_node_suspected{node=\"2\",other=\"0\"} 1\n\
+# HELP foqradesh_build_info The version of the program; always 1.\n\
+# TYPE foqradesh_build_info gauge\n\
+foqradesh_build_info{version=\"0.1.0\"} 1\n\
+# HELP process_start_time_seconds Start time of the process since unix epoch in seconds.\n\
+# TYPE process_start_time_seconds gauge\n\
+process_start_time_seconds 1764547200\n";
+
+// What it tells of its process.
+static PROCESS: &[u8] = b"# HELP process_resident_memory_bytes Resident memory size in bytes.\n\
+# TYPE process_resident_memory_bytes gauge\n\
+process_resident_memory_bytes 8192\n\
+# HELP process_open_fds Number of open file descriptors.\n\
+# TYPE process_open_fds gauge\n\
+process_open_fds 21\n\
+# HELP process_cpu_seconds_total Total user and system CPU time spent in seconds.\n\
+# TYPE process_cpu_seconds_total counter\n\
+process_cpu_seconds_total 12.05\n";
+
+// A row of a node that has noticed two others.
+fn noticed(number: u8, first: u8, second: u8) -> NodeNoticed
+    requires own { number < 32 }
+    requires one { first < 32 }
+    requires other { second < 32 }
+{
+    let mut noticed = NodeSet::new();
+    noticed.insert(NodeId::new(first));
+    noticed.insert(NodeId::new(second));
+    NodeNoticed {
+        node: NodeId::new(number),
+        noticed,
+    }
+}
+
+#[test]
+fn a_server_tells_of_itself(rt: HostRuntime) {
+    let rows = [noticed(0, 31, 1), noticed(2, 0, 0)];
+    let mut facts = Facts {
+        version: b"0.1.0",
+        started: 1_764_547_200,
+        process: None,
+    };
+    let text = facts_text(rt.alloc(), &facts, &rows).expect(&rt, "memory");
+    assert!(rt; text.as_slice() == FACTS);
+    facts.process = Some(Process {
+        memory: 8_192,
+        descriptors: 21,
+        hundredths: 1_205,
+    });
+    let more = facts_text(rt.alloc(), &facts, &rows).expect(&rt, "memory");
+    assert!(rt; more.starts_with(FACTS) && more.ends_with(PROCESS));
+    assert!(rt; more.len() == FACTS.len() + PROCESS.len());
 }
 
 // Heads, and what they ask for.
@@ -101,36 +162,46 @@ fn heads_ask_for_figures(rt: HostRuntime) {
 }
 
 // Whether the answer to what is asked for is this.
-fn is_answered(alloc: Global, asked: Asked, is_serving: bool, want: &[u8]) -> bool {
-    match answer(alloc, asked, &[], is_serving) {
+fn is_answered(alloc: Global, asked: Asked, health: Health, want: &[u8]) -> bool {
+    match answer(alloc, asked, &[], b"", health) {
         Ok(text) => text.as_slice() == want,
         Err(_) => false,
     }
 }
 
-// What is asked for, whether all is served, and the answer.
-static ANSWERS: [(Asked, bool, &[u8]); 3] = [
+// What is asked for, how the server is, and the answer.
+static ANSWERS: [(Asked, Health, &[u8]); 5] = [
     (
         Asked::Health,
-        true,
+        Health::Well,
         b"HTTP/1.1 200 OK\r\nContent-Type: text/plain; version=0.0.4; charset=utf-8\r\nConnection: close\r\nContent-Length: 3\r\n\r\nok\n",
     ),
     (
         Asked::Health,
-        false,
+        Health::Stalled,
+        b"HTTP/1.1 503 Service Unavailable\r\nContent-Type: text/plain; charset=utf-8\r\nConnection: close\r\nContent-Length: 8\r\n\r\nstalled\n",
+    ),
+    (
+        Asked::Health,
+        Health::Apart,
+        b"HTTP/1.1 503 Service Unavailable\r\nContent-Type: text/plain; charset=utf-8\r\nConnection: close\r\nContent-Length: 6\r\n\r\napart\n",
+    ),
+    (
+        Asked::Health,
+        Health::Ended,
         b"HTTP/1.1 503 Service Unavailable\r\nContent-Type: text/plain; charset=utf-8\r\nConnection: close\r\nContent-Length: 6\r\n\r\nended\n",
     ),
     (
         Asked::OtherMethod,
-        true,
+        Health::Well,
         b"HTTP/1.1 405 Method Not Allowed\r\nAllow: GET\r\nContent-Type: text/plain; charset=utf-8\r\nConnection: close\r\nContent-Length: 9\r\n\r\nonly GET\n",
     ),
 ];
 
 #[test]
 fn answers_are_whole(rt: HostRuntime) {
-    for (asked, is_serving, want) in &ANSWERS {
-        assert!(rt; is_answered(rt.alloc(), *asked, *is_serving, want));
+    for (asked, health, want) in &ANSWERS {
+        assert!(rt; is_answered(rt.alloc(), *asked, *health, want));
     }
 }
 

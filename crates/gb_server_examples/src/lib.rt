@@ -25,6 +25,10 @@ mod nodes;
 #[cfg(test)]
 mod plans;
 #[cfg(test)]
+mod processes;
+#[cfg(test)]
+mod pulses;
+#[cfg(test)]
 mod recorded;
 #[cfg(test)]
 mod recorded_servers;

@@ -1,7 +1,8 @@
 // Marks of starts.
 use crate::folders::folder;
 use gb_peer_run::Marked;
-use gb_peer_run::mark::{mark, mark_name};
+use gb_peer_run::mark::{mark, mark_name, unmark};
+use gb_server::record_file::make_folder;
 use std::fs;
 use std::os::unix::fs::PermissionsExt;
 use std::rt::HostRuntime;
@@ -39,6 +40,41 @@ fn a_folder_is_made_for_marks(rt: HostRuntime) {
     // A file is no folder.
     let below = format!(in alloc; "{deeper}/run-7-node-1.mark").expect(&rt, "a name");
     assert!(rt; mark(&rt, alloc, &below, 7, 1) == Ok(Marked::Failed));
+    let _ = fs::remove_dir_all(&rt, name.as_str());
+}
+
+#[test]
+fn a_folder_is_made_for_its_owner_alone(rt: HostRuntime) {
+    let alloc = rt.alloc();
+    let name = folder(&rt, alloc).expect(&rt, "a folder");
+    let deeper = format!(in alloc; "{name}/a/b").expect(&rt, "a name");
+    assert!(rt; mark(&rt, alloc, &deeper, 7, 1) == Ok(Marked::New));
+    let above = format!(in alloc; "{name}/a").expect(&rt, "a name");
+    let records = format!(in alloc; "{name}/records").expect(&rt, "a name");
+    make_folder(&rt, &records);
+    for made in [deeper.as_str(), above.as_str(), records.as_str()] {
+        let found = fs::metadata(&rt, made).expect(&rt, "a folder");
+        assert!(rt;
+            found.is_dir() && found.permissions().mode() & 0o777 == 0o700,
+            "{made}"
+        );
+    }
+    let _ = fs::remove_dir_all(&rt, name.as_str());
+}
+
+// A mark that cannot be written is not there, so the node may begin later.
+#[test]
+fn a_mark_is_written_or_not_there(rt: HostRuntime) {
+    let alloc = rt.alloc();
+    let name = folder(&rt, alloc).expect(&rt, "a folder");
+    let path = format!(in alloc; "{name}/run-7-node-1.mark").expect(&rt, "a name");
+    let marked = mark(&rt, alloc, &name, 7, 1);
+    let is_there = fs::metadata(&rt, path.as_str()).is_ok();
+    assert!(rt; is_there == (marked == Ok(Marked::New)));
+    // A start that is taken back leaves none either.
+    unmark(&rt, alloc, &name, 7, 1);
+    assert!(rt; fs::metadata(&rt, path.as_str()).is_err());
+    assert!(rt; mark(&rt, alloc, &name, 7, 1) != Ok(Marked::Old));
     let _ = fs::remove_dir_all(&rt, name.as_str());
 }
 

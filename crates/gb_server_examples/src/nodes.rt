@@ -1,6 +1,7 @@
 // Whole nodes, which are told to stop as soon as they serve.
 use crate::folders::{file, folder};
 use crate::runs::{Run, run_node};
+use crate::texts::has;
 use std::alloc::{AllocGlobal, Global};
 use std::fs;
 use std::fs::{File, Files};
@@ -18,21 +19,23 @@ static TWO: &[u8] =
 static STOP: &[u8] =
     b"1111111111111111111111111111111111111111111111111111111111111111\n2222222222222222222222222222222222222222222222222222222222222222\nstop\n";
 
-// The nodes that are run one after the other: the number of each, its status, its text, and how its log begins and ends.
-static ENDS: [(&str, u8, &[u8], &[u8], &[u8]); 3] = [
+// The nodes that are run one after the other: the number of each, its status, its text, how its log begins, what it has, and how it ends.
+static ENDS: [(&str, u8, &[u8], &[u8], &[u8], &[u8]); 3] = [
     (
         "0",
         0,
         b"serving node 0 of 2 in run 7\nclosed\n",
         b"gb_peer ",
-        b": node 0 of 2 in run 7, packets at UDP 127.0.0.1:31200, sessions at TCP 127.0.0.1:31264\ngb_peer: ends: standard input said stop\n",
+        b": node 0 of 2 in run 7, packets at UDP 127.0.0.1:31200, sessions at TCP 127.0.0.1:31264\ngb_peer: 1 of 1 links have an own socket, each receive buffer has ",
+        b" of 4194304 bytes\ngb_peer: ends: standard input said stop\n",
     ),
     (
         "1",
         0,
         b"serving node 1 of 2 in run 7\nclosed\n",
         b"gb_peer ",
-        b": node 1 of 2 in run 7, packets at UDP 127.0.0.1:31201, sessions at TCP 127.0.0.1:31265\ngb_peer: ends: standard input said stop\n",
+        b": node 1 of 2 in run 7, packets at UDP 127.0.0.1:31201, sessions at TCP 127.0.0.1:31265\ngb_peer: 1 of 1 links have an own socket, each receive buffer has ",
+        b" of 4194304 bytes\ngb_peer: ends: standard input said stop\n",
     ),
     // Each has begun in this run.
     (
@@ -40,6 +43,7 @@ static ENDS: [(&str, u8, &[u8], &[u8], &[u8]); 3] = [
         1,
         b"node 1 has begun in run 7 already\n",
         b"gb_peer: node 1 has begun in run 7 already: ",
+        b" has begun in run 7 already: ",
         b"or start all nodes in the next run\n",
     ),
 ];
@@ -63,9 +67,10 @@ fn nodes_are_served_by_number(rt: HostRuntime) {
     let alloc = rt.alloc();
     let dir = folder(&rt, alloc).expect(&rt, "a folder");
     let name = file(&rt, alloc, &dir, TWO).expect(&rt, "a file");
-    for (node, status, lines, first, last) in &ENDS {
+    for (node, status, lines, first, part, last) in &ENDS {
         let run = run_numbered(&rt, alloc, name.as_str(), dir.as_str(), *node);
         assert!(rt; run.has_logged(*status, lines, first, last));
+        assert!(rt; has(&run.errors, part));
     }
     let _ = fs::remove_dir_all(&rt, dir.as_str());
 }

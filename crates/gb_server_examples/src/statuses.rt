@@ -6,12 +6,14 @@ use crate::socket_clients::{address, connect, told};
 use crate::texts::has;
 use gb_client::ClientFault;
 use gb_loop::Ending;
+use gb_server::pulse::Cluster;
 use gb_server::{ServerLog, Signals, StatusServer, Why};
 use gb_session::Head;
 use gb_spelling::CommandHead;
 use gb_status::{Figure, Figures};
 use gb_types::{NodeId, NodeSet};
 use std::alloc::Global;
+use std::fs::Files;
 use std::io::{ErrorKind, Read, Write};
 use std::net::{Net, TcpListener, TcpStream, UdpSocket};
 use std::rt::HostRuntime;
@@ -54,7 +56,7 @@ static DENIED_OPEN: [(Head, &str, &str); 1] = [(
 )];
 
 // Lines of the text of figures after this traffic, and after three bytes that are no packet came to node 1.
-static FIGURES: [&[u8]; 13] = [
+static FIGURES: [&[u8]; 15] = [
     b"\nfoqradesh_requests_total{node=\"0\",kind=\"tenant\"} 1\n",
     b"\nfoqradesh_requests_total{node=\"0\",kind=\"make\"} 1\n",
     b"\nfoqradesh_requests_total{node=\"0\",kind=\"say\"} 3\n",
@@ -63,7 +65,9 @@ static FIGURES: [&[u8]; 13] = [
     b"\nfoqradesh_refusals_total{node=\"0\",refusal=\"NoGroup\"} 1\n",
     b"\nfoqradesh_messages_said_total{node=\"0\"} 1\n",
     b"\nfoqradesh_packet_faults_total{node=\"0\",fault=\"short\"} 0\n",
-    b"\nfoqradesh_packet_faults_total{node=\"1\",fault=\"short\"} 1\n",
+    b"\nfoqradesh_packet_faults_total{node=\"1\",fault=\"short\"} 0\n",
+    b"\nfoqradesh_strangers_total{node=\"0\"} 0\n",
+    b"\nfoqradesh_strangers_total{node=\"1\"} 1\n",
     b"\nfoqradesh_places_left{node=\"0\"} 1000\n",
     b"\nfoqradesh_places_left{node=\"1\"} 1024\n",
     b"\nfoqradesh_node_running{node=\"0\"} 1\n",
@@ -124,7 +128,7 @@ static WATCHED: [&str; 8] = [
 ];
 
 static WATCHED_BEGIN: &[u8] =
-    b"gb_serve 0.1.0: 2 nodes, packets at UDP 127.0.0.1:24700 to 24701, sessions at TCP 127.0.0.1:24764 to 24765, status at http://127.0.0.1:24790/metrics\n";
+    b"gb_serve 0.1.0: 2 nodes, packets at UDP 127.0.0.1:24700 to 24701, sessions at TCP 127.0.0.1:24764 to 24765, status at http://127.0.0.1:24790/metrics\ngb_serve: 2 of 2 links have an own socket, each receive buffer has ";
 
 static WATCHED_END: &[u8] = b"gb_serve: ends: all connections were served\n";
 
@@ -134,6 +138,14 @@ fn is_log(errors: &[u8]) -> bool {
     let Some(rest) = errors.strip_prefix(WATCHED_BEGIN) else {
         return false;
     };
+    // How many bytes a receive buffer has is the system's.
+    let Some(end) = rest.iter().position(|byte| *byte == b'\n') else {
+        return false;
+    };
+    let (buffer, rest) = rest.split_at(end + 1);
+    if !buffer.ends_with(b" of 4194304 bytes\n") {
+        return false;
+    }
     rest == WATCHED_END || has(rest, WATCHED_END) && has(rest, b" as crashed\n")
 }
 
@@ -178,7 +190,7 @@ fn some_figures() -> Figures {
 }
 
 // Tells the status by these signals at a port, and looks until this is set. Returns false where it could not listen, or this is never set.
-fn tells<H: Net<Listener = TcpListener, Stream = TcpStream> + Wait + Clock>(
+fn tells<H: Net<Listener = TcpListener, Stream = TcpStream> + Wait + Clock + Files>(
     rt: &H,
     alloc: Global,
     port: u16,
@@ -191,7 +203,13 @@ fn tells<H: Net<Listener = TcpListener, Stream = TcpStream> + Wait + Clock>(
     if listener.set_nonblocking(true).is_err() {
         return false;
     }
-    let mut status = StatusServer::new(rt, alloc, listener);
+    let cluster = Cluster {
+        first: NodeId::new(0),
+        served: 1,
+        nodes: 3,
+        patience: 60_000_000,
+    };
+    let mut status = StatusServer::new(rt, alloc, listener, cluster);
     for _ in 0..100_000 {
         if is_done.load(Ordering::SeqCst) {
             return true;
