@@ -1,5 +1,5 @@
 """Compares the names of code in pages with the code: each word in backquotes of PAGES that is spelt as a name is one of a file in
-crates/, bench/ or clients/, or the name of a file there. Prints each name that is not, and ends with status 1.
+crates/, bench/, clients/ or tests/, or the name of a file there. Prints each name that is not, and ends with status 1.
 
     python3 bench/names.py
 
@@ -17,7 +17,7 @@ NAME = re.compile(r"[A-Za-z_]\w*(?:(?:::|\.)[A-Za-z_]\w*)*(?:\(\))?")
 def words_of_code():
     """Returns all words of the code, and the names of its files with and without their endings."""
     words = set()
-    for top in ("crates", "bench", "clients"):
+    for top in ("crates", "bench", "clients", "tests"):
         for folder, inner, files in os.walk(os.path.join(ROOT, top)):
             inner[:] = [name for name in inner if name not in ("out", "__pycache__")]
             words.update(inner, files, (name.split(".")[0] for name in files))

@@ -5,7 +5,7 @@
 
 The programs are those of bin/, where ./install puts them; with `--programs` those of another folder, and with `--built` those that `rt ci`
 leaves in crates/NAME/out/NAME. `--only` runs the trials of these names, and `--list` prints all names with what each trial tries. As many
-run side by side as there are processors, or N, and the longest begin first.
+run side by side as there are processors, or N, and the longest begin first. Those that measure times run last, one by one.
 
 Each trial has a folder and ports of its own, no standard input and a time limit. When it ends, what it started must have ended too. Its
 output is kept in a folder of `--keep`, or of a new temporary folder, and is printed whole where the trial fails. Each trial is one line:
@@ -66,6 +66,8 @@ class Trial:
     """About how long it takes on a machine that does nothing else. The longest trials begin first."""
     limit: float = 300.0
     """The most seconds that it may take, on a machine that does much else."""
+    alone: bool = False
+    """It measures times: it runs when the others have ended, and nothing else beside it."""
     folder: str = "{room}"
     """Where it is run."""
     variables: Dict[str, str] = dataclasses.field(default_factory=dict)
@@ -169,6 +171,12 @@ TRIALS = (
           ("{python}", "{top}/bench/doors.py", "--port", "{port}"), programs=["gb_serve", "gb_web"], seconds=10),
     Trial("page", "the chat page in headless Chromium", ("{python}", "{top}/examples/chat/test_chat.py", "--port", "{port}"),
           programs=["gb_serve", "gb_web"], needs=[has_chromium], seconds=30, variables={"CHROMIUM": chromium() or "chromium"}),
+    Trial("attacks", "gb_serve and gb_peer attacked by clients and machines without a token: what it costs others",
+          ("{python}", "{top}/tests/attacks.py", "--serve", "{gb_serve}", "--peer", "{gb_peer}", "--base-port", "{port}"), programs=["gb_serve", "gb_peer"],
+          seconds=60, alone=True),
+    Trial("flood", "gb_serve and gb_peer under a flood of datagrams without a key",
+          ("{python}", "{top}/tests/flood.py", "--serve", "{gb_serve}", "--peer", "{gb_peer}", "--base-port", "{port}"), programs=["gb_serve", "gb_peer"],
+          seconds=40, alone=True),
     Trial("look", "gb_serve built without proof: a chat of three members", ("{top}/examples/look.sh", "{port}"), needs=[command("rt")],
           seconds=70, limit=900),
     Trial("notifications", "gb_serve and the Python package: one writer and many readers",
@@ -409,6 +417,11 @@ class Runner:
             print(outcome.line, *(f"    {note}" for note in outcome.notes), sep="\n", flush=True)
 
     def run_all(self, trials: Sequence[Trial], jobs: int) -> None:
+        """Run trials side by side, the longest first, and then those that run alone."""
+        self.run_some([trial for trial in trials if not trial.alone], jobs)
+        self.run_some([trial for trial in trials if trial.alone], 1)
+
+    def run_some(self, trials: Sequence[Trial], jobs: int) -> None:
         """Run trials side by side, the longest first."""
         waiting: Iterator[Trial] = iter(sorted(trials, key=lambda trial: -trial.seconds))
 
