@@ -6,7 +6,7 @@ use Rattle.gb_host.specs.declared.plan.HostPlan.{HostPlan}
 use Rattle.gb_loop.specs.declared.options.LoopOptions.{LoopOptions}
 use Rattle.gb_peer_words.specs.declared.plan.PeerPlan.{PeerPlan}
 use Rattle.gb_keys.specs.Keys.{run_key}
-use Rattle.gb_server.specs.{Behaviour.beat_of, Behaviour.no_limits, Told.places}
+use Rattle.gb_server.specs.{Behaviour.beat_of, Behaviour.rates_by, Told.places}
 use Rattle.gb_keys.specs.declared.keys.Keys.{Keys}
 
 -- the host of nodes of a cluster, with keys; each node sends the version of the file, and packets are tagged under the key of the run; what
@@ -29,4 +29,4 @@ pub record ArePeerOptions (file : ClusterFile) (plan : PeerPlan) (most : ℕ) (o
   pub connections : options.connections ≡ most
   pub requests : options.requests ≡ (if plan.session_requests == 0 then 2 ^ 64 - 1 else plan.session_requests)
   pub wait : options.wait ≡ plan.wait * 1000000
-  pub rates : options.rates ≡ no_limits
+  pub rates : options.rates ≡ rates_by plan.limits

@@ -10,9 +10,10 @@ use gb_cluster_file::ClusterFile;
 use gb_host::HostPlan;
 use gb_keys::Keys;
 use gb_keys::keys::keys_of_run;
-use gb_loop::{LoopOptions, RateLimits};
+use gb_loop::LoopOptions;
 use gb_peer_words::PeerPlan;
 use gb_rules::room::ROOMS;
+use gb_server::rates::rates_by;
 use gb_server::serve_main::{FIRST, LATER, beats_of};
 use gb_types::Plan;
 use gb_types::limits::NODES;
@@ -75,6 +76,6 @@ pub fn options_of(file: &ClusterFile, plan: PeerPlan, connections: u64) -> LoopO
             u64::from(plan.session_requests)
         },
         wait: u64::from(plan.wait) * 1_000_000,
-        rates: RateLimits::none(),
+        rates: rates_by(plan.limits),
     }
 }

@@ -14,6 +14,7 @@ use crate::ending::{Ended, end, end_recorded};
 use crate::fault::ServeFault;
 use crate::given::{Given, Opened};
 use crate::input::Input;
+use crate::rates::rates_by;
 use crate::record_file::{RecordPlace, open_records};
 use crate::recorded::logs_of;
 use crate::run::{Service, run};
@@ -25,7 +26,7 @@ use gb_host::pasts::new_pasts;
 use gb_host::{Host, HostPlan, NodePast, Tapes};
 use gb_keys::Keys;
 use gb_keys::keys::{keys_of_run, read_keys};
-use gb_loop::{LoopOptions, RateLimits};
+use gb_loop::LoopOptions;
 use gb_rules::room::ROOMS;
 use gb_serve_words::words::read_words;
 use gb_serve_words::{ServePlan, ServeWords};
@@ -116,7 +117,7 @@ fn options_of(plan: ServePlan, connections: u64) -> LoopOptions
             u64::from(plan.session_requests)
         },
         wait: 0,
-        rates: RateLimits::none(),
+        rates: rates_by(plan.limits),
     }
 }
 
