@@ -1,8 +1,10 @@
 -- The words of gb_web's command line: the command, as `clap` reads it, and what it makes of the words.
-use Rattle.std.specs.Prelude.{◌≡◌, ◌≤◌, true, false, List, [], Some, is_some, map, option_map, unwrap_or, codes}
+use Rattle.std.specs.Prelude.{◌≡◌, ◌==◌, ◌≤◌, not, Bool, true, false, List, [], Some, is_some, length, map, option_map, unwrap_or, codes}
+use Rattle.std.specs.List.{list_all}
+use Rattle.std.specs.declared.net.socket_addr.SocketAddr.{SocketAddr}
 use Rattle.clap.specs.Words.{App, Row, Rule, Text, all_of, first_of, new_app, new_rule, one_of, with_rule}
 use Rattle.clap.specs.declared.{builder.action.ArgAction.TheVariants.Append, builder.value_parser.ValueParser.TheVariants.String as AnyText}
-use Rattle.gb_serve_words.specs.Options.{HasAddress, HasNumber, IsAddressOf, given, named_rule, text_rule}
+use Rattle.gb_serve_words.specs.Options.{HasAddress, HasFlag, HasNumber, IsAddressOf, MayReach, flag_rule, given, is_set, named_rule, text_rule}
 use Rattle.gb_serve_words.specs.declared.options.TheConstants.{MOST_CONNECTIONS, MOST_SESSIONS}
 use Rattle.gb_door.specs.declared.{plan.WebPlan.WebPlan, plan.WebWords.WebWords, words.TheConstants.CONNECTIONS}
 
@@ -23,15 +25,16 @@ origin_rule = record (new_rule (codes "origin")) {
   value_names = 1;
 }
 
--- the command of gb_web: --listen and --node are required, --page, --origin, --connections and --sessions are not
+-- the command of gb_web: --listen and --node are required, --page, --origin, --connections, --sessions and --remote-clients are not
 abbrev pub web_app : App
-web_app = with_rule (with_rule (with_rule (with_rule (with_rule (with_rule (new_app (codes "gb_web"))
+web_app = with_rule (with_rule (with_rule (with_rule (with_rule (with_rule (with_rule (new_app (codes "gb_web"))
     (address_rule (codes "listen")))
     (address_rule (codes "node")))
     (folder_rule (codes "page")))
     origin_rule)
     (named_rule (codes "connections") 1 MOST_CONNECTIONS false))
-    (named_rule (codes "sessions") 0 MOST_SESSIONS false)
+    (named_rule (codes "sessions") 0 MOST_SESSIONS false))
+    (flag_rule (codes "remote-clients"))
 
 -- each field of the plan is what its option was given in these matches, or else what stands for an option that is left out; the
 -- addresses were given
@@ -40,6 +43,7 @@ pub record IsPlanOf (rows : List Row) (plan : WebPlan) : Type 0 where
   pub node : IsAddressOf (one_of (codes "node") rows) (Some plan.node)
   pub connections : plan.connections ≡ unwrap_or (given rows (codes "connections")) CONNECTIONS
   pub sessions : plan.sessions ≡ unwrap_or (given rows (codes "sessions")) 0
+  pub remote_clients : plan.remote_clients ≡ is_set rows (codes "remote-clients")
 
 -- the folder and the origins are the texts that were given for them, in their order, and the plan is that of these matches
 pub record IsReadOf (rows : List Row) (read : WebWords) : Type 0 where
@@ -52,9 +56,17 @@ pub record IsWithin (plan : WebPlan) : Type 0 where
   pub connections : (1 ≤ plan.connections) × (plan.connections ≤ MOST_CONNECTIONS)
   pub sessions : plan.sessions ≤ MOST_SESSIONS
 
--- the texts that were given for the addresses are addresses
-abbrev pub HasAddresses : List Row → Type 0
-HasAddresses rows = HasAddress (one_of (codes "listen") rows) × HasAddress (one_of (codes "node") rows)
+-- each of these origins has a byte
+abbrev pub are_named : List Text → Bool
+are_named origins = list_all (λ origin. not (length origin == 0)) origins
+
+-- the texts that were given for the addresses are addresses, HTTP may be served at the one that the first of them writes, and no origin is
+-- empty
+pub record CanServe (rows : List Row) : Type 0 where
+  pub listen : HasAddress (one_of (codes "listen") rows)
+  pub node : HasAddress (one_of (codes "node") rows)
+  pub reached : (address : SocketAddr) → IsAddressOf (one_of (codes "listen") rows) (Some address) → MayReach (is_set rows (codes "remote-clients")) address
+  pub origins : are_named (unwrap_or (all_of (codes "origin") rows) []) ≡ true
 
 -- what a parse by the command leaves
 pub record IsGiven (rows : List Row) : Type 0 where
@@ -62,3 +74,4 @@ pub record IsGiven (rows : List Row) : Type 0 where
   pub some_node : is_some (one_of (codes "node") rows) ≡ true
   pub connections : HasNumber 1 MOST_CONNECTIONS (one_of (codes "connections") rows)
   pub sessions : HasNumber 0 MOST_SESSIONS (one_of (codes "sessions") rows)
+  pub remote_clients : HasFlag (one_of (codes "remote-clients") rows)

@@ -12,6 +12,8 @@ pub struct WebPlan {
     pub connections: u16,
     /// How many connections are served in all, 0 to 1,000. 0: they are served for ever.
     pub sessions: u16,
+    /// Whether HTTP may be served at another address than loopback.
+    pub remote_clients: bool,
 }
 
 /// What the words of a command line tell a door to do.

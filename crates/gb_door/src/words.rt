@@ -1,15 +1,16 @@
 //! The command line of gb_web: its options, and the plan that its words make.
 ghost use Rattle.std.specs.Prelude.{◌≡◌, ◌≢◌, ◌⊎◌, IfOk, IfSome, IfNone, Some, None, codes, map, is_some, [], true, false, unwrap_or};
 ghost use Rattle.clap.specs.Words.{all_of, app_of, fault_of, found_of, matches_of, one_of, rows_of, rule_of, takes};
-ghost use Rattle.gb_serve_words.specs.Options.{HasAddress, IsAddressOf};
-ghost use Rattle.gb_door.specs.Words.{HasAddresses, IsGiven, IsPlanOf, IsReadOf, IsWithin, origin_rule, web_app};
+ghost use Rattle.gb_serve_words.specs.Options.{HasAddress, IsAddressOf, MayReach};
+ghost use Rattle.gb_door.specs.Words.{are_named, CanServe, IsGiven, IsPlanOf, IsReadOf, IsWithin, origin_rule, web_app};
 
 use crate::plan::{WebPlan, WebWords};
 use clap::builder::ValueParser;
 use clap::{Arg, ArgAction, ArgMatches, Command};
 use gb_serve_words::WordFault;
 use gb_serve_words::options::{
-    HINT, MOST_CONNECTIONS, MOST_SESSIONS, fault_from, number_arg, text_arg, text_asked,
+    HINT, MOST_CONNECTIONS, MOST_SESSIONS, fault_from, flag_arg, may_reach, number_arg, text_arg,
+    text_asked,
 };
 use std::alloc::{AllocError, Global};
 use std::net::SocketAddr;
@@ -65,7 +66,11 @@ fn command<'a>(alloc: Global) -> Result<Command<'a>, AllocError>
     let sessions = number_arg(alloc, "sessions", 0, MOST_SESSIONS)
         .value_name("K")
         .help("how many connections are served in all; 0, or not given: for ever");
-    with_connections.arg(sessions)
+    let with_sessions = with_connections.arg(sessions)?;
+    let remote = flag_arg(alloc, "remote-clients").help(
+        "HTTP may be served at another address than loopback, where tokens travel in clear",
+    );
+    with_sessions.arg(remote)
 }
 
 /// What the help says behind the options.
@@ -99,11 +104,13 @@ fn plan_of(matches: &ArgMatches<'_>, listen: SocketAddr, node: SocketAddr) -> We
 {
     let connections = matches.get_one::<u16>("connections");
     let sessions = matches.get_one::<u16>("sessions");
+    let remote_clients = matches.get_flag("remote-clients");
     WebPlan {
         listen,
         node,
         connections: connections.unwrap_or(CONNECTIONS),
         sessions: sessions.unwrap_or(0),
+        remote_clients,
     }
 }
 
@@ -117,12 +124,24 @@ fn origins_of<'a>(alloc: Global, matches: &ArgMatches<'a>) -> Result<Vec<&'a str
     }
 }
 
-// Returns what words name and tell that `clap` took. Refused: one of their addresses is none.
+// Returns false if one of these origins is empty.
+fn are_named(origins: &[&str]) -> bool
+    ensures { result ≡ are_named (map (λ origin. origin.now) origins.now) }
+{
+    let Some((first, rest)) = origins.split_first() else {
+        return true;
+    };
+    !first.is_empty() && are_named(rest)
+}
+
+// Returns what words name and tell that `clap` took. Refused: one of their addresses is none, other machines reach that of `--listen`
+// and the words do not allow it, or one of their origins is empty.
 fn words_of<'a>(alloc: Global, matches: &ArgMatches<'a>) -> Result<WebWords<'a>, WordFault>
     requires { IsGiven (rows_of (found_of matches.now)) }
     ensures read { IfOk result (IsReadOf (rows_of (found_of matches.now))) }
     ensures within { IfOk result (λ read. IsWithin read.plan) }
-    ensures refused { result ≡ Err WordFault.Refused → HasAddresses (rows_of (found_of matches.now)) → ⊥ }
+    ensures reached { IfOk result (λ read. MayReach read.plan.remote_clients read.plan.listen) }
+    ensures refused { result ≡ Err WordFault.Refused → CanServe (rows_of (found_of matches.now)) → ⊥ }
 {
     let Some(listen) = address_of(matches, "listen") else {
         return Err(WordFault::Refused);
@@ -130,24 +149,33 @@ fn words_of<'a>(alloc: Global, matches: &ArgMatches<'a>) -> Result<WebWords<'a>,
     let Some(node) = address_of(matches, "node") else {
         return Err(WordFault::Refused);
     };
+    let plan = plan_of(matches, listen, node);
+    if !may_reach(plan.remote_clients, plan.listen) {
+        return Err(WordFault::Refused);
+    }
     let origins = origins_of(alloc, matches)?;
+    if !are_named(&origins) {
+        return Err(WordFault::Refused);
+    }
     Ok(WebWords {
-        plan: plan_of(matches, listen, node),
+        plan,
         page: matches.get_str("page"),
         origins,
     })
 }
 
 /// Returns what the words of gb_web's command line tell a door to do. The first word is the program's name. Does no input or output.
-/// `Err` with `Refused` if `clap` refuses the words, or if the text of `--listen` or `--node` is no address, and with `OutOfMemory`.
+/// `Err` with `Refused` if `clap` refuses the words, the text of `--listen` or `--node` is no address, other machines reach that of
+/// `--listen` without `--remote-clients`, or the text of an `--origin` is empty; and with `OutOfMemory`.
 pub fn read_words<'a>(alloc: Global, words: &'a [&'a str]) -> Result<WebWords<'a>, WordFault>
     ensures given { IfOk result (λ read. IsReadOf (matches_of web_app (map (λ word. word.now) words.entry.now)) read) }
     ensures within { IfOk result (λ read. IsWithin read.plan) }
+    ensures reached { IfOk result (λ read. MayReach read.plan.remote_clients read.plan.listen) }
     ensures accepted { IfOk result (λ _. fault_of web_app (map (λ word. word.now) words.entry.now) ≡ []) }
     ensures refused { result ≡ Err WordFault.Refused → (fault_of web_app (map (λ word. word.now) words.entry.now) ≢ [])
-        ⊎ (HasAddresses (matches_of web_app (map (λ word. word.now) words.entry.now)) → ⊥) }
+        ⊎ (CanServe (matches_of web_app (map (λ word. word.now) words.entry.now)) → ⊥) }
     ensures taken { takes web_app (map (λ word. word.now) words.entry.now) ≡ true
-        → HasAddresses (matches_of web_app (map (λ word. word.now) words.entry.now)) → result ≢ Err WordFault.Refused }
+        → CanServe (matches_of web_app (map (λ word. word.now) words.entry.now)) → result ≢ Err WordFault.Refused }
 {
     let command = command(alloc)?;
     match command.try_get_matches_from(words) {
@@ -171,16 +199,50 @@ fn address_refusal(
     )
 }
 
+// Returns why an address at which other machines reach the door is refused. It is empty if other machines do not, or may reach it.
+fn reach_refusal(alloc: Global, matches: &ArgMatches<'_>) -> Result<String, AllocError> {
+    match matches.try_get_one::<SocketAddr>("listen") {
+        Ok(Some(listen)) if !may_reach(matches.get_flag("remote-clients"), listen) => {
+            format!(in alloc;
+                "error: invalid value '{listen}' for '--listen <ADDR>': other machines would reach it, and tokens travel in clear: give --remote-clients if that is meant, or an address of this machine and a proxy{HINT}"
+            )
+        }
+        _ => Ok(String::new(alloc)),
+    }
+}
+
+// Returns why an origin is refused. It is empty if none is empty.
+fn origin_refusal(alloc: Global, matches: &ArgMatches<'_>) -> Result<String, AllocError> {
+    let origins = origins_of(alloc, matches)?;
+    if are_named(&origins) {
+        return Ok(String::new(alloc));
+    }
+    format!(in alloc;
+        "error: invalid value '' for '--origin <ORIGIN>': an origin is wanted, as https://chat.example.org{HINT}"
+    )
+}
+
+// Returns why words that `clap` took are refused. It is empty if they are not.
+fn words_refusal(alloc: Global, matches: &ArgMatches<'_>) -> Result<String, AllocError> {
+    let listen = address_refusal(alloc, matches, "listen")?;
+    if !listen.is_empty() {
+        return Ok(listen);
+    }
+    let node = address_refusal(alloc, matches, "node")?;
+    if !node.is_empty() {
+        return Ok(node);
+    }
+    let reach = reach_refusal(alloc, matches)?;
+    if !reach.is_empty() {
+        return Ok(reach);
+    }
+    origin_refusal(alloc, matches)
+}
+
 /// Returns the text that says why `read_words` refuses these words. The text is empty if it takes them. `Err` if memory runs out.
 pub fn refusal_text(alloc: Global, words: &[&str]) -> Result<String, AllocError> {
     match command(alloc)?.try_get_matches_from(words) {
-        Ok(matches) => {
-            let listen = address_refusal(alloc, &matches, "listen")?;
-            if !listen.is_empty() {
-                return Ok(listen);
-            }
-            address_refusal(alloc, &matches, "node")
-        }
+        Ok(matches) => words_refusal(alloc, &matches),
         Err(error) => format!(in alloc; "{error}"),
     }
 }

@@ -74,14 +74,70 @@ fn words_tell_a_door(rt: HostRuntime) {
             node: local(*node),
             connections: *connections,
             sessions: *sessions,
+            remote_clients: false,
         };
         let is_right = is_read(rt.alloc(), line, plan, *page, origins);
         assert!(rt; is_right, "{line}");
     }
 }
 
+#[test]
+fn words_let_other_machines_in(rt: HostRuntime) {
+    let everywhere = SocketAddr::V4(SocketAddrV4::new(Ipv4Addr::new(0, 0, 0, 0), 80));
+    let plan = WebPlan {
+        listen: everywhere,
+        node: local(1),
+        connections: 256,
+        sessions: 0,
+        remote_clients: true,
+    };
+    let line = "gb_web --listen 0.0.0.0:80 --node 127.0.0.1:1 --remote-clients";
+    let is_let = is_read(rt.alloc(), line, plan, None, &[]);
+    assert!(rt; is_let);
+    // The last address of loopback, and the word beside one.
+    let last = WebPlan {
+        listen: SocketAddr::V4(SocketAddrV4::new(Ipv4Addr::new(127, 255, 255, 255), 80)),
+        remote_clients: false,
+        ..plan
+    };
+    let bare = "gb_web --listen 127.255.255.255:80 --node 127.0.0.1:1";
+    let is_bare = is_read(rt.alloc(), bare, last, None, &[]);
+    assert!(rt; is_bare);
+    let both = WebPlan {
+        remote_clients: true,
+        ..last
+    };
+    let worded = "gb_web --remote-clients --listen 127.255.255.255:80 --node 127.0.0.1:1";
+    let is_worded = is_read(rt.alloc(), worded, both, None, &[]);
+    assert!(rt; is_worded);
+}
+
 // Lines that are refused, and the text that tells why.
-static REFUSED: [(&str, &str); 4] = [
+static REFUSED: [(&str, &str); 10] = [
+    (
+        "gb_web --listen 0.0.0.0:8080 --node 127.0.0.1:1",
+        "error: invalid value '0.0.0.0:8080' for '--listen <ADDR>': other machines would reach it, and tokens travel in clear: give --remote-clients if that is meant, or an address of this machine and a proxy\n\nFor more information, try '--help'.\n",
+    ),
+    (
+        "gb_web --listen 128.0.0.0:8080 --node 127.0.0.1:1",
+        "error: invalid value '128.0.0.0:8080' for '--listen <ADDR>': other machines would reach it, and tokens travel in clear: give --remote-clients if that is meant, or an address of this machine and a proxy\n\nFor more information, try '--help'.\n",
+    ),
+    (
+        "gb_web --listen [::]:8080 --node 127.0.0.1:1",
+        "error: invalid value '[::]:8080' for '--listen <ADDR>': other machines would reach it, and tokens travel in clear: give --remote-clients if that is meant, or an address of this machine and a proxy\n\nFor more information, try '--help'.\n",
+    ),
+    (
+        "gb_web --listen 127.0.0.1:8080 --node 127.0.0.1:1 --remote-clients=yes",
+        "error: unexpected value 'yes' for '--remote-clients' found; no more were expected\n\nUsage: gb_web --listen <ADDR> --node <ADDR> --remote-clients\n\nFor more information, try '--help'.\n",
+    ),
+    (
+        "gb_web --listen 127.0.0.1:8080 --node 127.0.0.1:1 --origin=",
+        "error: invalid value '' for '--origin <ORIGIN>': an origin is wanted, as https://chat.example.org\n\nFor more information, try '--help'.\n",
+    ),
+    (
+        "gb_web --listen 127.0.0.1:8080 --node 127.0.0.1:1 --origin https://a.org --origin=",
+        "error: invalid value '' for '--origin <ORIGIN>': an origin is wanted, as https://chat.example.org\n\nFor more information, try '--help'.\n",
+    ),
     (
         "gb_web --listen localhost:8080 --node 127.0.0.1:1",
         "error: invalid value 'localhost:8080' for '--listen <ADDR>': an IP address and a port are wanted, as 127.0.0.1:8080 or [::1]:8080\n\nFor more information, try '--help'.\n",

@@ -2,7 +2,7 @@ use Rattle.gb_types.specs.Common.{◌∙◌, Option, ℕ, ap, arith, codes, unwr
 use Rattle.std.specs.Str.Parse.{ParsesUnsigned, ExplainsUnsignedError, HasUnsignedDigitsIfOk}
 use Rattle.clap.specs.Words.{found_of}
 use Rattle.gb_serve_words.specs.declared.options.TheConstants.{MOST_CONNECTIONS, MOST_SESSIONS}
-use Rattle.gb_serve_words.proofs.NumberLemmas.{reads, within_or}
+use Rattle.gb_serve_words.proofs.NumberLemmas.{reads, reads_flag, within_or}
 use Rattle.gb_door.specs.declared.words.TheConstants.{CONNECTIONS}
 use Rattle.gb_door.proofs.words.plan_of.Goals as goal
 
@@ -19,6 +19,7 @@ returns c =
         node = c.requires.asks;
         connections = c.unwrap_or.ensures ∙ ap (λ (o : Option ℕ). unwrap_or o CONNECTIONS) connections.0;
         sessions = c.unwrap_or-2.ensures ∙ ap (λ (o : Option ℕ). unwrap_or o 0) sessions.0;
+        remote_clients = reads_flag f (codes "remote-clients") c.get_flag-remote_clients.result c.requires.given.remote_clients c.get_flag-remote_clients.ensures.none c.get_flag-remote_clients.ensures.value c.get_flag-remote_clients.ensures.other;
       };
       within = record {
         connections = rw c.unwrap_or.ensures (within_or 1 MOST_CONNECTIONS CONNECTIONS c.get_one-connections.result (omega arith) (omega arith) connections.1);

@@ -4,7 +4,7 @@ use Rattle.clap.specs.Kinds.{HasKind, Kinds}
 use Rattle.clap.proofs.OnLiterals.{clap_on_literals}
 use Rattle.std.proofs.lemmas.Result.{IfOk-weaker}
 use Rattle.gb_serve_words.specs.declared.fault.WordFault.TheVariants.{Refused}
-use Rattle.gb_door.specs.Words.{HasAddresses, IsReadOf, web_app}
+use Rattle.gb_door.specs.Words.{CanServe, IsReadOf, web_app}
 use Rattle.gb_door.proofs.EntryLemmas.{given_by}
 use Rattle.gb_door.proofs.words.read_words.Goals as goal
 
@@ -35,13 +35,13 @@ pub returns-in-Ok-clause-refused : goal.returns-in-Ok-clause-refused
 returns-in-Ok-clause-refused c = λ is.
     let read = (c.in-Ok.ensures.matches (ap is_simple c.in_ok-command.ensures ∙ is_read)).0
     ∙ ap (λ (a : App). matches_of a (map (λ word. word.now) c.args.words.now)) c.in_ok-command.ensures in
-    inr (subst (λ (rows : List Row). HasAddresses rows → ⊥) read (c.words_of.ensures.refused is))
+    inr (subst (λ (rows : List Row). CanServe rows → ⊥) read (c.words_of.ensures.refused is))
 
 pub returns-in-Ok-clause-taken : goal.returns-in-Ok-clause-taken
 returns-in-Ok-clause-taken c = λ _ can is.
     let read = (c.in-Ok.ensures.matches (ap is_simple c.in_ok-command.ensures ∙ is_read)).0
     ∙ ap (λ (a : App). matches_of a (map (λ word. word.now) c.args.words.now)) c.in_ok-command.ensures in
-    subst (λ (rows : List Row). HasAddresses rows → ⊥) read (c.words_of.ensures.refused is) can
+    subst (λ (rows : List Row). CanServe rows → ⊥) read (c.words_of.ensures.refused is) can
 
 pub returns-in-Err-clause-refused : goal.returns-in-Err-clause-refused
 returns-in-Err-clause-refused c = λ is. inl (λ none.

@@ -5,7 +5,7 @@ use Rattle.gb_door.proofs.words.words_of.Goals as goal
 
 pub returns-clause-read : goal.returns-clause-read
 returns-clause-read c = record {
-  plan = c.plan_of.ensures.read;
+  plan = c.plan_of-plan.ensures.read;
   page = c.get_str.ensures ∙ first_value-rows (found_of c.args.matches.now) (codes "page");
   origins = c.in_ok-origins.ensures;
 }
