@@ -29,10 +29,14 @@ begin_front version nodes port = (codes "gb_serve " ++ version ++ codes ": " ++ 
 abbrev pub first_line : List ℕ → Option SocketAddr → List ℕ
 first_line front status = lined (front ++ status_words status)
 
+-- what stands between the numbers of links and those of buffers
+unfoldable pub own_words : List ℕ
+own_words = codes " links have an own socket, each receive buffer has "
+
 -- the second line: how many links between nodes have an own socket, and what the system keeps at a socket of what was asked for
 abbrev pub sockets_line_of : List ℕ → PortSockets → List ℕ
 sockets_line_of name sockets =
-    lined (name ++ codes ": " ++ decimal sockets.own ++ codes " of " ++ decimal sockets.others ++ codes " links have an own socket, each receive buffer has " ++ decimal sockets.buffer ++ codes " of " ++ decimal BUFFER ++ codes " bytes")
+    lined (name ++ codes ": " ++ decimal sockets.own ++ codes " of " ++ decimal sockets.others ++ own_words ++ decimal sockets.buffer ++ codes " of " ++ decimal BUFFER ++ codes " bytes")
 
 -- why a server ends
 abbrev pub end_words : Why → List ℕ

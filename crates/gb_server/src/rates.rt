@@ -33,8 +33,9 @@ fn row_by(row: Option<NamedLimit>) -> Option<TenantRate>
 pub fn rates_by(limits: TenantLimits) -> RateLimits
     ensures { result ≡ rates_by limits }
 {
+    let named = limits.named;
     RateLimits {
         each: rate_by(limits.each),
-        named: limits.named.map(row_by),
+        named: named.map(row_by),
     }
 }

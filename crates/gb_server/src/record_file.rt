@@ -187,7 +187,9 @@ pub fn open_records<F: Files<File = File>>(
             return Err(RecordFault::Trouble(RecordTrouble::Unmade));
         };
         let made = open_record(files, alloc, place, plan, node)?;
-        records.push_reserved(made);
+        if records.push(made).is_err() {
+            return Err(RecordFault::OutOfMemory);
+        }
     }
     settle_folder(files, place.dir);
     Ok(records)

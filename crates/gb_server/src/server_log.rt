@@ -1,6 +1,6 @@
 //! The log of a server, on standard error: one line for each event that an operator must know.
 ghost use Rattle.std.specs.Prelude.{◌≡◌, ◌≤◌, ◌++◌, ◌+◌, ◌-◌, IfOk, OnOk, codes, decimal, true};
-ghost use Rattle.gb_server.specs.ServerLog.{begin_front, end_line_of, end_words, first_line, port_words, range_words, sockets_line_of, status_words};
+ghost use Rattle.gb_server.specs.ServerLog.{begin_front, end_line_of, end_words, first_line, own_words, port_words, range_words, sockets_line_of, status_words};
 ghost use Rattle.std.specs.Net.Text.{socket_text};
 
 use crate::signals::{Signals, Why};
@@ -126,6 +126,14 @@ pub fn first_line(
     Ok(line)
 }
 
+// Returns what stands between the numbers of links and those of buffers.
+#[tactic(auto, unfolding(crate::specs::ServerLog::own_words))]
+fn own_words() -> &'static [u8]
+    ensures { result.now ≡ own_words }
+{
+    b" links have an own socket, each receive buffer has "
+}
+
 /// Returns the line of a server's log that tells how many links between nodes have an own socket, and what the system keeps at a socket.
 /// `name` is the name of the program. `Err` if there is no memory.
 pub fn sockets_line(
@@ -141,10 +149,7 @@ pub fn sockets_line(
     put_number(&mut line, sockets.own)?;
     put_bytes(&mut line, b" of ")?;
     put_number(&mut line, sockets.others)?;
-    put_bytes(
-        &mut line,
-        b" links have an own socket, each receive buffer has ",
-    )?;
+    put_bytes(&mut line, own_words())?;
     put_number(&mut line, sockets.buffer)?;
     put_bytes(&mut line, b" of ")?;
     put_number(&mut line, BUFFER)?;
