@@ -107,8 +107,8 @@ def start(stack, words, text=""):
 def prepare(port):
     keys = Keys(0, admin=ADMIN_KEY, tenants={7: TENANT_KEY})
     with Client(node_address(port, 0), keys) as client:
-        client.tenant(7, TENANT_KEY, groups=4, messages=1000, bytes=65536, window=1000)
-        Group({0: client}, 7, 1, Spec("fbeb", (0,), messages=1000, bytes=65536, window=1000)).start()
+        client.add_tenant(7, TENANT_KEY, groups=4, messages=1000, total_bytes=65536, window=1000)
+        Group({0: client}, 7, 1, Spec("fbeb", (0,), messages=1000, total_bytes=65536, window=1000)).start()
 
 
 def talks(door, token):

@@ -9,7 +9,7 @@ import time
 from dataclasses import dataclass
 
 sys.path.insert(0, os.path.join(os.path.dirname(os.path.abspath(__file__)), "..", "clients", "python"))
-from foqradesh import BadPlace, Client, Keys, Spec, member_token, node_address
+from foqradesh import BadPlaceError, Client, Keys, Spec, member_token, node_address
 
 CLUSTER_KEY, ADMIN_KEY, TENANT_KEY = (bytes([byte] * 32) for byte in (0x11, 0x22, 0x33))
 PORT = int(os.environ.get("SCALE_PORT", "30000"))
@@ -159,7 +159,7 @@ def make_groups(load):
                 if step == "make":
                     for tenant in range(1, tenants + 1):
                         count = min(GROUPS_OF_A_TENANT, load.groups - GROUPS_OF_A_TENANT * (tenant - 1))
-                        client.tenant(tenant, TENANT_KEY, count, load.each, load.each * load.payload, load.each)
+                        client.add_tenant(tenant, TENANT_KEY, count, load.each, load.each * load.payload, load.each)
                 for group in range(load.groups):
                     if step == "make":
                         client.make(*address(group), spec)
@@ -204,7 +204,7 @@ def is_there(client, group, place):
     """Whether a log has an entry at this place."""
     try:
         return bool(client.fetch(*address(group), place, 1))
-    except BadPlace:
+    except BadPlaceError:
         return False
 
 

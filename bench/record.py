@@ -29,7 +29,7 @@ WARM = 20_000
 def prepare(port, groups):
     """Makes groups of one member, which says one message in the first of them."""
     with Client(node_address(port, 0), keys(0)) as client:
-        client.tenant(1, TENANT_KEY, 256, 1024, 65536, 1024)
+        client.add_tenant(1, TENANT_KEY, 256, 1024, 65536, 1024)
         for group in range(groups):
             client.make(1, group, Spec("beb", (0,), 1024, 65536, 1024))
             client.open(1, group)

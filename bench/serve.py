@@ -35,7 +35,7 @@ def prepare(members, groups, kind="beb"):
     """Makes groups of these members, each for 1,024 messages of a member."""
     for node in members:
         with Client(node_address(PORT, node), keys(node)) as client:
-            client.tenant(1, TENANT_KEY, 256, 1024, 65536, 1024)
+            client.add_tenant(1, TENANT_KEY, 256, 1024, 65536, 1024)
             for group in range(groups):
                 client.make(1, group, Spec(kind, tuple(members), 1024, 65536, 1024))
                 client.open(1, group)

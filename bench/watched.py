@@ -42,7 +42,7 @@ class Reader(threading.Thread):
 def prepare(port):
     """Makes a group of one member with one entry in its log."""
     with Client(node_address(port, 0), keys(0)) as client:
-        client.tenant(1, TENANT_KEY, 1, 1024, 65536, 1024)
+        client.add_tenant(1, TENANT_KEY, 1, 1024, 65536, 1024)
         client.make(1, 0, Spec("beb", (0,), 1024, 65536, 1024))
         client.open(1, 0)
         client.say(1, 0, PAYLOAD)

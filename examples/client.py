@@ -50,9 +50,9 @@ def walk(port, program):
     keys = {node: Keys(node, admin=admin_key, tenants={TENANT: tenant_key}) for node in MEMBERS}
     clients = {node: Client(node_address(port, node), keys[node]) for node in MEMBERS}
     for client in clients.values():
-        client.tenant(TENANT, tenant_key, groups=4, messages=100, bytes=4096, window=100)
+        client.add_tenant(TENANT, tenant_key, groups=4, messages=100, total_bytes=4096, window=100)
     # The group is made at every member's node, and only then opened at any.
-    Group(clients, TENANT, GROUP, Spec("fallack", MEMBERS, messages=100, bytes=4096, window=100)).start()
+    Group(clients, TENANT, GROUP, Spec("fallack", MEMBERS, messages=100, total_bytes=4096, window=100)).start()
     logs = chat(clients)
     for client in clients.values():
         client.close()

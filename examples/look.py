@@ -66,10 +66,10 @@ def look(port):
             return 1
         clients = {node: Client(node_address(port, node), Keys(node, admin=admin_key, tenants={TENANT: tenant_key})) for node in MEMBERS}
         for client in clients.values():
-            client.tenant(TENANT, tenant_key, groups=4, messages=100, bytes=4096, window=100)
-        Group(clients, TENANT, GROUP, Spec("fallack", MEMBERS, messages=100, bytes=4096, window=100)).start()
+            client.add_tenant(TENANT, tenant_key, groups=4, messages=100, total_bytes=4096, window=100)
+        Group(clients, TENANT, GROUP, Spec("fallack", MEMBERS, messages=100, total_bytes=4096, window=100)).start()
         logs = chat(clients)
-        clients[0].stop()
+        clients[0].shutdown()
         for client in clients.values():
             client.close()
         server.wait(timeout=60)

@@ -12,7 +12,7 @@ from cluster import NODES, TENANT, cluster
 from foqradesh import Group, Spec
 
 GROUP, WRITER = 1, 0
-SPEC = Spec("fbeb", NODES, messages=1024, bytes=65536, window=1024)
+SPEC = Spec("fbeb", NODES, messages=1024, total_bytes=65536, window=1024)
 NOTICES = [f"build {number} passed" for number in range(100)]
 
 

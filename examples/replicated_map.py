@@ -1,58 +1,60 @@
 #!/usr/bin/env python3
-"""A replicated map: one leader says each change in a room, and each replica applies what its node delivers, in the leader's order.
+"""A replicated map: each member changes it through a leader, and applies all changes in one order. The first leader is killed on the way.
 
-    replicated_map.py [PORT [GB_SERVE]]
+    replicated_map.py [PORT [GB_PEER]]
 
-The kind is all-ack and first-in first-out: what one replica has applied, each replica that runs applies too. A generation takes 32 changes of the
-leader, so the room goes on to the next one by itself. Status 0: all replicas have the same map.
+Status 0: the members that run have applied the same changes in the same order, each once.
 """
+import asyncio
+import json
 import sys
-import threading
 
-from cluster import NODES, TENANT, cluster
-from foqradesh import Room, Spec
+from cluster import NODES, TENANT, peers
+from foqradesh import AsyncClient, AsyncRoom, RoomNumber, Spec, UnansweredError
 
-ROOM, LEADER, CHANGES = 2, 0, 100
-SPEC = Spec("fallack", NODES, messages=32, bytes=65536, window=32)
+ROOM, CHANGES, SPEC = 2, 100, Spec("fallack", NODES, messages=64, total_bytes=65536, window=64)
 
 
-def change(number):
-    """Return the leader's change with a number: a key, and its new value."""
-    return f"key {number % 7}", str(number)
+class ReplicatedMap:
+    def __init__(self, connect, node):
+        clients = {it: connect(it, AsyncClient) for it in NODES}
+        self.room = AsyncRoom(clients, TENANT, ROOM, SPEC, node=node, leader=NODES[0])
+        self.own, self.others, self.values, self.applied = clients[node], set(NODES) - {node}, {}, []
+
+    async def set(self, key, value):
+        """Change the map at all members. It returns when the change has its place in the order."""
+        change, repeat = json.dumps([key, value]).encode(), None
+        while True:
+            try:
+                return await self.room.say(change, repeat=repeat)
+            except UnansweredError as error:
+                if error.generation is not None:  # it may be said: with the same number it is, once at most
+                    repeat = RoomNumber(error.generation, error.number)
+                noticed = (await self.own.status())["nodes_noticed"]
+                if error.node in self.others and noticed > len(NODES) - 1 - len(self.others):
+                    self.others.remove(error.node)  # a node has crashed, and this one does not answer
+                    self.room.exclude(error.node)
+                await asyncio.sleep(0.1)
+
+    async def apply(self):
+        async for entry in self.room.follow():
+            self.values.update([json.loads(entry.payload)])
+            self.applied.append(entry.payload)
 
 
-def apply(connect, node, replicas):
-    """Apply what node's log has, until the last change."""
-    clients = {it: connect(it) for it in NODES}
-    for entry in Room(clients, TENANT, ROOM, SPEC, node=node).follow():
-        key, value = entry.payload.decode().split("=")
-        replicas[node][key] = value
-        if value == str(CHANGES - 1):
-            break
-    for client in clients.values():
-        client.close()
-
-
-def main(words):
-    replicas = {node: {} for node in NODES}
-    with cluster(words) as connect:
-        appliers = [threading.Thread(target=apply, args=(connect, node, replicas), daemon=True) for node in NODES]
-        clients = {node: connect(node) for node in NODES}
-        leader = Room(clients, TENANT, ROOM, SPEC, node=LEADER)
-        leader.join()
-        for applier in appliers:
-            applier.start()
-        for number in range(CHANGES):
-            leader.say("=".join(change(number)).encode())
-        for applier in appliers:
-            applier.join(timeout=60)
-        print(f"{CHANGES} changes in {leader.generation + 1} generations")
-        for client in clients.values():
-            client.close()
-    for node in NODES:
-        print(f"replica at node {node}: {dict(sorted(replicas[node].items()))}")
-    return 0 if all(replicas[node] == dict(change(number) for number in range(CHANGES)) for node in NODES) else 1
+async def play(connect, kill):
+    maps = [ReplicatedMap(connect, node) for node in NODES[1:]]
+    appliers = [asyncio.ensure_future(it.apply()) for it in maps]
+    for number in range(CHANGES):
+        if number == 20:
+            asyncio.get_running_loop().call_later(0.002, kill, NODES[0])  # it leads still, and changes are on their way
+        await asyncio.gather(*(it.set(f"key {number % 7}", f"{number} of node {it.room.node}") for it in maps))
+    while any(len(it.applied) < 2 * CHANGES and not task.done() for it, task in zip(maps, appliers)):
+        await asyncio.sleep(0.1)
+    print(f"{2 * CHANGES} changes, the last led by node {maps[0].room.leader}: {maps[0].values}")
+    return 0 if maps[0].applied == maps[1].applied and len(set(maps[0].applied)) == 2 * CHANGES else 1
 
 
 if __name__ == "__main__":
-    sys.exit(main(sys.argv[1:]))
+    with peers(sys.argv[1:]) as (running, killing):
+        sys.exit(asyncio.run(play(running, killing)))

@@ -127,13 +127,15 @@ INSTALLED = """
 "{python}" -m venv environment
 environment/bin/python -m pip install --no-index --disable-pip-version-check "{top}/clients/python"
 environment/bin/python -c 'import foqradesh, os; print(foqradesh.__file__); assert os.getcwd() in foqradesh.__file__'
+environment/bin/python -c 'import foqradesh, importlib.metadata as it; assert it.version("foqradesh") == foqradesh.__version__'
+environment/bin/foqradesh-load --help
 """
 CLIENT = "{top}/clients/python"
 UNITTEST = ("{python}", "-W", "error", "-m", "unittest", "-v")
 NO_SERVER = "skipped .*no gb_serve"
 
 TRIALS = (
-    Trial("python", "the tests of the Python package, without a server", UNITTEST, seconds=32, folder=CLIENT,
+    Trial("python", "the tests of the Python package, without a server", UNITTEST, seconds=45, limit=500, folder=CLIENT,
           variables={"GB_SERVE": "{room}/none", "GB_SIM": "{room}/none"}),
     Trial("python-served", "the tests of the Python package against gb_serve, but for those of rooms and of asyncio",
           (*UNITTEST, "tests.test_server.ServerTests", "tests.test_documents", "tests.test_load.ServerTests"), programs=["gb_serve"],
@@ -181,8 +183,8 @@ TRIALS = (
           seconds=70, limit=900),
     Trial("notifications", "gb_serve and the Python package: one writer and many readers",
           ("{python}", "{top}/examples/notifications.py", "{port}", "{gb_serve}"), programs=["gb_serve"], seconds=3, limit=120),
-    Trial("replicated-map", "gb_serve and the Python package: a map that each replica has alike, in a room that goes on",
-          ("{python}", "{top}/examples/replicated_map.py", "{port}", "{gb_serve}"), programs=["gb_serve"], seconds=5, limit=120),
+    Trial("replicated-map", "gb_peer and the Python package: a map that members change through a leader, which is killed",
+          ("{python}", "{top}/examples/replicated_map.py", "{port}", "{gb_peer}"), programs=["gb_peer"], seconds=20, limit=200),
     Trial("javascript", "the tests of the JavaScript client, against gb_serve and gb_web",
           ("npm", "--offline", "--cache", "{room}/cache", "test", "--prefix", "{top}/clients/js"), programs=["gb_serve", "gb_web"],
           needs=[command("npm"), has_node], seconds=10, variables=SERVED, bad="# SKIP"),

@@ -1,10 +1,11 @@
 """Builds this package's wheel with the standard library alone, so that `pip install` needs no index (PEP 517; the binary distribution format).
 
 pip calls `build_wheel` and `build_sdist`. What they write of the package stands in the table [project] of pyproject.toml, of which this
-module reads lines `key = "text"`, the list `classifiers` and the lines of the table [project.scripts].
+module reads lines `key = "text"`, the names of `authors`, the lists `keywords` and `classifiers`, and the lines of the table [project.scripts].
 """
 import base64
 import hashlib
+import io
 import os
 import re
 import tarfile
@@ -14,21 +15,23 @@ HERE = os.path.dirname(os.path.abspath(__file__))
 
 
 def read_project():
-    """Return the lines of [project] as a dictionary, its classifiers, and the lines of [project.scripts] as a dictionary."""
+    """Return the lines of [project] as a dictionary, its lists as another one, and the lines of [project.scripts] as a third one."""
     with open(os.path.join(HERE, "pyproject.toml"), encoding="utf-8") as file:
         tables = dict(re.findall(r"^\[([^\]]+)\]\n(.*?)(?=^\[|\Z)", file.read(), re.MULTILINE | re.DOTALL))
     pairs = re.compile(r'^([\w-]+) = "(.*)"$', re.MULTILINE)
-    classifiers = re.search(r"^classifiers = \[(.*?)^\]", tables["project"], re.MULTILINE | re.DOTALL)
-    return dict(pairs.findall(tables["project"])), re.findall(r'"(.*)"', classifiers[1]), dict(pairs.findall(tables.get("project.scripts", "")))
+    lists = re.findall(r"^(\w+) = \[(.*?)\]$", tables["project"], re.MULTILINE | re.DOTALL)
+    lists = {name: re.findall(r'"([^"]*)"', text) for name, text in lists}
+    return dict(pairs.findall(tables["project"])), lists, dict(pairs.findall(tables.get("project.scripts", "")))
 
 
-def metadata(project, classifiers):
+def metadata(project, lists):
     """Return the text of METADATA, whose body is the page that the project names."""
     with open(os.path.join(HERE, project["readme"]), encoding="utf-8") as file:
         page = file.read()
     lines = ["Metadata-Version: 2.1", f"Name: {project['name']}", f"Version: {project['version']}", f"Summary: {project['description']}"]
+    lines += [f"Author: {', '.join(lists['authors'])}", f"Keywords: {','.join(lists['keywords'])}"]
     lines += [f"Requires-Python: {project['requires-python']}", "Description-Content-Type: text/markdown"]
-    lines += [f"Classifier: {classifier}" for classifier in classifiers]
+    lines += [f"Classifier: {classifier}" for classifier in lists["classifiers"]]
     return "\n".join(lines) + "\n\n" + page
 
 
@@ -39,14 +42,14 @@ def sources():
 
 def build_wheel(wheel_directory, config_settings=None, metadata_directory=None):
     """Write the wheel, and return its name."""
-    project, classifiers, scripts = read_project()
+    project, lists, scripts = read_project()
     stem = f"{project['name']}-{project['version']}"
     info = f"{stem}.dist-info"
     held = {}
     for path in sources():
         with open(os.path.join(HERE, path), "rb") as file:
             held[path] = file.read()
-    held[f"{info}/METADATA"] = metadata(project, classifiers).encode()
+    held[f"{info}/METADATA"] = metadata(project, lists).encode()
     held[f"{info}/WHEEL"] = b"Wheel-Version: 1.0\nGenerator: foqradesh\nRoot-Is-Purelib: true\nTag: py3-none-any\n"
     if scripts:
         held[f"{info}/entry_points.txt"] = ("[console_scripts]\n" + "".join(f"{name} = {call}\n" for name, call in scripts.items())).encode()
@@ -64,9 +67,13 @@ def build_wheel(wheel_directory, config_settings=None, metadata_directory=None):
 
 def build_sdist(sdist_directory, config_settings=None):
     """Write the archive of the package's sources, and return its name."""
-    project, _, _ = read_project()
+    project, lists, _ = read_project()
     stem = f"{project['name']}-{project['version']}"
     with tarfile.open(os.path.join(sdist_directory, f"{stem}.tar.gz"), "w:gz") as archive:
+        info = metadata(project, lists).encode()
+        member = tarfile.TarInfo(f"{stem}/PKG-INFO")
+        member.size = len(info)
+        archive.addfile(member, io.BytesIO(info))
         for path in ["pyproject.toml", "wheels.py", project["readme"], *sources()]:
             archive.add(os.path.join(HERE, path), f"{stem}/{path}")
     return f"{stem}.tar.gz"

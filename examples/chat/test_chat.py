@@ -28,7 +28,7 @@ from foqradesh import Client, Generation, Group, Keys, Spec, member_token, node_
 
 CLUSTER_KEY, ADMIN_KEY, TENANT_KEY = (bytes([byte] * 32) for byte in (0x11, 0x22, 0x33))
 TENANT, GROUP, NODES = 7, 1, 3
-SPEC = Spec("fallack", (0, 1, 2), messages=8, bytes=4096, window=8)  # Ada fills it: she joins, greets, and says five more
+SPEC = Spec("fallack", (0, 1, 2), messages=8, total_bytes=4096, window=8)  # Ada fills it: she joins, greets, and says five more
 NAMES = ("Ada", "Grace", "Edsger")
 TIME = 20  # seconds in which something has to be seen
 
@@ -228,7 +228,7 @@ def take_in(stack, port):
     clients = {}
     for node in range(NODES):
         clients[node] = stack.enter_context(Client(node_address(port, node), Keys(node, admin=ADMIN_KEY, tenants={TENANT: TENANT_KEY})))
-        clients[node].tenant(TENANT, TENANT_KEY, groups=4, messages=1000, bytes=65536, window=100)
+        clients[node].add_tenant(TENANT, TENANT_KEY, groups=4, messages=1000, total_bytes=65536, window=100)
     return clients
 
 
@@ -239,7 +239,7 @@ def make_generation(clients, generation):
 def address(port, node):
     """The address of the page of a node's member, which has the room."""
     members = ",".join(map(str, SPEC.members))
-    room = f"tenant={TENANT}&room={GROUP}&node={node}&kind={SPEC.kind}&members={members}&messages={SPEC.messages}&bytes={SPEC.bytes}&window={SPEC.window}"
+    room = f"tenant={TENANT}&room={GROUP}&node={node}&kind={SPEC.kind}&members={members}&messages={SPEC.messages}&bytes={SPEC.total_bytes}&window={SPEC.window}"
     return f"http://127.0.0.1:{port + 80 + node}/#{room}"
 
 

@@ -2,46 +2,51 @@
 
 `Client` asks one node over one connection, `AsyncClient` does so for asyncio. `Group` and
 `AsyncGroup` make a group at all its members' nodes, and `Room` and `AsyncRoom` go on from one to
-the next. docs/CLIENTS.md tells how to begin, and docs/FORMATS.md what is spoken.
+the next. The package's README tells how to begin. Modules whose names begin with `_` are private.
 """
 
-from .aio import AsyncClient, AsyncPipeline
-from .client import Client, Pipeline, Ticket, node_address
-from .directory import directory_address
-from .errors import (
-    BadDirectory,
-    BadMembers,
-    BadPlace,
-    BadReply,
-    Budget,
-    BytesSpent,
-    ConnectionFailed,
-    Denied,
+from ._async_client import AsyncClient, AsyncPipeline
+from ._async_group import AsyncGroup
+from ._async_room import AsyncRoom
+from ._blocking import Ticket
+from ._client import Client, Pipeline
+from ._directory import directory_address, node_address
+from ._errors import (
+    BadDirectoryError,
+    BadMembersError,
+    BadPlaceError,
+    BadReplyError,
+    BudgetError,
+    BytesError,
+    ConnectionFailedError,
+    DeniedError,
     FoqradeshError,
-    Malformed,
-    MissingToken,
-    NoGroup,
-    NoRoom,
-    OutOfMemory,
-    OverReserve,
-    Refused,
-    Spent,
-    Stopped,
-    TenantThere,
-    TimedOut,
-    TooLong,
-    Unanswered,
-    UnknownOutcome,
-    Window,
-    WrongPhase,
+    MalformedError,
+    MissingTokenError,
+    NoGroupError,
+    NoRoomError,
+    OutOfMemoryError,
+    OverReserveError,
+    RefusedError,
+    SpentError,
+    StoppedError,
+    TenantThereError,
+    TimedOutError,
+    TooLongError,
+    UnansweredError,
+    UnknownOutcomeError,
+    WindowError,
+    WrongPhaseError,
 )
-from .group import AsyncGroup, Group
-from .reading import RoomEntry
-from .replies import Entry, GroupRow, Listing, Log
-from .room import AsyncRoom, Room
-from .speaking import RoomNumber
-from .tokens import Keys, Secrets, Tokens, admin_token, member_token, tenant_token
-from .words import KINDS, Generation, GroupName, Spec
+from ._group import Group
+from ._reading import RoomEntry
+from ._replies import Entry, GroupRow, Listing, Log
+from ._room import Room
+from ._speaking import RoomNumber
+from ._tokens import Keys, Secrets, Tokens, admin_token, member_token, tenant_token
+from ._words import KINDS, Generation, GroupName, Spec
+
+__version__ = "0.1.0"
 
 __all__ = [
     "KINDS",
@@ -49,15 +54,15 @@ __all__ = [
     "AsyncGroup",
     "AsyncPipeline",
     "AsyncRoom",
-    "BadDirectory",
-    "BadMembers",
-    "BadPlace",
-    "BadReply",
-    "Budget",
-    "BytesSpent",
+    "BadDirectoryError",
+    "BadMembersError",
+    "BadPlaceError",
+    "BadReplyError",
+    "BudgetError",
+    "BytesError",
     "Client",
-    "ConnectionFailed",
-    "Denied",
+    "ConnectionFailedError",
+    "DeniedError",
     "Entry",
     "FoqradeshError",
     "Generation",
@@ -67,33 +72,39 @@ __all__ = [
     "Keys",
     "Listing",
     "Log",
-    "Malformed",
-    "MissingToken",
-    "NoGroup",
-    "NoRoom",
-    "OutOfMemory",
-    "OverReserve",
+    "MalformedError",
+    "MissingTokenError",
+    "NoGroupError",
+    "NoRoomError",
+    "OutOfMemoryError",
+    "OverReserveError",
     "Pipeline",
-    "Refused",
+    "RefusedError",
     "Room",
     "RoomEntry",
     "RoomNumber",
     "Secrets",
     "Spec",
-    "Spent",
-    "Stopped",
-    "TenantThere",
+    "SpentError",
+    "StoppedError",
+    "TenantThereError",
     "Ticket",
-    "TimedOut",
+    "TimedOutError",
     "Tokens",
-    "TooLong",
-    "Unanswered",
-    "UnknownOutcome",
-    "Window",
-    "WrongPhase",
+    "TooLongError",
+    "UnansweredError",
+    "UnknownOutcomeError",
+    "WindowError",
+    "WrongPhaseError",
+    "__version__",
     "admin_token",
     "directory_address",
     "member_token",
     "node_address",
     "tenant_token",
 ]
+
+for _name in __all__:
+    # A traceback names an exception as people import it.
+    if _name.endswith("Error"):
+        globals()[_name].__module__ = __name__

@@ -1,4 +1,4 @@
-"""A load for those who size a machine: `python3 -m foqradesh.load --help`.
+"""A load for those who size a machine: `foqradesh-load --help`, or `python3 -m foqradesh.load`.
 
 Connections say and fetch as fast as the nodes answer, and a table tells the rates and how long
 the replies took.
@@ -17,13 +17,13 @@ from collections import deque
 from dataclasses import dataclass, field
 from typing import Deque, Dict, Iterable, List, Optional, Sequence, TextIO, Tuple
 
-from .client import Client
-from .errors import ConnectionFailed, FoqradeshError
-from .group import Group
-from .requests import fetch_body, say_body
-from .tokens import Keys, check_key, member_token
-from .wire import FrameReader, frame
-from .words import KINDS, Spec
+from ._client import Client
+from ._errors import ConnectionFailedError, FoqradeshError
+from ._group import Group
+from ._requests import fetch_body, say_body
+from ._tokens import Keys, check_key, member_token
+from ._wire import FrameReader, frame
+from ._words import KINDS, Spec
 
 MESSAGES = 1_024
 """How many messages a member says in a group at most."""
@@ -169,17 +169,17 @@ class _Player:
             pass
 
     def hear(self, now: float, tallies: Dict[str, Tally]) -> None:
-        """Take the replies that came. ConnectionFailed: the node closed the connection."""
+        """Take the replies that came. ConnectionFailedError: the node closed the connection."""
         try:
             piece = self.socket.recv(_PIECE)
         except BlockingIOError:
             return
         if not piece:
-            raise ConnectionFailed("the node closed a connection", is_unknown=True)
+            raise ConnectionFailedError("the node closed a connection", is_unknown=True)
         self.reader.feed(piece)
         while (body := self.reader.next()) is not None:
             if not self.asked:
-                raise ConnectionFailed("a reply came that nobody asked for", is_unknown=True)
+                raise ConnectionFailedError("a reply came that nobody asked for", is_unknown=True)
             kind, member, place, begun = self.asked.popleft()
             count(tallies[kind], member, place, body.decode("ascii", "replace"), now - begun)
 
@@ -198,7 +198,7 @@ def count(tally: Tally, member: _Member, place: int, reply: str, took: float) ->
         if name == "Window":
             member.left += 1
     elif words[0] != "said":
-        raise ConnectionFailed(f"what came is no reply: {reply[:40]!r}", is_unknown=True)
+        raise ConnectionFailedError(f"what came is no reply: {reply[:40]!r}", is_unknown=True)
 
 
 def play(mix: Mix, numbers: Sequence[int], nodes: Sequence[Address]) -> Outcome:
@@ -268,7 +268,7 @@ def prepare(mix: Mix, nodes: Sequence[Address], admin: bytes) -> None:
         for node, address in enumerate(nodes):
             keys = Keys(node, admin=admin, tenants={mix.tenant: mix.key})
             clients[node] = Client(address, keys)
-            clients[node].tenant(mix.tenant, mix.key, mix.groups, MESSAGES, BYTES, MESSAGES)
+            clients[node].add_tenant(mix.tenant, mix.key, mix.groups, MESSAGES, BYTES, MESSAGES)
         for group in range(mix.groups):
             spec = Spec(mix.kind, tuple(clients), MESSAGES, BYTES, MESSAGES)
             Group(clients, mix.tenant, group, spec).start()
@@ -395,7 +395,7 @@ _OPTIONS: Tuple[Tuple[str, int, int, int, str, str], ...] = (
 def parser() -> argparse.ArgumentParser:
     """Return what reads the words."""
     words = argparse.ArgumentParser(
-        prog="python3 -m foqradesh.load", description=_ABOUT, epilog=_STATUS
+        prog="foqradesh-load", description=_ABOUT, epilog=_STATUS
     )
     words.add_argument(
         "nodes",
@@ -438,11 +438,11 @@ def main(arguments: Optional[Sequence[str]] = None, output: Optional[TextIO] = N
             with open(words.keys, encoding="ascii") as lines:
                 admin, key = read_keys(lines)
     except (OSError, ValueError) as fault:
-        print(f"foqradesh.load: {fault}", file=sys.stderr)
+        print(f"foqradesh-load: {fault}", file=sys.stderr)
         return 2
     sets = -(-words.connections // len(words.nodes))
     if words.groups < sets:
-        print(f"foqradesh.load: so many connections want {sets} groups", file=sys.stderr)
+        print(f"foqradesh-load: so many connections want {sets} groups", file=sys.stderr)
         return 2
     mix = Mix(
         words.tenant,
@@ -461,11 +461,13 @@ def main(arguments: Optional[Sequence[str]] = None, output: Optional[TextIO] = N
         outcome = run(mix, words.nodes, min(words.processes, words.connections))
         clear(mix, words.nodes)
     except (OSError, FoqradeshError) as fault:
-        print(f"foqradesh.load: {fault}", file=sys.stderr)
+        print(f"foqradesh-load: {fault}", file=sys.stderr)
         return 1
     writer.write(table(outcome))
     return 1 if outcome.failed else 0
 
+
+__all__ = ["main"]
 
 if __name__ == "__main__":
     sys.exit(main())

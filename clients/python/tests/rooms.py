@@ -13,12 +13,12 @@ import time
 from collections import deque
 from typing import Callable, Deque, Dict, List, Optional, Set, Tuple, TypeVar, Union
 
-from foqradesh import AsyncClient, Client, ConnectionFailed, Keys, Secrets, Spec, TimedOut
-from foqradesh.aio import _Link
-from foqradesh.errors import REFUSALS, Unanswered
-from foqradesh.link import Link, Sent
-from foqradesh.operations import Answer, Operation, Step
-from foqradesh.words import Generation, read_group, read_members, read_payload
+from foqradesh import AsyncClient, Client, ConnectionFailedError, Keys, Secrets, Spec, TimedOutError
+from foqradesh._async_link import AsyncLink
+from foqradesh._errors import REFUSALS, UnansweredError
+from foqradesh._link import Link, Sent
+from foqradesh._operations import Answer, Operation, Step
+from foqradesh._words import Generation, read_group, read_members, read_payload
 
 from .fake import ADMIN_KEY, TENANT_KEY
 
@@ -140,7 +140,7 @@ class Node:
             "OverReserve",
             (generation > 0 and self.version < 3)
             or not 0 < spec.messages <= messages
-            or spec.bytes > size
+            or spec.total_bytes > size
             or not 0 < spec.window <= window,
         )
         self.greatest[room] = generation
@@ -154,7 +154,7 @@ class Node:
         refuse("BadPlace", number is not None and number != group.said + 1)
         refuse("TooLong", len(payload) > (1_024 if self.version == 1 else 4_096))
         refuse("Budget", group.said >= spec.messages)
-        refuse("Bytes", group.bytes_said() + len(payload) > spec.bytes)
+        refuse("Bytes", group.bytes_said() + len(payload) > spec.total_bytes)
         refuse("Window", group.unfinished(self.noticed) >= spec.window)
         group.said += 1
         group.done[group.said] = set()
@@ -346,14 +346,14 @@ class Cluster:
 
     # Clients.
 
-    def ask(self, node: int, step: Step) -> Union[Answer, Unanswered]:
+    def ask(self, node: int, step: Step) -> Union[Answer, UnansweredError]:
         """Return what becomes of a request that a link sends."""
         was_sent = False
         while True:
             if self.now is not None:
                 self.sleep(TICK)
             if node in self.down:
-                return ConnectionFailed("nobody listens", is_unknown=was_sent)
+                return ConnectionFailedError("nobody listens", is_unknown=was_sent)
             body = step.body.decode("ascii")
             fate = self.fate(node, body)
             reply = "" if fate.endswith(" request") else self.answer(node, body)
@@ -361,9 +361,9 @@ class Cluster:
                 return Answer(step.read(reply.encode("ascii")), was_sent)
             if fate.startswith("no "):
                 self.sleep(step.seconds)
-                return TimedOut("no reply", is_unknown=True)
+                return TimedOutError("no reply", is_unknown=True)
             if not step.is_repeatable:
-                return ConnectionFailed("it ended before the reply", is_unknown=True)
+                return ConnectionFailedError("it ended before the reply", is_unknown=True)
             was_sent = True
 
     def client(self, node: int, secrets: Optional[Secrets] = None) -> Client:
@@ -443,18 +443,18 @@ class _FakeAsyncClient(AsyncClient):
         outcome = self._cluster.ask(self._node, step)
         for _ in range(self._delays.randrange(4)):
             await asyncio.sleep(0)
-        if isinstance(outcome, Unanswered):
+        if isinstance(outcome, UnansweredError):
             raise outcome
         return outcome
 
-    async def run(self, operation: Operation[T], link: Optional[_Link] = None) -> T:
+    async def run(self, operation: Operation[T], link: Optional[AsyncLink] = None) -> T:
         """Run an operation to its end."""
         try:
             step = next(operation)
             while True:
                 try:
                     answer = await self._reply(step)
-                except Unanswered as error:
+                except UnansweredError as error:
                     step = operation.throw(error)
                 else:
                     step = operation.send(answer)

@@ -10,18 +10,18 @@ from typing import List
 
 from foqradesh import (
     AsyncClient,
-    BadPlace,
-    BadReply,
-    ConnectionFailed,
+    BadPlaceError,
+    BadReplyError,
+    ConnectionFailedError,
     Entry,
-    MissingToken,
+    MissingTokenError,
     Spec,
-    Spent,
-    TimedOut,
-    TooLong,
-    UnknownOutcome,
-    Window,
-    WrongPhase,
+    SpentError,
+    TimedOutError,
+    TooLongError,
+    UnknownOutcomeError,
+    WindowError,
+    WrongPhaseError,
 )
 
 from .fake import (
@@ -49,7 +49,7 @@ class AsyncClientTests(unittest.IsolatedAsyncioTestCase):
     async def test_words(self) -> None:
         with FakeServer(FakeNode().serve) as server:
             async with client_of(server) as client:
-                await client.tenant(7, TENANT_KEY, 4, 100, 1000, 100)
+                await client.add_tenant(7, TENANT_KEY, 4, 100, 1000, 100)
                 await client.make(7, 1, SPEC)
                 await client.open(7, 1)
                 self.assertEqual(client.next_number(7, 1), 1)
@@ -58,15 +58,15 @@ class AsyncClientTests(unittest.IsolatedAsyncioTestCase):
                 )
                 self.assertEqual(await client.fetch(7, 1), (Entry(0, 1, b"a"), Entry(0, 2, b"")))
                 self.assertEqual((await client.status())["groups"], 1)
-                self.assertEqual([row.spec for row in (await client.list()).rows], [SPEC])
+                self.assertEqual([row.spec for row in (await client.list_page()).rows], [SPEC])
                 await client.shut(7, 1)
-                with self.assertRaises(WrongPhase):
+                with self.assertRaises(WrongPhaseError):
                     await client.say(7, 1, b"b")
                 await client.drop(7, 1)
-                with self.assertRaises(Spent):
+                with self.assertRaises(SpentError):
                     await client.fetch(7, 1)
-                self.assertEqual([row.phase for row in await client.groups()], ["dropped"])
-                await client.stop()
+                self.assertEqual([row.phase for row in await client.list_groups()], ["dropped"])
+                await client.shutdown()
                 for call in (
                     client.fetch(7, 65536),
                     client.wait([]),
@@ -74,9 +74,9 @@ class AsyncClientTests(unittest.IsolatedAsyncioTestCase):
                 ):
                     with self.assertRaises(ValueError):
                         await call
-                with self.assertRaises(TooLong):
+                with self.assertRaises(TooLongError):
                     await client.say(7, 1, bytes(5000))
-                with self.assertRaises(MissingToken):
+                with self.assertRaises(MissingTokenError):
                     await client.open(8, 1)
             self.assertEqual(server.connections, 1)
 
@@ -109,7 +109,7 @@ class AsyncClientTests(unittest.IsolatedAsyncioTestCase):
                 client.set_number(7, 1, 1)
                 says = (client.say(7, 1, text) for text in (b"a", b"b", b"c", b"d"))
                 said = await asyncio.gather(*says, return_exceptions=True)
-                self.assertIsInstance(said[1], Window)
+                self.assertIsInstance(said[1], WindowError)
                 self.assertEqual(sorted(node.payloads()), ["a", "c", "d"])
                 self.assertEqual(
                     sorted(number for number in said if isinstance(number, int)), [1, 2, 3]
@@ -133,9 +133,9 @@ class AsyncClientTests(unittest.IsolatedAsyncioTestCase):
                     says = [pipeline.say(7, 1, text) for text in (b"a", b"b", b"c")]
                     fetched = pipeline.fetch(7, 1)
                 self.assertEqual(await says[0], 1)
-                with self.assertRaises(Window):
+                with self.assertRaises(WindowError):
                     await says[1]
-                with self.assertRaises(BadPlace):
+                with self.assertRaises(BadPlaceError):
                     await says[2]
                 self.assertEqual(await fetched, (Entry(0, 1, b"a"),))
                 self.assertEqual((node.payloads(), client.next_number(7, 1)), (["a"], 2))
@@ -154,17 +154,17 @@ class AsyncClientTests(unittest.IsolatedAsyncioTestCase):
         node = FakeNode()
         with FakeServer(lost_answer(node, "make")) as server:
             async with client_of(server) as client:
-                with self.assertRaises(ConnectionFailed) as caught:
+                with self.assertRaises(ConnectionFailedError) as caught:
                     await client.make(7, 1, SPEC)
                 self.assertTrue(caught.exception.is_unknown)
                 self.assertEqual(node.asked, ["make 7 1 beb 0 100 1000 100"])
 
     async def test_nobody_listens(self) -> None:
         async with AsyncClient(unused_address(), keys()) as client:
-            with self.assertRaises(ConnectionFailed) as caught:
+            with self.assertRaises(ConnectionFailedError) as caught:
                 await client.open(7, 1)
             self.assertFalse(caught.exception.is_unknown)
-            with self.assertRaises(ConnectionFailed):
+            with self.assertRaises(ConnectionFailedError):
                 async for _ in client.follow(7, 1):
                     pass
 
@@ -183,14 +183,14 @@ class AsyncClientTests(unittest.IsolatedAsyncioTestCase):
     async def test_closed_each_time(self) -> None:
         with FakeServer(lambda session: None) as server:
             async with client_of(server, 1.2) as client:
-                with self.assertRaises(TimedOut) as caught:
+                with self.assertRaises(TimedOutError) as caught:
                     await asyncio.wait_for(client.say(7, 1, b"a", number=1), 5)
                 self.assertEqual(caught.exception.number, 1)
                 self.assertLess(server.connections, 12)
 
     async def test_host_that_is_none(self) -> None:
         async with AsyncClient(("x" * 80, 42064), keys(), time_limit=2) as client:
-            with self.assertRaises(ConnectionFailed):
+            with self.assertRaises(ConnectionFailedError):
                 await client.fetch(7, 1)
 
     async def test_slow(self) -> None:
@@ -201,7 +201,7 @@ class AsyncClientTests(unittest.IsolatedAsyncioTestCase):
 
         with FakeServer(late, FakeNode().made().serve) as server:
             async with client_of(server, 0.6) as client:
-                with self.assertRaises(TimedOut) as caught:
+                with self.assertRaises(TimedOutError) as caught:
                     await client.fetch(7, 1)
                 self.assertTrue(caught.exception.is_unknown)
                 self.assertEqual(await client.fetch(7, 1), ())
@@ -221,7 +221,7 @@ class AsyncClientTests(unittest.IsolatedAsyncioTestCase):
             async with client_of(server) as client:
                 self.assertEqual(await client.fetch(7, 1), ())
                 await asyncio.sleep(0.1)
-                with self.assertRaises(BadReply):
+                with self.assertRaises(BadReplyError):
                     await client.fetch(7, 1)
                 self.assertEqual(await client.fetch(7, 1), ())
                 self.assertEqual(server.connections, 3)
@@ -239,7 +239,7 @@ class AsyncClientTests(unittest.IsolatedAsyncioTestCase):
         node = FakeNode().made()
         with FakeServer(lost_answer(node, "say")) as server:
             async with client_of(server) as client:
-                with self.assertRaises(ConnectionFailed) as caught:
+                with self.assertRaises(ConnectionFailedError) as caught:
                     await client.say(7, 1, b"a")
                 self.assertEqual(
                     (caught.exception.is_unknown, caught.exception.number), (True, None)
@@ -250,7 +250,7 @@ class AsyncClientTests(unittest.IsolatedAsyncioTestCase):
         node = FakeNode(is_late=True).made()
         with FakeServer(lost_answer(node, "say"), node.serve) as server:
             async with client_of(server, 1.0) as client:
-                with self.assertRaises(UnknownOutcome) as caught:
+                with self.assertRaises(UnknownOutcomeError) as caught:
                     await client.say(7, 1, b"a", number=1)
                 self.assertEqual(caught.exception.number, 1)
 

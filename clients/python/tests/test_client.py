@@ -11,24 +11,24 @@ import unittest
 from typing import Callable, List, Optional, Tuple, Type
 
 from foqradesh import (
-    BadPlace,
-    BadReply,
+    BadPlaceError,
+    BadReplyError,
     Client,
-    ConnectionFailed,
-    Denied,
+    ConnectionFailedError,
+    DeniedError,
     Entry,
     FoqradeshError,
-    Malformed,
-    MissingToken,
-    Refused,
+    MalformedError,
+    MissingTokenError,
+    RefusedError,
     Spec,
-    Spent,
-    TimedOut,
+    SpentError,
+    TimedOutError,
     Tokens,
-    TooLong,
-    UnknownOutcome,
-    Window,
-    WrongPhase,
+    TooLongError,
+    UnknownOutcomeError,
+    WindowError,
+    WrongPhaseError,
     node_address,
 )
 
@@ -69,7 +69,7 @@ class WordTests(unittest.TestCase):
 
     def test_words(self) -> None:
         with FakeServer(FakeNode().serve) as server, client_of(server) as client:
-            client.tenant(7, TENANT_KEY, 4, 100, 1000, 100)
+            client.add_tenant(7, TENANT_KEY, 4, 100, 1000, 100)
             client.make(7, 1, SPEC)
             self.assertIsNone(client.next_number(7, 1))
             client.open(7, 1)
@@ -82,16 +82,16 @@ class WordTests(unittest.TestCase):
             )
             self.assertEqual(client.status(), {"groups": 1, "asked": 9})
             self.assertEqual(
-                [(row.spec, row.phase, row.log) for row in client.list().rows], [(SPEC, "open", 2)]
+                [(row.spec, row.phase, row.log) for row in client.list_page().rows], [(SPEC, "open", 2)]
             )
             client.shut(7, 1)
-            self.assertRaises(WrongPhase, client.say, 7, 1, b"b")
+            self.assertRaises(WrongPhaseError, client.say, 7, 1, b"b")
             client.drop(7, 1)
-            self.assertRaises(Spent, client.fetch, 7, 1)
+            self.assertRaises(SpentError, client.fetch, 7, 1)
             self.assertEqual(
-                [(row.spec, row.phase) for row in client.groups()], [(None, "dropped")]
+                [(row.spec, row.phase) for row in client.list_groups()], [(None, "dropped")]
             )
-            client.stop()
+            client.shutdown()
             self.assertEqual(server.connections, 1)
             self.assertEqual(
                 server.requests(),
@@ -120,7 +120,7 @@ class WordTests(unittest.TestCase):
         for group in range(130):
             node.made(7, group)
         with FakeServer(node.serve) as server, client_of(server) as client:
-            self.assertEqual([row.group for row in client.groups()], list(range(130)))
+            self.assertEqual([row.group for row in client.list_groups()], list(range(130)))
             self.assertEqual(server.requests(), ["list 0 64", "list 64 64", "list 128 64"])
 
     def test_nothing_is_sent_where_an_argument_is_wrong(self) -> None:
@@ -131,9 +131,9 @@ class WordTests(unittest.TestCase):
             self.assertRaises(ValueError, client.wait, [(7, 1, 0)], seconds=61)
             self.assertRaises(ValueError, client.say, 7, 1, b"a", repeated=True)
             self.assertRaises(ValueError, client.set_number, 7, 1, 0)
-            self.assertRaises(TooLong, client.say, 7, 1, bytes(4097))
+            self.assertRaises(TooLongError, client.say, 7, 1, bytes(4097))
             self.assertRaises(TypeError, client.say, 7, 1, "text")
-            self.assertRaises(MissingToken, client.open, 8, 1)
+            self.assertRaises(MissingTokenError, client.open, 8, 1)
             self.assertRaises(ValueError, Client, server.address, keys(), time_limit=0)
             self.assertEqual(server.bodies, [])
         self.assertEqual(node_address(42000, 2), ("127.0.0.1", 42066))
@@ -202,11 +202,11 @@ class ConnectionTests(unittest.TestCase):
     def test_what_changes_is_not_sent_again(self) -> None:
         node = FakeNode()
         with FakeServer(lost_answer(node, "make")) as server, client_of(server) as client:
-            with self.assertRaises(ConnectionFailed) as caught:
+            with self.assertRaises(ConnectionFailedError) as caught:
                 client.make(7, 1, SPEC)
             self.assertTrue(caught.exception.is_unknown)
             self.assertEqual(node.asked, ["make 7 1 beb 0 100 1000 100"])
-            self.assertRaises(Spent, client.make, 7, 1, SPEC)
+            self.assertRaises(SpentError, client.make, 7, 1, SPEC)
 
     def test_nobody_listens(self) -> None:
         begun = time.monotonic()
@@ -218,7 +218,7 @@ class ConnectionTests(unittest.TestCase):
             lambda: client.say(7, 1, b""),
         )
         for call in calls:
-            with self.assertRaises(ConnectionFailed) as caught:
+            with self.assertRaises(ConnectionFailedError) as caught:
                 call()
             self.assertFalse(caught.exception.is_unknown)
         self.assertLess(time.monotonic() - begun, 2)
@@ -231,7 +231,7 @@ class ConnectionTests(unittest.TestCase):
 
         with FakeServer(only) as server, client_of(server, 0.4) as client:
             begun = time.monotonic()
-            with self.assertRaises((ConnectionFailed, TimedOut)) as caught:
+            with self.assertRaises((ConnectionFailedError, TimedOutError)) as caught:
                 client.say(7, 1, b"a", number=3)
             self.assertTrue(caught.exception.is_unknown)
             self.assertEqual(caught.exception.number, 3)
@@ -256,7 +256,7 @@ class ConnectionTests(unittest.TestCase):
             session.send("log 1 0:1:61")
 
         with FakeServer(late, replying("log 0")) as server, client_of(server, 0.6) as client:
-            with self.assertRaises(TimedOut) as caught:
+            with self.assertRaises(TimedOutError) as caught:
                 client.fetch(7, 1)
             self.assertTrue(caught.exception.is_unknown)
             time.sleep(0.8)
@@ -304,7 +304,7 @@ class ConnectionTests(unittest.TestCase):
             with self.subTest(reply=reply), FakeServer(bad, replying("ok")) as server, client_of(
                 server
             ) as client:
-                with self.assertRaises(BadReply) as caught:
+                with self.assertRaises(BadReplyError) as caught:
                     client.open(7, 1)
                 self.assertTrue(caught.exception.is_unknown)
                 client.open(7, 1)
@@ -323,12 +323,12 @@ class ConnectionTests(unittest.TestCase):
 
         with FakeServer(noise) as server, client_of(server, 0.3) as client:
             for _ in range(50):
-                self.assertRaises((BadReply, TimedOut, ConnectionFailed), client.open, 7, 1)
+                self.assertRaises((BadReplyError, TimedOutError, ConnectionFailedError), client.open, 7, 1)
 
     def test_closed_each_time(self) -> None:
         with FakeServer(lambda session: None) as server, client_of(server, 0.5) as client:
             begun = time.monotonic()
-            with self.assertRaises(TimedOut) as caught:
+            with self.assertRaises(TimedOutError) as caught:
                 client.say(7, 1, b"a", number=1)
             self.assertEqual(caught.exception.number, 1)
             self.assertLess(time.monotonic() - begun, 2)
@@ -338,7 +338,7 @@ class ConnectionTests(unittest.TestCase):
         for port in (0, -1, 65536):
             self.assertRaises(ValueError, Client, ("127.0.0.1", port), keys())
         with Client(("x" * 80, 42064), keys(), time_limit=2) as client:
-            self.assertRaises(ConnectionFailed, client.fetch, 7, 1)
+            self.assertRaises(ConnectionFailedError, client.fetch, 7, 1)
 
     def test_malformed_ends_the_connection(self) -> None:
         def old(session: Session) -> None:
@@ -346,7 +346,7 @@ class ConnectionTests(unittest.TestCase):
             session.send("refused 14 Malformed")
 
         with FakeServer(old, replying("ok")) as server, client_of(server) as client:
-            self.assertRaises(Malformed, client.status)
+            self.assertRaises(MalformedError, client.status)
             time.sleep(0.1)
             client.open(7, 1)
 
@@ -401,7 +401,7 @@ class SayTests(unittest.TestCase):
     def test_first_say_is_not_repeated(self) -> None:
         node = FakeNode().made()
         with FakeServer(lost_answer(node, "say")) as server, client_of(server) as client:
-            with self.assertRaises(ConnectionFailed) as caught:
+            with self.assertRaises(ConnectionFailedError) as caught:
                 client.say(7, 1, b"a")
             self.assertEqual((caught.exception.is_unknown, caught.exception.number), (True, None))
             self.assertEqual(node.payloads(), ["a"])
@@ -432,7 +432,7 @@ class SayTests(unittest.TestCase):
         node = FakeNode().made()
         node.other_says("x")
         with FakeServer(node.serve) as server, client_of(server) as client:
-            self.assertRaises(BadPlace, client.say, 7, 1, b"a", number=1)
+            self.assertRaises(BadPlaceError, client.say, 7, 1, b"a", number=1)
             self.assertEqual(client.say(7, 1, b"a", number=2), 2)
             self.assertEqual(client.say(7, 1, b"b"), 3)
             self.assertEqual(node.payloads(), ["x", "a", "b"])
@@ -445,13 +445,13 @@ class SayTests(unittest.TestCase):
             session.drain()
 
         with FakeServer(silent, node.serve) as server:
-            with client_of(server, 0.2) as client, self.assertRaises(TimedOut) as caught:
+            with client_of(server, 0.2) as client, self.assertRaises(TimedOutError) as caught:
                 client.say(7, 1, b"a", number=1)
             self.assertEqual((caught.exception.is_unknown, caught.exception.number), (True, 1))
             with client_of(server) as client:
                 self.assertEqual(client.say(7, 1, b"a", number=1, repeated=True), 1)
                 self.assertEqual(client.say(7, 1, b"b", number=2, repeated=True), 2)
-                self.assertRaises(BadPlace, client.say, 7, 1, b"c", number=2, repeated=True)
+                self.assertRaises(BadPlaceError, client.say, 7, 1, b"c", number=2, repeated=True)
                 self.assertEqual(client.next_number(7, 1), 3)
             self.assertEqual(node.payloads(), ["a", "b"])
 
@@ -464,7 +464,7 @@ class SayTests(unittest.TestCase):
             self.assertEqual(client.say(7, 1, b"a", number=1), 1)
         not_there = replying("refused 11 BadPlace", "log 1 1:1:61", "log 0")
         with FakeServer(lose, not_there) as server, client_of(server) as client:
-            self.assertRaises(UnknownOutcome, client.say, 7, 1, b"a", number=1)
+            self.assertRaises(UnknownOutcomeError, client.say, 7, 1, b"a", number=1)
 
     def test_shown_when_it_is_delivered(self) -> None:
         node = FakeNode(is_late=True).made()
@@ -484,10 +484,10 @@ class SayTests(unittest.TestCase):
             server, 1.0
         ) as client:
             client.set_number(7, 1, 1)
-            with self.assertRaises(UnknownOutcome) as caught:
+            with self.assertRaises(UnknownOutcomeError) as caught:
                 client.say(7, 1, b"a")
             self.assertEqual((caught.exception.is_unknown, caught.exception.number), (True, 1))
-            self.assertIsInstance(caught.exception.__cause__, BadPlace)
+            self.assertIsInstance(caught.exception.__cause__, BadPlaceError)
             self.assertEqual(node.payloads(), ["a"])
 
     def test_without_the_nodes_number(self) -> None:
@@ -496,7 +496,7 @@ class SayTests(unittest.TestCase):
         with FakeServer(lost_answer(node, "say")) as server, Client(
             server.address, tokens
         ) as client:
-            with self.assertRaises(UnknownOutcome):
+            with self.assertRaises(UnknownOutcomeError):
                 client.say(7, 1, b"a", number=1)
             self.assertEqual(len(node.asked), 2)
 
@@ -504,11 +504,11 @@ class SayTests(unittest.TestCase):
         def lose(session: Session) -> None:
             session.read()
 
-        rows: Tuple[Tuple[str, Type[FoqradeshError], Optional[Type[Refused]]], ...] = (
-            ("refused 7 TooLong", TooLong, None),
-            ("refused 10 Window", UnknownOutcome, Window),
-            ("refused 1 Denied", UnknownOutcome, Denied),
-            ("refused 3 Spent", UnknownOutcome, Spent),
+        rows: Tuple[Tuple[str, Type[FoqradeshError], Optional[Type[RefusedError]]], ...] = (
+            ("refused 7 TooLong", TooLongError, None),
+            ("refused 10 Window", UnknownOutcomeError, WindowError),
+            ("refused 1 Denied", UnknownOutcomeError, DeniedError),
+            ("refused 3 Spent", UnknownOutcomeError, SpentError),
         )
         for reply, kind, cause in rows:
             with self.subTest(reply=reply), FakeServer(lose, replying(reply)) as server, client_of(
@@ -528,7 +528,7 @@ class SayTests(unittest.TestCase):
 
             return lose
 
-        for payload, kind in (("61", None), ("62", WrongPhase)):
+        for payload, kind in (("61", None), ("62", WrongPhaseError)):
             node = FakeNode().made()
             with FakeServer(play(payload), node.serve) as server, client_of(server) as client:
                 if kind is None:
@@ -541,7 +541,7 @@ class SayTests(unittest.TestCase):
             server
         ) as client:
             client.set_number(7, 1, 5)
-            self.assertRaises(Window, client.say, 7, 1, b"a")
+            self.assertRaises(WindowError, client.say, 7, 1, b"a")
             self.assertEqual([client.say(7, 1, b"a"), client.say(7, 1, b"b")], [5, 6])
             self.assertEqual(server.requests(), ["say 7 1 61 5", "say 7 1 61 5", "say 7 1 62 6"])
 
@@ -602,11 +602,11 @@ class PipelineTests(unittest.TestCase):
                     pipeline.open(7, 1),
                 )
                 self.assertFalse(third.is_done())
-                self.assertRaises(WrongPhase, third.result)
+                self.assertRaises(WrongPhaseError, third.result)
                 self.assertTrue(first.is_done())
             self.assertEqual(first.result(), ())
             self.assertEqual(second.result(), (Entry(0, 1, b"a"),))
-            self.assertRaises(WrongPhase, third.result)
+            self.assertRaises(WrongPhaseError, third.result)
             self.assertEqual(server.connections, 1)
 
     def test_open_teaches_the_number(self) -> None:
@@ -644,9 +644,9 @@ class PipelineTests(unittest.TestCase):
             with client.pipeline() as pipeline:
                 tickets = [pipeline.say(7, 1, text) for text in (b"a", b"b", b"c", b"d")]
             self.assertEqual(tickets[0].result(), 1)
-            self.assertRaises(Window, tickets[1].result)
-            self.assertRaises(BadPlace, tickets[2].result)
-            self.assertRaises(BadPlace, tickets[3].result)
+            self.assertRaises(WindowError, tickets[1].result)
+            self.assertRaises(BadPlaceError, tickets[2].result)
+            self.assertRaises(BadPlaceError, tickets[3].result)
             self.assertEqual((node.payloads(), client.next_number(7, 1)), (["a"], 2))
             self.assertEqual(client.say(7, 1, b"e"), 2)
 
@@ -674,7 +674,7 @@ class PipelineTests(unittest.TestCase):
             self.assertIsNone(made.result())
             self.assertIsNone(opened.result())
             self.assertEqual(fetched.result(), ())
-            with self.assertRaises(ConnectionFailed) as caught:
+            with self.assertRaises(ConnectionFailedError) as caught:
                 shut.result()
             self.assertTrue(caught.exception.is_unknown)
             self.assertNotIn("shut 7 1", node.asked)
@@ -720,7 +720,7 @@ class PipelineTests(unittest.TestCase):
             server
         ) as client, client.pipeline() as pipeline:
             self.assertRaises(ValueError, pipeline.fetch, 7, 65536)
-            self.assertRaises(TooLong, pipeline.say(7, 1, bytes(5000)).result)
+            self.assertRaises(TooLongError, pipeline.say(7, 1, bytes(5000)).result)
 
 
 class FollowTests(unittest.TestCase):
@@ -765,7 +765,7 @@ class FollowTests(unittest.TestCase):
 
     def test_nobody_listens(self) -> None:
         with Client(unused_address(), keys()) as client:
-            self.assertRaises(ConnectionFailed, next, client.follow(7, 1))
+            self.assertRaises(ConnectionFailedError, next, client.follow(7, 1))
 
 
 class ProtocolTests(unittest.TestCase):

@@ -9,7 +9,7 @@ import unittest
 from typing import Optional
 from unittest import mock
 
-from foqradesh import AsyncClient, BadDirectory, Client, directory_address
+from foqradesh import AsyncClient, BadDirectoryError, Client, directory_address
 
 from .fake import TENANT_KEY, FakeNode, FakeServer, keys
 
@@ -61,7 +61,7 @@ class DirectoryTests(unittest.TestCase):
         """Return the message with which a file of this text is refused."""
         if text is not None:
             self.path.write_text(text, encoding="utf-8")
-        with self.assertRaises(BadDirectory) as caught:
+        with self.assertRaises(BadDirectoryError) as caught:
             directory_address(self.path, tenant, node)
         return str(caught.exception)
 
@@ -104,7 +104,7 @@ class DirectoryTests(unittest.TestCase):
             text = f'[tenant]\n7 = "a"\n[cluster.a]\nnodes = ["{host}:{port}"]\n'
             self.path.write_text(text, encoding="utf-8")
             with Client.from_directory(self.path, 7, 0, keys(), time_limit=5.0) as client:
-                client.tenant(7, TENANT_KEY, 4, 100, 1000, 100)
+                client.add_tenant(7, TENANT_KEY, 4, 100, 1000, 100)
 
 
 @unittest.skipUnless(sys.version_info >= (3, 11), "Python has tomllib from 3.11 on")
@@ -118,7 +118,7 @@ class AsyncDirectoryTests(unittest.IsolatedAsyncioTestCase):
             text = f'[tenant]\n7 = "a"\n[cluster.a]\nnodes = ["{host}:{port}"]\n'
             path.write_text(text, encoding="utf-8")
             async with AsyncClient.from_directory(path, 7, 0, keys(), time_limit=5.0) as client:
-                await client.tenant(7, TENANT_KEY, 4, 100, 1000, 100)
+                await client.add_tenant(7, TENANT_KEY, 4, 100, 1000, 100)
 
 
 class OlderPythonTests(unittest.TestCase):

@@ -9,7 +9,7 @@ import re
 import socket
 import struct
 import unittest
-from typing import Any, Dict, List, Tuple
+from typing import Any, Dict, List, Optional, Tuple
 from unittest import mock
 
 from foqradesh import Client, Entry, Secrets, admin_token, member_token, tenant_token
@@ -101,48 +101,98 @@ class ConversationTests(unittest.TestCase):
             self.run_code(PORT)
 
 
-class RoomConversationTests(unittest.TestCase):
-    """The conversation of the package's README."""
+def blocks(heading: str = "") -> Tuple[str, List[str]]:
+    """Return the code of a section of the README, or of its beginning, and the lines behind it."""
+    text = README.read_text(encoding="utf-8")
+    section = text.split(f"\n## {heading}\n")[1] if heading else text
+    section = section.split("\n## ")[0]
+    (code,) = re.findall(r"```python\n(.*?)```", section, re.DOTALL)
+    return code, re.findall(r"^    (.*)$", section.split("```")[2], re.MULTILINE)
 
-    def setUp(self) -> None:
-        self.text = README.read_text(encoding="utf-8").split("\n## Rooms\n")[1].split("\n## ")[0]
 
-    def run_code(self, port: int) -> None:
-        """Run the code, and compare what it prints."""
-        (code,) = re.findall(r"```python\n(.*?)```", self.text, re.DOTALL)
+def run_code(code: str, port: int, scope: Dict[str, Any]) -> List[str]:
+    """Run code of the README, and return the lines that it prints."""
+    printed = io.StringIO()
+    with contextlib.redirect_stdout(printed):
+        exec(compile(code.replace("42000", str(port)), str(README), "exec"), scope)
+    return printed.getvalue().splitlines()
+
+
+def in_memory(count: int) -> Tuple[Cluster, Any]:
+    """Return a cluster whose nodes have no tenant yet, and a patch by which clients ask it."""
+    cluster = Cluster(count)
+    cluster.now = 0.0  # A machine that stands still for a while would change what is asked.
+    for node in cluster.nodes:
+        node.tenants.clear()
+
+    def client(address: Tuple[str, int], secrets: Secrets) -> Client:
+        return cluster.client(address[1] - 42_064, secrets)
+
+    return cluster, mock.patch("foqradesh.Client", client)
+
+
+def close(scope: Dict[str, Any]) -> None:
+    """Close the clients of code that was run."""
+    for client in scope["clients"].values():
+        client.close()
+
+
+class FirstExampleTests(unittest.TestCase):
+    """The program at the top of the package's README."""
+
+    def run_at(self, port: int) -> None:
+        code, wanted = blocks()
         self.assertEqual(code.count("42000"), 1)
-        printed = io.StringIO()
         scope: Dict[str, Any] = {}
-        with contextlib.redirect_stdout(printed):
-            exec(compile(code.replace("42000", str(port)), str(README), "exec"), scope)
-        for client in scope["clients"].values():
-            client.close()
-        wanted = re.findall(r"^    (.*)$", self.text.split("```")[2], re.MULTILINE)
-        self.assertEqual(printed.getvalue().splitlines(), wanted)
+        self.assertEqual(run_code(code, port, scope), wanted)
+        self.assertEqual(len(wanted), 2)
+        close(scope)
 
     def test_in_memory(self) -> None:
-        cluster = Cluster(2)
-        cluster.now = 0.0  # A machine that stands still for a while would change what is asked.
-        for node in cluster.nodes:
-            node.tenants.clear()
+        _, patch = in_memory(3)
+        with patch:
+            self.run_at(42_000)
 
-        def client(address: Tuple[str, int], secrets: Secrets) -> Client:
-            return cluster.client(address[1] - 42_064, secrets)
+    @unittest.skipIf(program() is None, "no gb_serve")
+    def test_at_a_server(self) -> None:
+        with Serving(PORT):
+            self.run_at(PORT)
 
-        with mock.patch("foqradesh.Client", client):
-            self.run_code(42_000)
+
+class RoomConversationTests(unittest.TestCase):
+    """The conversations of the package's README in rooms, without and with a leader."""
+
+    def run_at(self, port: int) -> None:
+        code, wanted = blocks("Rooms")
+        self.assertEqual(code.count("42000"), 1)
+        scope: Dict[str, Any] = {}
+        self.assertEqual(run_code(code, port, scope), wanted)
+        self.asked = len(self.cluster.asked) if self.cluster else 0
+        leader, _ = blocks("A leader")
+        self.assertEqual(run_code(leader, port, scope), ["[b'one', b'two']"])
+        close(scope)
+
+    def setUp(self) -> None:
+        self.cluster: Optional[Cluster] = None
+        self.asked = 0
+
+    def test_in_memory(self) -> None:
+        self.cluster, patch = in_memory(2)
+        with patch:
+            self.run_at(42_000)
         asked = [
             (str(node), re.sub(r"^(await .*) \d+$", r"\1 MS", body), reply)
-            for node, body, reply in cluster.asked
+            for node, body, reply in self.cluster.asked[: self.asked]
         ]
-        rows = re.findall(r"^\| .*\| (\d) \| `(.*)` \| `(.*)` \|$", self.text, re.MULTILINE)
+        text = README.read_text(encoding="utf-8").split("\n## Rooms\n")[1].split("\n## ")[0]
+        rows = re.findall(r"^\| .*\| (\d) \| `(.*)` \| `(.*)` \|$", text, re.MULTILINE)
         self.assertEqual([it[1].split(" ")[0] for it in asked[:2]], ["tenant"] * 2)
         self.assertEqual(asked[2:], rows)
 
     @unittest.skipIf(program() is None, "no gb_serve")
     def test_at_a_server(self) -> None:
         with Serving(PORT, nodes=2):
-            self.run_code(PORT)
+            self.run_at(PORT)
 
 
 if __name__ == "__main__":

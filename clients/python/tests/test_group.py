@@ -10,18 +10,18 @@ from foqradesh import (
     AsyncClient,
     AsyncGroup,
     Client,
-    ConnectionFailed,
-    Denied,
+    ConnectionFailedError,
+    DeniedError,
     Entry,
     Generation,
     Group,
     Keys,
-    NoGroup,
-    Refused,
+    NoGroupError,
+    RefusedError,
     Secrets,
     Spec,
-    Spent,
-    WrongPhase,
+    SpentError,
+    WrongPhaseError,
 )
 
 from . import rooms
@@ -108,7 +108,7 @@ class GroupTests(unittest.TestCase):
         with Cluster().running() as cluster:
             clients = cluster.clients()
             clients[1].make(7, 1, Spec("beb", (1,), 1, 1, 1))
-            with self.assertRaises(Spent) as caught:
+            with self.assertRaises(SpentError) as caught:
                 Group(clients, 7, 1, SPEC).start()
             self.assertIn("made before with another spec", str(caught.exception))
             self.assertEqual(cluster.nodes[0].groups[7, 1]["phase"], "made")
@@ -120,13 +120,13 @@ class GroupTests(unittest.TestCase):
                 group = Group(cluster.clients(), 7, 1, SPEC)
                 group.start()
                 getattr(group, word)()
-                self.assertRaises(Spent, group.start)
+                self.assertRaises(SpentError, group.start)
 
     def test_a_server_that_does_not_list(self) -> None:
         with Cluster(lists=False).running() as cluster:
             group = Group(cluster.clients(), 7, 1, SPEC)
             group.start()
-            with self.assertRaises(Spent) as caught:
+            with self.assertRaises(SpentError) as caught:
                 group.start()
             self.assertIn(
                 "the node does not tell this client how (refused 14 Malformed)",
@@ -140,7 +140,7 @@ class GroupTests(unittest.TestCase):
                 node: cluster.client(node, Keys(node, tenants={7: TENANT_KEY}))
                 for node in range(3)
             }
-            with self.assertRaises(Spent) as caught:
+            with self.assertRaises(SpentError) as caught:
                 Group(clients, 7, 1, SPEC).start()
             self.assertIn("no key of the administrator was given", str(caught.exception))
 
@@ -151,7 +151,7 @@ class GroupTests(unittest.TestCase):
                 session.send("refused 4 BadMembers")
 
         with Cluster({1: refusing}).running() as cluster:
-            with self.assertRaises(Refused) as caught:
+            with self.assertRaises(RefusedError) as caught:
                 Group(cluster.clients(), 7, 1, SPEC).start()
             self.assertEqual(caught.exception.name, "BadMembers")
             self.assertEqual(cluster.asked, [(0, MAKE)])
@@ -160,7 +160,7 @@ class GroupTests(unittest.TestCase):
         with Cluster().running() as cluster:
             clients = cluster.clients()
             clients[2] = Client(unused_address(), keys(2))
-            self.assertRaises(ConnectionFailed, Group(clients, 7, 1, SPEC).start)
+            self.assertRaises(ConnectionFailedError, Group(clients, 7, 1, SPEC).start)
             self.assertEqual(cluster.asked, [(0, MAKE), (1, MAKE)])
 
     def test_lost_answers(self) -> None:
@@ -193,8 +193,8 @@ class GroupTests(unittest.TestCase):
         self.assertEqual(next(clients[1].follow(7, later)), Entry(0, 1, b"a"))
         Group(clients, 7, 1, SPEC).drop()
         self.assertEqual(cluster.living(), [[2]] * 3)
-        self.assertRaises(Spent, clients[0].make, 7, Generation(1, 1), SPEC)
-        self.assertRaises(NoGroup, clients[0].fetch, 7, Generation(1, 3))
+        self.assertRaises(SpentError, clients[0].make, 7, Generation(1, 1), SPEC)
+        self.assertRaises(NoGroupError, clients[0].fetch, 7, Generation(1, 3))
 
     def test_dropped_everywhere(self) -> None:
         with Cluster().running() as cluster:
@@ -212,7 +212,7 @@ class GroupTests(unittest.TestCase):
             clients = cluster.clients()
             Group(clients, 7, 1, SPEC).start()
             clients[0] = cluster.client(0, "0" * 64)
-            self.assertRaises(Denied, Group(clients, 7, 1, SPEC).drop)
+            self.assertRaises(DeniedError, Group(clients, 7, 1, SPEC).drop)
             self.assertEqual(
                 [node.groups[7, 1]["phase"] for node in cluster.nodes],
                 ["open", "dropped", "dropped"],
@@ -224,7 +224,7 @@ class GroupTests(unittest.TestCase):
             group = Group(clients, 7, 1, SPEC)
             group.start()
             clients[0].shut(7, 1)
-            self.assertRaises(WrongPhase, group.shut)
+            self.assertRaises(WrongPhaseError, group.shut)
             self.assertEqual([node.groups[7, 1]["phase"] for node in cluster.nodes], ["shut"] * 3)
 
     def test_a_member_without_a_client(self) -> None:
@@ -252,7 +252,7 @@ class AsyncGroupTests(unittest.IsolatedAsyncioTestCase):
             self.assertEqual(
                 [node.groups[7, 1]["phase"] for node in cluster.nodes], ["dropped"] * 3
             )
-            with self.assertRaises(Spent):
+            with self.assertRaises(SpentError):
                 await group.start()
             for client in clients.values():
                 await client.close()

@@ -9,7 +9,7 @@ import tempfile
 import unittest
 from typing import List, Tuple
 
-from foqradesh import ConnectionFailed
+from foqradesh import ConnectionFailedError
 from foqradesh.load import (
     Mix,
     Outcome,
@@ -156,7 +156,7 @@ class FakeTests(unittest.TestCase):
     def test_nobody_listens(self) -> None:
         with FakeServer() as server:
             address = server.address
-        with self.assertRaises((OSError, ConnectionFailed)):
+        with self.assertRaises((OSError, ConnectionFailedError)):
             play(mix(1.0), [0], [address])
 
 

@@ -12,33 +12,33 @@ from typing import Callable, Dict, Iterable, List, Optional, Sequence, Set, Tupl
 
 from foqradesh import (
     AsyncRoom,
-    BadPlace,
-    BytesSpent,
+    BadPlaceError,
+    BytesError,
     Client,
-    ConnectionFailed,
-    Denied,
+    ConnectionFailedError,
+    DeniedError,
     Generation,
-    MissingToken,
-    NoGroup,
-    NoRoom,
-    OverReserve,
+    MissingTokenError,
+    NoGroupError,
+    NoRoomError,
+    OverReserveError,
     Room,
     RoomEntry,
     RoomNumber,
     Spec,
-    Spent,
-    TimedOut,
+    SpentError,
+    TimedOutError,
     Tokens,
-    TooLong,
-    Unanswered,
-    UnknownOutcome,
-    Window,
-    WrongPhase,
+    TooLongError,
+    UnansweredError,
+    UnknownOutcomeError,
+    WindowError,
+    WrongPhaseError,
     member_token,
     tenant_token,
 )
 
-from foqradesh.words import group_word
+from foqradesh._words import group_word
 
 from .fake import TENANT_KEY
 from .rooms import Cluster, Fate
@@ -174,7 +174,7 @@ class GenerationTests(Heard):
         self.assertEqual(cluster.payloads(0, 1), [b"\1x", b"\0"])
         self.assertEqual(cluster.payloads(0, 2), [b"\1abcdefghi"])
         for length in (11, 12, 4_095):
-            with self.assertRaises(BytesSpent):
+            with self.assertRaises(BytesError):
                 room.say(bytes(length))
         self.assertEqual(room.generation, 2)
         self.assertEqual(room.say(b""), (3, 1))
@@ -186,7 +186,7 @@ class GenerationTests(Heard):
         for text in texts:
             room.say(text)
         self.assertEqual([it.payload for it in room.follow(idle=0)], texts)
-        self.assertRaises(TooLong, room.say, bytes(4_096))
+        self.assertRaises(TooLongError, room.say, bytes(4_096))
         self.assertRaises(TypeError, room.say, 3)
         self.assertRaises(TypeError, room.say, "text")
 
@@ -215,8 +215,8 @@ class GenerationTests(Heard):
             lambda: Room(clients, 7, 65_536, SPEC, node=0),
             lambda: Room(clients, 65_536, 1, SPEC, node=0),
             lambda: Room(clients, 7, 1, SPEC, node=0, patience=-1),
-            lambda: Room(clients, 7, 1, SPEC, node=0).without(0),
-            lambda: Room(clients, 7, 1, SPEC, node=0).without(3),
+            lambda: Room(clients, 7, 1, SPEC, node=0).exclude(0),
+            lambda: Room(clients, 7, 1, SPEC, node=0).exclude(3),
         )
         for make in bad:
             self.assertRaises(ValueError, make)
@@ -229,15 +229,15 @@ class GenerationTests(Heard):
         room = room_of(cluster, 0, spec)
         for count in range(7):
             self.assertEqual(room.say(b"a"), (0, count + 1)) if count < 6 else None
-        with self.assertRaises(OverReserve):
+        with self.assertRaises(OverReserveError):
             room.say(b"a")
         cluster = timed()
         del cluster.nodes[1].tenants[7]
-        with self.assertRaises(Denied):
+        with self.assertRaises(DeniedError):
             room_of(cluster, 0).say(b"a")
         self.assertEqual(cluster.living()[2], [])
         room = Room(timed().clients(), 7, 4, SPEC, node=0)
-        with self.assertRaises(NoGroup):
+        with self.assertRaises(NoGroupError):
             room.say(b"a")
 
     def test_the_last_generation(self) -> None:
@@ -250,7 +250,7 @@ class GenerationTests(Heard):
         room = room_of(cluster, 0, spec)
         for number in range(7):
             self.assertEqual(room.say(f"0-{number}".encode()), (2**32 - 1, number + 1))
-        with self.assertRaises(Spent) as caught:
+        with self.assertRaises(SpentError) as caught:
             room.say(b"0-7")
         self.assertIn("used up", str(caught.exception))
         self.assert_heard(list(room.follow(idle=0)), 7, (0,))
@@ -293,7 +293,7 @@ class MakerTests(Heard):
         later = room_of(cluster, 1, patience=0.0)
         self.assertEqual(later.say(b"1-0"), (3, 1))
         self.assertEqual(room.say(b"0-24"), (3, 7))
-        with self.assertRaises(NoRoom) as caught:
+        with self.assertRaises(NoRoomError) as caught:
             room.say(b"0-25")
         self.assertIn("generation 4 of group 1 of tenant 7 at node 2", str(caught.exception))
         self.assertEqual(cluster.texts("open", 0)[-1], "open 7 1.3")
@@ -343,7 +343,7 @@ class MakerTests(Heard):
         heard: List[List[RoomEntry]] = [[], [], []]
         rooms[2].say(b"2-0")
         for room in rooms[:2]:
-            room.without(2)
+            room.exclude(2)
         for number in range(20):
             for node in (0, 1):
                 rooms[node].say(f"{node}-{number}".encode())
@@ -391,7 +391,7 @@ class SlowTests(Heard):
         rooms = rooms_of(cluster)
         heard: List[List[RoomEntry]] = [[], [], []]
         number = 0
-        with self.assertRaises(NoRoom) as caught:
+        with self.assertRaises(NoRoomError) as caught:
             while True:
                 rooms[0].say(f"0-{number}".encode())
                 number += 1
@@ -457,7 +457,7 @@ class SlowTests(Heard):
                 for node in (0, 1):
                     rooms[node].say(f"{node}-{number}".encode())
                     said += 1
-            except NoRoom:
+            except NoRoomError:
                 break
             hear(rooms[:2], heard)
         self.assertEqual(said, 2 * (3 * 6 + 7))
@@ -490,7 +490,7 @@ class SlowTests(Heard):
                     hear(rooms, heard)
                 cluster.crash(2)
                 said = 0
-                with self.assertRaises(ConnectionFailed) as caught:
+                with self.assertRaises(ConnectionFailedError) as caught:
                     for number in range(10, 30):
                         for node in (0, 1):
                             rooms[node].say(f"{node}-{number}".encode())
@@ -499,7 +499,7 @@ class SlowTests(Heard):
                 self.assertEqual(said, 6)
                 self.assertIsNone(caught.exception.generation)
                 for room in rooms[:2]:
-                    room.without(2)
+                    room.exclude(2)
                 for number in range(13, 30):
                     for node in (0, 1):
                         rooms[node].say(f"{node}-{number}".encode())
@@ -530,7 +530,7 @@ class SlowTests(Heard):
         clients[2].say(7, Generation(1, 1), b"\0012-6")
         cluster.crash(2)
         for room in rooms[:2]:
-            room.without(2)
+            room.exclude(2)
         hear(rooms[:2], heard, 1.0)
         self.assertEqual([len(entries) for entries in heard], [6, 6])
         for number in range(7):
@@ -551,7 +551,7 @@ class SlowTests(Heard):
         rooms[2].say(b"2-1")
         cluster.crash(2)
         for room in rooms[:2]:
-            room.without(2)
+            room.exclude(2)
         for number in range(7):
             for node in (0, 1):
                 rooms[node].say(f"{node}-{number}".encode())
@@ -568,7 +568,7 @@ class SlowTests(Heard):
         for number in range(25):
             rooms[0].say(f"0-{number}".encode())
             hear(rooms[1:], heard[1:])
-        with self.assertRaises(NoRoom):
+        with self.assertRaises(NoRoomError):
             rooms[0].say(b"0-25")
         hear(rooms[1:], heard[1:], 1.0)
         # It has read all of it, and the others have dropped what they have shown.
@@ -635,7 +635,7 @@ class SlowTests(Heard):
         room = room_of(cluster, 1, clients=clients)
         for number in range(7):
             self.assertEqual(room.say(f"1-{number}".encode()), (0, number + 1))
-        with self.assertRaises(MissingToken):
+        with self.assertRaises(MissingTokenError):
             room.say(b"1-7")
         entries = list(room.follow(idle=0, drops=False))
         self.assertEqual(len(entries), 8)
@@ -694,7 +694,7 @@ class SlowTests(Heard):
         node = cluster.nodes[0]
         node.living.clear()
         node.greatest.clear()
-        with self.assertRaises(NoGroup) as caught:
+        with self.assertRaises(NoGroupError) as caught:
             list(room.follow(idle=0))
         self.assertIn("started anew", str(caught.exception))
 
@@ -704,7 +704,7 @@ class SlowTests(Heard):
         heard: List[List[RoomEntry]] = [[], [], []]
         rooms[0].say(b"0-0")
         cluster.client(0).shut(7, 1)
-        with self.assertRaises(WrongPhase):
+        with self.assertRaises(WrongPhaseError):
             rooms[0].say(b"0-1")
         hear(rooms, heard, 0.5)
         for entries in heard:
@@ -742,7 +742,7 @@ class LostTests(Heard):
         cluster.fate = lambda node, body: (
             fates.pop() if fates and body.startswith("say") else "carry"
         )
-        with self.assertRaises(TimedOut) as caught:
+        with self.assertRaises(TimedOutError) as caught:
             room.say(payload)
         error = caught.exception
         assert error.generation is not None and error.number is not None
@@ -792,13 +792,13 @@ class LostTests(Heard):
         room = room_of(cluster, 0)
         number = self.in_doubt(cluster, room, b"a", True)
         cluster.down = {0}
-        with self.assertRaises(ConnectionFailed) as caught:
+        with self.assertRaises(ConnectionFailedError) as caught:
             room.say(b"b")
         self.assertEqual((caught.exception.is_unknown, caught.exception.generation), (False, None))
-        with self.assertRaises(ConnectionFailed) as caught:
+        with self.assertRaises(ConnectionFailedError) as caught:
             room.say(b"a", repeat=number)
         self.assertEqual((caught.exception.generation, caught.exception.number), (0, 1))
-        with self.assertRaises(ConnectionFailed):
+        with self.assertRaises(ConnectionFailedError):
             list(room.follow(idle=1.0))
         cluster.down = set()
         self.assertEqual(room.say(b"a", repeat=number), (0, 1))
@@ -837,10 +837,10 @@ class LostTests(Heard):
         hear(rooms, heard, 8.0)
         hear(rooms, heard, 8.0)
         self.assertEqual(cluster.living(), [[1]] * 3)
-        with self.assertRaises(UnknownOutcome) as caught:
+        with self.assertRaises(UnknownOutcomeError) as caught:
             rooms[0].say(b"0-0", repeat=doubt)
         self.assertEqual((caught.exception.generation, caught.exception.number), doubt)
-        self.assertIsInstance(caught.exception.__cause__, Spent)
+        self.assertIsInstance(caught.exception.__cause__, SpentError)
 
     def test_window(self) -> None:
         cluster = timed()
@@ -848,7 +848,7 @@ class LostTests(Heard):
         room.join()
         cluster.held = {(0, 2)}
         self.assertEqual([room.say(b"a"), room.say(b"b")], [(0, 1), (0, 2)])
-        with self.assertRaises(Window):
+        with self.assertRaises(WindowError):
             room.say(b"c")
         assert cluster.now is not None
         self.assertAlmostEqual(cluster.now, 5.0, delta=0.1)
@@ -864,7 +864,7 @@ class LostTests(Heard):
         room.say(b"b")
         room.say(b"c")
         # Early, and it may not say its marker: nothing is left but that.
-        with self.assertRaises(Window):
+        with self.assertRaises(WindowError):
             room.say(b"d")
         self.assertEqual(cluster.payloads(1, 0), [b"\1a", b"\1b", b"\1c"])
         cluster.held.clear()
@@ -878,7 +878,7 @@ class LostTests(Heard):
         other.join()
         cluster.held = {(2, 0)}
         other.say(b"x")
-        with self.assertRaises(BadPlace) as caught:
+        with self.assertRaises(BadPlaceError) as caught:
             room.say(b"a")
         self.assertIn("has said message 1 of generation 0", str(caught.exception))
         assert cluster.now is not None
@@ -945,7 +945,7 @@ class BeginningTests(unittest.TestCase):
         client.drop(7, 1)
         client.make(7, Generation(1, 4), SPEC)
         self.assertEqual(cluster.living(), [[1, 2, 3, 4], [0, 1, 2, 3], [0, 1, 2, 3]])
-        self.assertRaises(NoRoom, room.say, b"b")
+        self.assertRaises(NoRoomError, room.say, b"b")
         markers = [cluster.payloads(1, generation).count(b"\0") for generation in (1, 2, 3)]
         self.assertEqual(markers, [2, 2, 1])
 
@@ -1079,19 +1079,19 @@ class AsyncRoomTests(unittest.IsolatedAsyncioTestCase):
             )
             for node in ALL
         ]
-        with self.assertRaises(TooLong):
+        with self.assertRaises(TooLongError):
             await rooms[0].say(bytes(4_096))
         with self.assertRaises(ValueError):
-            rooms[0].without(0)
+            rooms[0].exclude(0)
         for number in range(25):
             await rooms[0].say(f"0-{number}".encode())
-        with self.assertRaises(NoRoom):
+        with self.assertRaises(NoRoomError):
             await rooms[0].say(b"0-25")
         cluster.crash(2)
-        with self.assertRaises(NoRoom):
+        with self.assertRaises(NoRoomError):
             await rooms[0].say(b"0-25")
         for room in rooms[:2]:
-            room.without(2)
+            room.exclude(2)
         for room, count in zip(rooms[:2] * 2, (25, 25, 0, 0)):
             heard = [entry async for entry in room.follow(idle=0.1)]
             self.assertEqual(len(heard), count)
@@ -1213,7 +1213,7 @@ class ThreadTests(Heard):
                         try:
                             room.say(f"{node}-{number}".encode())
                             break
-                        except NoRoom:  # What waits to be shown holds up its generation.
+                        except NoRoomError:  # What waits to be shown holds up its generation.
                             heard[node] += list(room.follow(idle=0))
                     if number % 5 == node:
                         heard[node] += list(room.follow(idle=0))

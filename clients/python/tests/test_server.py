@@ -13,30 +13,30 @@ from typing import Callable, Dict, List, Sequence, Tuple, Type
 from foqradesh import (
     AsyncGroup,
     AsyncRoom,
-    BadMembers,
-    BadPlace,
-    Budget,
-    BytesSpent,
+    BadMembersError,
+    BadPlaceError,
+    BudgetError,
+    BytesError,
     Client,
-    Denied,
+    DeniedError,
     Entry,
     Generation,
     Group,
-    Malformed,
-    NoGroup,
-    NoRoom,
-    OverReserve,
-    Refused,
+    MalformedError,
+    NoGroupError,
+    NoRoomError,
+    OverReserveError,
+    RefusedError,
     Room,
     RoomEntry,
     RoomNumber,
     Spec,
-    Spent,
-    TenantThere,
+    SpentError,
+    TenantThereError,
     Tokens,
-    TooLong,
-    Window,
-    WrongPhase,
+    TooLongError,
+    WindowError,
+    WrongPhaseError,
     member_token,
 )
 
@@ -58,7 +58,7 @@ def started(server: Serving, spec: Spec, tenant: int = 7, group: int = 1) -> Gro
     """Take the tenant in and start a group, and return it."""
     clients = server.clients()
     for client in clients.values():
-        client.tenant(tenant, TENANT_KEY, 4, 1024, 65_536, 1024)
+        client.add_tenant(tenant, TENANT_KEY, 4, 1024, 65_536, 1024)
     made = Group(clients, tenant, group, spec)
     made.start()
     return made
@@ -99,56 +99,56 @@ class ServerTests(unittest.TestCase):
         with Serving(base_port(1), nodes=2) as server:
             client, spec = server.client(), Spec("beb", (0,), 4, 8, 2)
             stranger = Client(("127.0.0.1", base_port(1) + 64), "0" * 64)
-            client.tenant(7, TENANT_KEY, 4, 4, 8, 2)
+            client.add_tenant(7, TENANT_KEY, 4, 4, 8, 2)
             for group in (1, 2, 3):
                 client.make(7, group, spec)
             client.open(7, 1)
             client.open(7, 2)
             client.drop(7, 2)
             self.assertEqual([client.say(7, 1, text) for text in (b"aaaa", b"bbb")], [1, 2])
-            rows: Tuple[Tuple[Type[Refused], Callable[[], object]], ...] = (
-                (Denied, lambda: stranger.fetch(7, 1)),
-                (Denied, lambda: stranger.tenant(8, TENANT_KEY, 1, 1, 1, 1)),
-                (NoGroup, lambda: client.open(7, 0)),
-                (NoGroup, lambda: client.make(7, 4, spec)),
-                (Spent, lambda: client.make(7, 1, spec)),
-                (Spent, lambda: client.fetch(7, 2)),
-                (BadMembers, lambda: client.make(7, 0, Spec("beb", (1,), 4, 8, 2))),
-                (BadMembers, lambda: client.make(7, 0, Spec("beb", (0, 2), 4, 8, 2))),
-                (OverReserve, lambda: client.make(7, 0, Spec("beb", (0,), 5, 8, 2))),
-                (OverReserve, lambda: client.tenant(8, TENANT_KEY, 257, 1, 1, 1)),
-                (WrongPhase, lambda: client.open(7, 1)),
-                (WrongPhase, lambda: client.say(7, 3, b"a")),
-                (TooLong, lambda: client.say(7, 1, bytes(4097))),
-                (BytesSpent, lambda: client.say(7, 1, b"cc")),
-                (BadPlace, lambda: client.fetch(7, 1, 3)),
-                (BadPlace, lambda: client.fetch(7, 1, 0, 17)),
-                (BadPlace, lambda: client.say(7, 1, b"", number=9)),
-                (TenantThere, lambda: client.tenant(7, TENANT_KEY, 4, 4, 8, 2)),
+            rows: Tuple[Tuple[Type[RefusedError], Callable[[], object]], ...] = (
+                (DeniedError, lambda: stranger.fetch(7, 1)),
+                (DeniedError, lambda: stranger.add_tenant(8, TENANT_KEY, 1, 1, 1, 1)),
+                (NoGroupError, lambda: client.open(7, 0)),
+                (NoGroupError, lambda: client.make(7, 4, spec)),
+                (SpentError, lambda: client.make(7, 1, spec)),
+                (SpentError, lambda: client.fetch(7, 2)),
+                (BadMembersError, lambda: client.make(7, 0, Spec("beb", (1,), 4, 8, 2))),
+                (BadMembersError, lambda: client.make(7, 0, Spec("beb", (0, 2), 4, 8, 2))),
+                (OverReserveError, lambda: client.make(7, 0, Spec("beb", (0,), 5, 8, 2))),
+                (OverReserveError, lambda: client.add_tenant(8, TENANT_KEY, 257, 1, 1, 1)),
+                (WrongPhaseError, lambda: client.open(7, 1)),
+                (WrongPhaseError, lambda: client.say(7, 3, b"a")),
+                (TooLongError, lambda: client.say(7, 1, bytes(4097))),
+                (BytesError, lambda: client.say(7, 1, b"cc")),
+                (BadPlaceError, lambda: client.fetch(7, 1, 3)),
+                (BadPlaceError, lambda: client.fetch(7, 1, 0, 17)),
+                (BadPlaceError, lambda: client.say(7, 1, b"", number=9)),
+                (TenantThereError, lambda: client.add_tenant(7, TENANT_KEY, 4, 4, 8, 2)),
             )
             for kind, call in rows:
                 with self.subTest(kind=kind.__name__):
                     self.assertRaises(kind, call)
             self.assertEqual([client.say(7, 1, b""), client.say(7, 1, b"")], [3, 4])
-            self.assertRaises(Budget, client.say, 7, 1, b"")
+            self.assertRaises(BudgetError, client.say, 7, 1, b"")
             for tenant in (1, 2, 3):
-                client.tenant(tenant, TENANT_KEY, 256, 4, 8, 2)
-            self.assertRaises(NoRoom, client.tenant, 4, TENANT_KEY, 256, 4, 8, 2)
+                client.add_tenant(tenant, TENANT_KEY, 256, 4, 8, 2)
+            self.assertRaises(NoRoomError, client.add_tenant, 4, TENANT_KEY, 256, 4, 8, 2)
             stranger.close()
 
     def test_window(self) -> None:
         with Serving(base_port(2)) as server:
             clients = server.clients()
             for node in (0, 1):
-                clients[node].tenant(7, TENANT_KEY, 4, 100, 4096, 100)
+                clients[node].add_tenant(7, TENANT_KEY, 4, 100, 4096, 100)
             clients[0].make(7, 1, Spec("allack", (0, 1, 2), 100, 4096, 2))
             clients[0].open(7, 1)
             # Nodes 1 and 2 have not made the group: what comes there is let fall.
             with clients[0].pipeline() as pipeline:
                 tickets = [pipeline.say(7, 1, b"x") for _ in range(4)]
             self.assertEqual([tickets[0].result(), tickets[1].result()], [1, 2])
-            self.assertRaises(Window, tickets[2].result)
-            self.assertRaises(BadPlace, tickets[3].result)
+            self.assertRaises(WindowError, tickets[2].result)
+            self.assertRaises(BadPlaceError, tickets[3].result)
             self.assertEqual(clients[0].next_number(7, 1), 3)
 
     def test_pipeline(self) -> None:
@@ -250,29 +250,29 @@ class ServerTests(unittest.TestCase):
             client.say(7, 1, b"a")
             try:
                 figures = client.status()
-            except Malformed:
+            except MalformedError:
                 self.skipTest("this gb_serve does not answer status, list and stop")
             self.assertTrue(figures)
             group.start()
-            (row,) = client.groups()
+            (row,) = client.list_groups()
             self.assertEqual(
                 (row.tenant, row.group, row.spec, row.phase, row.log),
                 (7, 1, group.spec, "open", 1),
             )
-            with self.assertRaises(BadPlace):
-                client.list(2)
-            with self.assertRaises(BadPlace):
-                client.list(0, 65)
+            with self.assertRaises(BadPlaceError):
+                client.list_page(2)
+            with self.assertRaises(BadPlaceError):
+                client.list_page(0, 65)
             stranger = Client(("127.0.0.1", base_port(10) + 64), "0" * 64)
-            self.assertRaises(Denied, stranger.status)
-            self.assertRaises(Denied, stranger.list)
-            self.assertRaises(Denied, stranger.stop)
+            self.assertRaises(DeniedError, stranger.status)
+            self.assertRaises(DeniedError, stranger.list_groups)
+            self.assertRaises(DeniedError, stranger.shutdown)
             stranger.close()
             group.drop()
             self.assertEqual(
-                [(row.spec, row.phase) for row in client.groups()], [(None, "dropped")]
+                [(row.spec, row.phase) for row in client.list_groups()], [(None, "dropped")]
             )
-            client.stop()
+            client.shutdown()
             self.assertEqual(server.process.wait(10), 0)
 
 
@@ -284,7 +284,7 @@ class RoomTests(unittest.TestCase):
     def begin(self, server: Serving) -> None:
         """Take the tenant in."""
         for client in server.clients().values():
-            client.tenant(7, TENANT_KEY, 4, 1024, 65_536, 1024)
+            client.add_tenant(7, TENANT_KEY, 4, 1024, 65_536, 1024)
 
     def assert_heard(self, heard: Sequence[Sequence[RoomEntry]], count: int) -> None:
         """Each reader has each member's messages once, in order, from generation to generation."""
@@ -302,7 +302,7 @@ class RoomTests(unittest.TestCase):
         """Return how many generations of the room each node lists as living, four at most."""
         counts = []
         for client in clients.values():
-            rows = [row for row in client.groups() if (row.tenant, row.group) == (7, 1)]
+            rows = [row for row in client.list_groups() if (row.tenant, row.group) == (7, 1)]
             self.assertEqual(len({row.generation for row in rows}), len(rows))
             self.assertLessEqual(len(rows), 4)
             counts.append(sum(row.phase != "dropped" for row in rows))
@@ -316,20 +316,20 @@ class RoomTests(unittest.TestCase):
             Group(clients, 7, later, self.SPEC).start()
             self.assertEqual([clients[0].say(7, 1, b"a"), clients[0].say(7, later, b"a")], [1, 1])
             self.assertEqual(next(clients[2].follow(7, later)), Entry(0, 1, b"a"))
-            self.assertEqual([row.generation for row in clients[0].groups()], [0, 1])
+            self.assertEqual([row.generation for row in clients[0].list_groups()], [0, 1])
             for generation in (2, 3):
                 clients[0].make(7, Generation(1, generation), self.SPEC)
-            self.assertRaises(NoRoom, clients[0].make, 7, Generation(1, 4), self.SPEC)
+            self.assertRaises(NoRoomError, clients[0].make, 7, Generation(1, 4), self.SPEC)
             clients[0].drop(7, 1)
-            self.assertRaises(Spent, clients[0].make, 7, 1, self.SPEC)
-            self.assertRaises(Spent, clients[0].fetch, 7, 1)
-            self.assertRaises(NoGroup, clients[0].fetch, 7, Generation(1, 4))
+            self.assertRaises(SpentError, clients[0].make, 7, 1, self.SPEC)
+            self.assertRaises(SpentError, clients[0].fetch, 7, 1)
+            self.assertRaises(NoGroupError, clients[0].fetch, 7, Generation(1, 4))
             clients[0].make(7, Generation(1, 4), self.SPEC)
-            self.assertRaises(WrongPhase, clients[0].say, 7, Generation(1, 4), b"a")
+            self.assertRaises(WrongPhaseError, clients[0].say, 7, Generation(1, 4), b"a")
         with Serving(base_port(14), version=2, nodes=1) as server:
             self.begin(server)
             spec = Spec("beb", (0,), 4, 64, 4)
-            self.assertRaises(OverReserve, server.client().make, 7, Generation(1, 1), spec)
+            self.assertRaises(OverReserveError, server.client().make, 7, Generation(1, 1), spec)
 
     def test_a_long_conversation(self) -> None:
         count = 700
@@ -392,7 +392,7 @@ class RoomTests(unittest.TestCase):
                             try:
                                 room.say(str(number).encode())
                                 break
-                            except NoRoom:  # What waits to be shown holds up its generation.
+                            except NoRoomError:  # What waits to be shown holds up its generation.
                                 heard[node] += list(room.follow(idle=0))
                         if number % 8 == 0:
                             heard[node] += list(room.follow(idle=0))
@@ -420,7 +420,7 @@ class AsyncServerTests(unittest.IsolatedAsyncioTestCase):
         with Serving(base_port(11)) as server:
             clients = server.async_clients()
             for client in clients.values():
-                await client.tenant(7, TENANT_KEY, 4, 1000, 65_536, 1000)
+                await client.add_tenant(7, TENANT_KEY, 4, 1000, 65_536, 1000)
             await AsyncGroup(clients, 7, 1, Spec("fallack", ALL, 1000, 65_536, 1000)).start()
 
             async def hear(node: int) -> List[Entry]:
@@ -455,7 +455,7 @@ class AsyncServerTests(unittest.IsolatedAsyncioTestCase):
         count = 300
         with Serving(base_port(17)) as server:
             for node in ALL:
-                server.client(node).tenant(7, TENANT_KEY, 4, 1024, 65_536, 1024)
+                server.client(node).add_tenant(7, TENANT_KEY, 4, 1024, 65_536, 1024)
             spec = RoomTests.SPEC
             every = [server.async_clients() for _ in ALL]
             rooms = [AsyncRoom(every[node], 7, 1, spec, node=node) for node in ALL]
@@ -483,10 +483,46 @@ class AsyncServerTests(unittest.IsolatedAsyncioTestCase):
                 for client in clients.values():
                     await client.close()
 
+    async def test_a_leader(self) -> None:
+        count = 60
+        with Serving(base_port(20)) as server:
+            for node in ALL:
+                server.client(node).add_tenant(7, TENANT_KEY, 4, 1024, 65_536, 1024)
+            spec = Spec("fallack", ALL, 64, 65_536, 64)
+            every = [server.async_clients() for _ in ALL]
+            rooms = [
+                AsyncRoom(every[node], 7, 1, spec, node=node, leader=1, patience=200.0)
+                for node in ALL
+            ]
+
+            async def speak(node: int) -> None:
+                for number in range(count):
+                    await rooms[node].say(str(number).encode())
+
+            async def hear(node: int) -> List[RoomEntry]:
+                heard: List[RoomEntry] = []
+                async for entry in rooms[node].follow(idle=200.0):
+                    heard.append(entry)
+                    if len(heard) == 3 * count:
+                        break
+                return heard
+
+            heard_and_said = await asyncio.gather(*map(hear, ALL), *map(speak, ALL))
+            first = heard_and_said[0]
+            assert isinstance(first, list)
+            self.assertEqual(heard_and_said[:3], [first] * 3)
+            self.assertGreater(len({entry.generation for entry in first}), 2)
+            for origin in ALL:
+                own = [entry.payload for entry in first if entry.origin == origin]
+                self.assertEqual(own, [str(number).encode() for number in range(count)])
+            for clients in every:
+                for client in clients.values():
+                    await client.close()
+
     async def test_waiting_at_two_places(self) -> None:
         with Serving(base_port(12), nodes=1) as server:
             client = server.async_clients()[0]
-            await client.tenant(7, TENANT_KEY, 4, 100, 4096, 100)
+            await client.add_tenant(7, TENANT_KEY, 4, 100, 4096, 100)
             for group in (1, 2):
                 await client.make(7, group, Spec("beb", (0,), 100, 4096, 100))
                 await client.open(7, group)
@@ -496,7 +532,7 @@ class AsyncServerTests(unittest.IsolatedAsyncioTestCase):
             await client.say(7, 2, b"here")
             log = await waiting
             self.assertEqual((log.index, log.entries), (1, (Entry(0, 1, b"here"),)))
-            with self.assertRaises(NoGroup):
+            with self.assertRaises(NoGroupError):
                 await client.wait([(7, 1, 0), (7, 3, 0)])
             self.assertEqual((await client.wait([(7, 1, 0)], seconds=0.01)).entries, ())
             await client.close()

@@ -4,6 +4,7 @@ from __future__ import annotations
 
 import hashlib
 import pathlib
+import pickle
 import random
 import re
 import struct
@@ -11,12 +12,15 @@ import unittest
 from typing import Callable, Dict, List, Tuple
 
 import foqradesh
-from foqradesh import errors, replies, requests, wire
-from foqradesh.errors import REFUSALS, BadReply, MissingToken, Refused
-from foqradesh.numbers import Numbers
-from foqradesh.replies import Done, Entry, GroupRow, Listing, Log, Said, Status
-from foqradesh.tokens import Keys, Tokens, admin_token, member_token, secrets_of, tenant_token
-from foqradesh.words import (
+from foqradesh import _errors as errors
+from foqradesh import _replies as replies
+from foqradesh import _requests as requests
+from foqradesh import _wire as wire
+from foqradesh._errors import REFUSALS, BadReplyError, MissingTokenError, RefusedError
+from foqradesh._numbers import Numbers
+from foqradesh._replies import Done, Entry, GroupRow, Listing, Log, Said, Status
+from foqradesh._tokens import Keys, Tokens, admin_token, member_token, secrets_of, tenant_token
+from foqradesh._words import (
     Generation,
     Spec,
     group_word,
@@ -43,22 +47,22 @@ READERS: Tuple[Callable[[bytes], object], ...] = (
 )
 
 REFUSAL_ROWS = (
-    (1, "Denied", errors.Denied),
-    (2, "NoGroup", errors.NoGroup),
-    (3, "Spent", errors.Spent),
-    (4, "BadMembers", errors.BadMembers),
-    (5, "OverReserve", errors.OverReserve),
-    (6, "WrongPhase", errors.WrongPhase),
-    (7, "TooLong", errors.TooLong),
-    (8, "Budget", errors.Budget),
-    (9, "Bytes", errors.BytesSpent),
-    (10, "Window", errors.Window),
-    (11, "BadPlace", errors.BadPlace),
-    (12, "NoRoom", errors.NoRoom),
-    (13, "TenantThere", errors.TenantThere),
-    (14, "Malformed", errors.Malformed),
-    (15, "Stopped", errors.Stopped),
-    (16, "OutOfMemory", errors.OutOfMemory),
+    (1, "Denied", errors.DeniedError),
+    (2, "NoGroup", errors.NoGroupError),
+    (3, "Spent", errors.SpentError),
+    (4, "BadMembers", errors.BadMembersError),
+    (5, "OverReserve", errors.OverReserveError),
+    (6, "WrongPhase", errors.WrongPhaseError),
+    (7, "TooLong", errors.TooLongError),
+    (8, "Budget", errors.BudgetError),
+    (9, "Bytes", errors.BytesError),
+    (10, "Window", errors.WindowError),
+    (11, "BadPlace", errors.BadPlaceError),
+    (12, "NoRoom", errors.NoRoomError),
+    (13, "TenantThere", errors.TenantThereError),
+    (14, "Malformed", errors.MalformedError),
+    (15, "Stopped", errors.StoppedError),
+    (16, "OutOfMemory", errors.OutOfMemoryError),
 )
 
 
@@ -67,6 +71,48 @@ def hmac_sha256(key: bytes, text: bytes) -> str:
     block = key.ljust(64, b"\0")
     inner = hashlib.sha256(bytes(byte ^ 0x36 for byte in block) + text).digest()
     return hashlib.sha256(bytes(byte ^ 0x5C for byte in block) + inner).hexdigest()
+
+
+
+class ErrorTests(unittest.TestCase):
+    """Exceptions are what they are in Python too."""
+
+    def test_names(self) -> None:
+        found = [it for it in vars(foqradesh).values() if isinstance(it, type)]
+        found = [it for it in found if issubclass(it, BaseException)]
+        self.assertEqual(len(found), 25)
+        for kind in found:
+            with self.subTest(kind=kind.__name__):
+                self.assertTrue(issubclass(kind, foqradesh.FoqradeshError))
+                self.assertTrue(kind.__name__.endswith("Error"))
+                self.assertEqual(kind.__module__, "foqradesh")
+                self.assertIs(getattr(foqradesh, kind.__name__), kind)
+        for refusal in REFUSALS:
+            self.assertEqual(refusal.__name__, f"{refusal.name}Error")
+
+    def test_what_they_are_in_python(self) -> None:
+        lost = foqradesh.ConnectionFailedError("it ended", is_unknown=True, number=3)
+        late = foqradesh.TimedOutError("no reply", is_unknown=False)
+        self.assertIsInstance(lost, ConnectionError)
+        self.assertIsInstance(late, TimeoutError)
+        self.assertEqual((str(lost), lost.is_unknown, lost.number), ("it ended", True, 3))
+        self.assertEqual((str(late), late.is_unknown, late.number), ("no reply", False, None))
+
+    def test_they_go_to_other_processes(self) -> None:
+        for error in (
+            foqradesh.SpentError("refused 3 Spent: it is used up"),
+            foqradesh.ConnectionFailedError("it ended", is_unknown=True, number=3),
+            foqradesh.TimedOutError("no reply", is_unknown=False),
+            foqradesh.BadReplyError("no reply"),
+            foqradesh.UnknownOutcomeError("who knows", number=2),
+        ):
+            other = pickle.loads(pickle.dumps(error))
+            self.assertIs(type(other), type(error))
+            self.assertEqual((str(other), vars(other)), (str(error), vars(error)))
+
+    def test_version(self) -> None:
+        project = pathlib.Path(__file__).resolve().parents[1] / "pyproject.toml"
+        self.assertIn(f'version = "{foqradesh.__version__}"\n', project.read_text("utf-8"))
 
 
 class TokenTests(unittest.TestCase):
@@ -122,7 +168,7 @@ class TokenTests(unittest.TestCase):
             Keys(0).admin,
             lambda: made.tenant(8),
         ):
-            self.assertRaises(MissingToken, ask)
+            self.assertRaises(MissingTokenError, ask)
         every = secrets_of(other)
         self.assertEqual(
             [every.admin(), every.tenant(1), every.member(1, 1), every.node], [other] * 3 + [None]
@@ -242,7 +288,7 @@ class ReplyTests(unittest.TestCase):
     def assert_bad(self, read: Callable[[bytes], object], *bodies: bytes) -> None:
         """Each of these is no reply."""
         for body in bodies:
-            with self.subTest(body=body[:60]), self.assertRaises(BadReply):
+            with self.subTest(body=body[:60]), self.assertRaises(BadReplyError):
                 read(body)
 
     def test_every_refusal(self) -> None:
@@ -251,7 +297,7 @@ class ReplyTests(unittest.TestCase):
             for read in READERS:
                 refusal = read(f"refused {number} {name}".encode())
                 self.assertIs(type(refusal), kind)
-                assert isinstance(refusal, Refused)
+                assert isinstance(refusal, RefusedError)
                 self.assertEqual((refusal.number, refusal.name), (number, name))
                 self.assertEqual(str(refusal), f"refused {number} {name}")
             found = replies.read_found(f"at 1 refused {number} {name}".encode(), (16, 16))
@@ -459,14 +505,14 @@ class ReplyTests(unittest.TestCase):
                     text[at : at + 1] = bytes([numbers.randrange(256)])
             try:
                 reply = read(bytes(text))
-            except BadReply:
+            except BadReplyError:
                 continue
             # What was read is spelt exactly so.
             self.assertEqual(spelt(reply, read is read_second), bytes(text))
         for _ in range(5_000):
             body = bytes(numbers.randrange(256) for _ in range(numbers.randrange(40)))
             for read, _ in readers:
-                with self.assertRaises(BadReply):
+                with self.assertRaises(BadReplyError):
                     read(body)
 
 
@@ -529,7 +575,7 @@ class WireTests(unittest.TestCase):
     def test_too_long(self) -> None:
         reader = wire.FrameReader()
         reader.feed(struct.pack(">I", 262_145))
-        self.assertRaises(BadReply, reader.next)
+        self.assertRaises(BadReplyError, reader.next)
 
 
 class NumberTests(unittest.TestCase):

@@ -154,14 +154,14 @@ def read_members(word: str) -> Tuple[int, ...]:
 class Spec:
     """What a group is made with.
 
-    `messages` and `bytes` are how many messages, and payload bytes, each member may say in the
+    `messages` and `total_bytes` are how many messages, and payload bytes, each member may say in the
     group in all, and `window` how many of them may be unfinished at once.
     """
 
     kind: str
     members: Tuple[int, ...]
     messages: int
-    bytes: int
+    total_bytes: int
     window: int
 
     def __post_init__(self) -> None:
@@ -172,7 +172,7 @@ class Spec:
         members_word(self.members)
         for value, what in (
             (self.messages, "messages"),
-            (self.bytes, "bytes"),
+            (self.total_bytes, "total_bytes"),
             (self.window, "window"),
         ):
             check_number(value, U32, what)
@@ -183,6 +183,6 @@ class Spec:
             self.kind,
             members_word(self.members),
             str(self.messages),
-            str(self.bytes),
+            str(self.total_bytes),
             str(self.window),
         )

@@ -1,12 +1,12 @@
-"""What a server answers, read exactly: a text that is none of a reply raises BadReply."""
+"""What a server answers, read exactly: a text that is none of a reply raises BadReplyError."""
 
 from __future__ import annotations
 
 from dataclasses import dataclass
 from typing import Callable, List, Optional, Tuple, TypeVar, Union
 
-from .errors import REFUSAL_TEXTS, BadReply, Refused
-from .words import (
+from ._errors import REFUSAL_TEXTS, BadReplyError, RefusedError
+from ._words import (
     MOST_ENTRIES,
     MOST_PLACES,
     MOST_ROWS,
@@ -82,7 +82,7 @@ class Listing:
     rows: Tuple[GroupRow, ...]
 
 
-Reply = Union[Done, Said, Log, Status, Listing, Refused]
+Reply = Union[Done, Said, Log, Status, Listing, RefusedError]
 Read = TypeVar("Read")
 
 
@@ -93,10 +93,10 @@ def _words(body: bytes) -> List[str]:
         raise ValueError("it is no ASCII text") from None
 
 
-def _reading(body: bytes, read: Callable[[List[str]], Read]) -> Union[Read, Refused]:
+def _reading(body: bytes, read: Callable[[List[str]], Read]) -> Union[Read, RefusedError]:
     """Return what `read` makes of the words, or the refusal that they spell.
 
-    BadReply if they are neither.
+    BadReplyError if they are neither.
     """
     try:
         words = _words(body)
@@ -107,7 +107,7 @@ def _reading(body: bytes, read: Callable[[List[str]], Read]) -> Union[Read, Refu
             return refusal()
         return read(words)
     except ValueError as error:
-        raise BadReply(f"{body[:60]!r} is no reply to the request: {error}") from None
+        raise BadReplyError(f"{body[:60]!r} is no reply to the request: {error}") from None
 
 
 def _want(holds: bool, why: str) -> None:
@@ -115,7 +115,7 @@ def _want(holds: bool, why: str) -> None:
         raise ValueError(why)
 
 
-def read_done(body: bytes) -> Union[Done, Refused]:
+def read_done(body: bytes) -> Union[Done, RefusedError]:
     """Return the reply `ok`, or a refusal."""
 
     def read(words: List[str]) -> Done:
@@ -125,7 +125,7 @@ def read_done(body: bytes) -> Union[Done, Refused]:
     return _reading(body, read)
 
 
-def read_said(body: bytes, number: Optional[int] = None) -> Union[Said, Refused]:
+def read_said(body: bytes, number: Optional[int] = None) -> Union[Said, RefusedError]:
     """Return the reply to a say, which names the number that was asked for, if one was."""
 
     def read(words: List[str]) -> Said:
@@ -154,19 +154,19 @@ def _entries(words: List[str], most: int) -> Tuple[Entry, ...]:
     return tuple(_entry(word) for word in words[2:])
 
 
-def read_log(body: bytes, most: int = MOST_ENTRIES) -> Union[Log, Refused]:
+def read_log(body: bytes, most: int = MOST_ENTRIES) -> Union[Log, RefusedError]:
     """Return the reply to a fetch of at most `most` entries."""
     return _reading(body, lambda words: Log(_entries(words, most)))
 
 
-def read_found(body: bytes, mosts: Tuple[int, ...]) -> Union[Log, Refused, Tuple[int, Refused]]:
+def read_found(body: bytes, mosts: Tuple[int, ...]) -> Union[Log, RefusedError, Tuple[int, RefusedError]]:
     """Return the reply to a wait at places, each with the most entries that are wanted there.
 
     A refusal at one of several places comes with that place's index. Only an empty log has no
     index then: nothing was there in time.
     """
 
-    def read(words: List[str]) -> Union[Log, Tuple[int, Refused]]:
+    def read(words: List[str]) -> Union[Log, Tuple[int, RefusedError]]:
         if words == ["log", "0"]:
             return Log(())
         if len(mosts) == 1:
@@ -191,7 +191,7 @@ def _figure(word: str) -> Tuple[str, int]:
     return name, read_number(number, U64)
 
 
-def read_status(body: bytes) -> Union[Status, Refused]:
+def read_status(body: bytes) -> Union[Status, RefusedError]:
     """Return the reply to `status`: a name and a number of each figure."""
 
     def read(words: List[str]) -> Status:
@@ -220,7 +220,7 @@ def _row(word: str) -> GroupRow:
     return GroupRow(tenant, group, spec, phase, log, generation)
 
 
-def read_listing(body: bytes, start: int = 0, most: int = MOST_ROWS) -> Union[Listing, Refused]:
+def read_listing(body: bytes, start: int = 0, most: int = MOST_ROWS) -> Union[Listing, RefusedError]:
     """Return the reply to a list of at most `most` groups from `start` on."""
 
     def read(words: List[str]) -> Listing:

@@ -6,17 +6,17 @@ from collections import deque
 from dataclasses import dataclass, field
 from typing import Deque, Dict, Iterator, List, Optional, Sequence, Set
 
-from .errors import (
-    BadPlace,
-    Denied,
-    MissingToken,
-    NoGroup,
-    OutOfMemory,
-    Spent,
-    Unanswered,
-    WrongPhase,
+from ._errors import (
+    BadPlaceError,
+    DeniedError,
+    MissingTokenError,
+    NoGroupError,
+    OutOfMemoryError,
+    SpentError,
+    UnansweredError,
+    WrongPhaseError,
 )
-from .generations import (
+from ._generations import (
     LAST_GENERATION,
     MARKER,
     PASSING,
@@ -28,9 +28,9 @@ from .generations import (
     asked,
     between_tries,
 )
-from .replies import Entry
-from .speaking import AGAIN, SLOWER, Speaker
-from .words import MOST_ENTRIES, Spec
+from ._replies import Entry
+from ._speaking import AGAIN, SLOWER, Speaker
+from ._words import MOST_ENTRIES, Spec
 
 
 @dataclass(frozen=True)
@@ -74,7 +74,7 @@ class Heard:
         while self.front + 1 in self.ahead:
             self.front += 1
             self.ahead.remove(self.front)
-        if entry.payload == MARKER or number >= spec.messages or self.used >= spec.bytes:
+        if entry.payload == MARKER or number >= spec.messages or self.used >= spec.total_bytes:
             self.end = number if self.end is None else min(self.end, number)
         return self.end is None or number <= self.end
 
@@ -145,7 +145,10 @@ class Reader:
 
     def _add(self, generation: int) -> None:
         if generation > self._last and generation not in self._logs:
-            self._logs[generation] = ReadLog(generation, self._nodes.spec.members)
+            self._logs[generation] = self._new_log(generation)
+
+    def _new_log(self, generation: int) -> ReadLog:
+        return ReadLog(generation, self._nodes.spec.members)
 
     def _lowest_first(self) -> List[ReadLog]:
         return [self._logs[generation] for generation in sorted(self._logs)]
@@ -175,7 +178,7 @@ class Reader:
             found = yield from asked(
                 nodes.node, words.wait(places, MOST_ENTRIES, seconds), waits=True
             )
-        except (Spent, NoGroup):
+        except (SpentError, NoGroupError):
             yield from self._pass_over()
             self.has_taken = True
         else:
@@ -235,8 +238,8 @@ class Reader:
         for log in self._lowest_first():
             is_living = yield from self._nodes.look(self._nodes.node, log.generation)
             if is_living is None:
-                raise NoGroup(
-                    f"{NoGroup.text()}: {self._nodes.text(log.generation)} was read at node"
+                raise NoGroupError(
+                    f"{NoGroupError.text()}: {self._nodes.text(log.generation)} was read at node"
                     f" {self._nodes.node}, whose server was started anew since"
                 )
             log.is_gone = log.is_gone or not is_living
@@ -261,18 +264,26 @@ class Reader:
 
     def release(self) -> None:
         """Have shown what may be, and end the generations that were read to their ends."""
-        nodes = self._nodes
-        for origin in nodes.spec.members:
-            self._show(origin)
+        self._show_all()
         for log in self._lowest_first():
-            if not all(self._is_over(log, origin) for origin in nodes.spec.members):
+            if not self._has_ended(log):
                 break
             del self._logs[log.generation]
             self._last = log.generation
             if not log.is_gone:
+                now = self._nodes.clock()
                 self._ended.append(
-                    Ended(log.generation, self._needed(log), nodes.clock(), between_tries())
+                    Ended(log.generation, self._needed(log), now, between_tries())
                 )
+
+    def _show_all(self) -> None:
+        """Have shown what may be of all members' messages."""
+        for origin in self._nodes.spec.members:
+            self._show(origin)
+
+    def _has_ended(self, log: ReadLog) -> bool:
+        """Return True if nothing more is to be shown from a generation."""
+        return all(self._is_over(log, origin) for origin in self._nodes.spec.members)
 
     def _needed(self, log: ReadLog) -> int:
         """Return how many entries each other running node's log has in the end.
@@ -293,7 +304,7 @@ class Reader:
                 continue
             try:
                 yield from nodes.mark(log.generation, nodes.clock())
-            except WrongPhase:
+            except WrongPhaseError:
                 nodes.note_marked(log.generation)
             except PASSING:
                 self._owes = True
@@ -312,7 +323,7 @@ class Reader:
                 is_done = not self._speaker.is_in_doubt(ended.generation) and (
                     yield from self._is_dropped(ended)
                 )
-            except (Unanswered, OutOfMemory):
+            except (UnansweredError, OutOfMemoryError):
                 now = self._nodes.clock()
                 ended.try_at = now + max(AGAIN, SLOWER * (now - begun))
                 continue
@@ -331,19 +342,26 @@ class Reader:
         for node in nodes.others():
             if node in ended.have:
                 continue
-            words = nodes.words[node]
             try:
-                yield from asked(node, words.fetch(nodes.tenant, name, ended.needed, 0))
-            except BadPlace:
-                return False
-            except (Spent, NoGroup):
+                if not (yield from self._has_all(node, ended)):
+                    return False
+            except (SpentError, NoGroupError):
                 pass
-            except (MissingToken, Denied):
+            except (MissingTokenError, DeniedError):
                 if self._last <= ended.generation:
                     return False
             ended.have.add(node)
         try:
             yield from asked(nodes.node, nodes.words[nodes.node].drop(nodes.tenant, name))
-        except (Spent, NoGroup):
+        except (SpentError, NoGroupError):
             pass
+        return True
+
+    def _has_all(self, node: int, ended: Ended) -> Plan[bool]:
+        """Find out whether a node has the whole log of a generation that was read to its end."""
+        words, name = self._nodes.words[node], self._nodes.name(ended.generation)
+        try:
+            yield from asked(node, words.fetch(self._nodes.tenant, name, ended.needed, 0))
+        except BadPlaceError:
+            return False
         return True

@@ -8,8 +8,8 @@ import re
 import struct
 from typing import Dict, Mapping, Optional, Protocol, Tuple, Union
 
-from .errors import MissingToken
-from .words import U16, check_number
+from ._errors import MissingTokenError
+from ._words import U16, check_number
 
 _DIGITS = re.compile(r"[0-9A-Fa-f]{64}\Z")
 
@@ -60,7 +60,7 @@ def member_token(key: bytes, tenant: int, group: int, node: int) -> str:
 
 
 class Secrets(Protocol):
-    """Where a client takes its tokens from. Each method may raise MissingToken.
+    """Where a client takes its tokens from. Each method may raise MissingTokenError.
 
     `node` is the number of the node that is asked, or None if it is not known.
     """
@@ -108,12 +108,12 @@ class Keys:
         try:
             return self._tenants[tenant]
         except KeyError:
-            raise MissingToken(f"no key of tenant {tenant} was given") from None
+            raise MissingTokenError(f"no key of tenant {tenant} was given") from None
 
     def admin(self) -> str:
         """Return the administrator's token."""
         if self._admin is None:
-            raise MissingToken("no key of the administrator was given")
+            raise MissingTokenError("no key of the administrator was given")
         return admin_token(self._admin)
 
     def tenant(self, tenant: int) -> str:
@@ -166,7 +166,7 @@ class Tokens:
     def _given(self, token: Optional[str], whose: str) -> str:
         found = token if token is not None else self._every
         if found is None:
-            raise MissingToken(f"no token of {whose} was given")
+            raise MissingTokenError(f"no token of {whose} was given")
         return found
 
     def admin(self) -> str:

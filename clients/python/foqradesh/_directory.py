@@ -1,4 +1,4 @@
-"""Which cluster a tenant lives in, and where its nodes are asked, by a file."""
+"""Where nodes are asked, and which cluster a tenant lives in, by a file."""
 
 from __future__ import annotations
 
@@ -7,15 +7,23 @@ import os
 import re
 from typing import Any, Dict, Tuple, Union
 
-from .errors import BadDirectory
-from .words import U16, check_number
+from ._errors import BadDirectoryError
+from ._words import U16, check_number
 
 Path = Union[str, "os.PathLike[str]"]
 
 LAST_NODE = 31
 """The greatest number of a node."""
 
+_SESSIONS = 64
+"""How far the port of node 0's sessions is above a server's base port."""
+
 _PORT = re.compile("[1-9][0-9]{0,4}")
+
+
+def node_address(base_port: int, node: int, host: str = "127.0.0.1") -> Tuple[str, int]:
+    """Return where a node is asked: its host, and the server's base port + 64 + the node."""
+    return host, base_port + _SESSIONS + node
 
 
 def _tables(path: Path) -> Dict[str, Any]:
@@ -31,9 +39,9 @@ def _tables(path: Path) -> Dict[str, Any]:
         with open(path, "rb") as file:
             tables: Dict[str, Any] = tomllib.load(file)
     except OSError as error:
-        raise BadDirectory(f"{os.fspath(path)} cannot be read: {error.strerror}") from error
+        raise BadDirectoryError(f"{os.fspath(path)} cannot be read: {error.strerror}") from error
     except ValueError as error:
-        raise BadDirectory(f"{os.fspath(path)} is no TOML: {error}") from error
+        raise BadDirectoryError(f"{os.fspath(path)} is no TOML: {error}") from error
     return tables
 
 
@@ -41,7 +49,7 @@ def _table(tables: Dict[str, Any], name: str) -> Dict[str, Any]:
     """Return a table of the file."""
     table = tables.get(name)
     if not isinstance(table, dict):
-        raise BadDirectory(f"{name} is not there, or is no table")
+        raise BadDirectoryError(f"{name} is not there, or is no table")
     return table
 
 
@@ -55,7 +63,7 @@ def _address(word: object, path: str) -> Tuple[str, int]:
             host = ""
         if host and _PORT.fullmatch(port) and int(port) <= U16:
             return host, int(port)
-    raise BadDirectory(f"{path} is {word!r}, and takes HOST:PORT with a port from 1 to 65535")
+    raise BadDirectoryError(f"{path} is {word!r}, and takes HOST:PORT with a port from 1 to 65535")
 
 
 def directory_address(path: Path, tenant: int, node: int) -> Tuple[str, int]:
@@ -63,7 +71,7 @@ def directory_address(path: Path, tenant: int, node: int) -> Tuple[str, int]:
 
     The file is TOML. Its table `tenant` has the name of the cluster of each tenant, and
     `cluster.NAME.nodes` where the sessions of its nodes 0, 1 and so on are, as `HOST:PORT`.
-    BadDirectory if it does not say it; the message names the field. ImportError before Python
+    BadDirectoryError if it does not say it; the message names the field. ImportError before Python
     3.11.
     """
     check_number(tenant, U16, "a tenant")
@@ -71,13 +79,13 @@ def directory_address(path: Path, tenant: int, node: int) -> Tuple[str, int]:
     tables = _tables(path)
     name = _table(tables, "tenant").get(str(tenant))
     if not isinstance(name, str):
-        raise BadDirectory(f"tenant.{tenant} is not there, or is no cluster's name")
+        raise BadDirectoryError(f"tenant.{tenant} is not there, or is no cluster's name")
     cluster = _table(tables, "cluster").get(name)
     if not isinstance(cluster, dict):
-        raise BadDirectory(f"cluster.{name} is not there, or is no table; tenant.{tenant} names it")
+        raise BadDirectoryError(f"cluster.{name} is not there, or is no table; tenant.{tenant} names it")
     nodes = cluster.get("nodes")
     if not isinstance(nodes, list):
-        raise BadDirectory(f"cluster.{name}.nodes is not there, or is no list")
+        raise BadDirectoryError(f"cluster.{name}.nodes is not there, or is no list")
     if node >= len(nodes):
-        raise BadDirectory(f"cluster.{name}.nodes[{node}] is not there: it has {len(nodes)} nodes")
+        raise BadDirectoryError(f"cluster.{name}.nodes[{node}] is not there: it has {len(nodes)} nodes")
     return _address(nodes[node], f"cluster.{name}.nodes[{node}]")

@@ -5,7 +5,7 @@ from __future__ import annotations
 import struct
 from typing import Optional
 
-from .errors import BadReply
+from ._errors import BadReplyError
 
 LONGEST_REQUEST = 16_384
 """The bytes of the longest body that a server reads."""
@@ -40,13 +40,13 @@ class FrameReader:
     def next(self) -> Optional[bytes]:
         """Return the next body, or None if it is not whole yet.
 
-        BadReply if its length is above the longest reply's.
+        BadReplyError if its length is above the longest reply's.
         """
         if len(self._bytes) < _LENGTH.size:
             return None
         (length,) = _LENGTH.unpack_from(self._bytes)
         if length > LONGEST_REPLY:
-            raise BadReply(f"a reply of {length} bytes is longer than {LONGEST_REPLY}")
+            raise BadReplyError(f"a reply of {length} bytes is longer than {LONGEST_REPLY}")
         end = _LENGTH.size + length
         if len(self._bytes) < end:
             return None

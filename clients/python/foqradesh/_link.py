@@ -7,17 +7,24 @@ import selectors
 import socket
 import time
 from collections import deque
+from ssl import SSLContext, SSLWantReadError, SSLWantWriteError
 from typing import Callable, Deque, Optional, Tuple, Union
 
-from .errors import BadReply, ConnectionFailed, TimedOut, Unanswered
-from .operations import Answer, Step
-from .wire import FrameReader, frame
+from ._errors import BadReplyError, ConnectionFailedError, TimedOutError, UnansweredError
+from ._operations import Answer, Step
+from ._wire import FrameReader, frame
 
 GATHERED = 16_384
 """The bytes of requests that are gathered before they are sent, unless a reply is asked for."""
 
 MOST_AHEAD = 1_024
 """The most requests that are sent ahead of their replies."""
+
+# The bytes that are taken at once: more than a record of TLS has, so that none of it is left over.
+_PIECE = 65_536
+
+# Nothing can be sent or taken now.
+_NOT_YET = (BlockingIOError, InterruptedError, SSLWantReadError, SSLWantWriteError)
 
 _PAUSES = (0.01, 0.05, 0.1, 0.2, 0.5, 1.0)
 
@@ -30,7 +37,7 @@ def pause(losses: int) -> float:
 class Sent:
     """A request in a link, and what became of it."""
 
-    def __init__(self, step: Step, tell: Callable[[Union[Answer, Unanswered]], None]) -> None:
+    def __init__(self, step: Step, tell: Callable[[Union[Answer, UnansweredError]], None]) -> None:
         """Makes it. `tell` is called once, with its reply or with why there is none."""
         self.step = step
         self.frame = frame(step.body)
@@ -40,7 +47,7 @@ class Sent:
         self.is_over = False
         self._tell = tell
 
-    def finish(self, outcome: Union[Answer, Unanswered]) -> None:
+    def finish(self, outcome: Union[Answer, UnansweredError]) -> None:
         """Tell what became of it."""
         self.is_over = True
         self._tell(outcome)
@@ -49,9 +56,10 @@ class Sent:
 class Link:
     """A connection that is opened when it is needed, and opened again when it ended."""
 
-    def __init__(self, address: Tuple[str, int]) -> None:
-        """Makes a link that has no connection yet."""
+    def __init__(self, address: Tuple[str, int], ssl: Optional[SSLContext] = None) -> None:
+        """Makes a link that has no connection yet. With `ssl` its connections are of TLS."""
         self._address = address
+        self._ssl = ssl
         self._socket: Optional[socket.socket] = None
         self._selector: Optional[selectors.BaseSelector] = None
         self._reader = FrameReader()
@@ -99,7 +107,7 @@ class Link:
         self._waiting.clear()
         self._shut()
         for sent, is_sent in waiting:
-            sent.finish(ConnectionFailed("the client was closed", is_unknown=is_sent))
+            sent.finish(ConnectionFailedError("the client was closed", is_unknown=is_sent))
 
     def _add(self, sent: Sent) -> None:
         self._out += sent.frame
@@ -111,7 +119,7 @@ class Link:
         assert self._socket is not None
         try:
             piece: Optional[bytes] = self._socket.recv(1)
-        except (BlockingIOError, InterruptedError):
+        except _NOT_YET:
             piece = None
         except OSError:
             piece = b""
@@ -128,6 +136,9 @@ class Link:
         try:
             self._socket = socket.create_connection(self._address, timeout=left)
             self._socket.setsockopt(socket.IPPROTO_TCP, socket.TCP_NODELAY, 1)
+            if self._ssl is not None:
+                host = self._address[0]
+                self._socket = self._ssl.wrap_socket(self._socket, server_hostname=host)
             self._socket.setblocking(False)
         except (OSError, UnicodeError) as error:
             self._shut()
@@ -145,7 +156,7 @@ class Link:
         self._waiting = deque(kept)
         for sent in unsent:
             sent.finish(
-                ConnectionFailed(f"no connection to {self._address}: {error}", is_unknown=False)
+                ConnectionFailedError(f"no connection to {self._address}: {error}", is_unknown=False)
             )
 
     def _exchange(self, seconds: float) -> None:
@@ -175,7 +186,7 @@ class Link:
         while self._out:
             try:
                 count = self._socket.send(self._out)
-            except (BlockingIOError, InterruptedError):
+            except _NOT_YET:
                 return
             self._taken += count
             del self._out[:count]
@@ -187,8 +198,8 @@ class Link:
         """
         assert self._socket is not None
         try:
-            piece = self._socket.recv(65_536)
-        except (BlockingIOError, InterruptedError):
+            piece = self._socket.recv(_PIECE)
+        except _NOT_YET:
             return False
         if not piece:
             raise ConnectionResetError("the server closed the connection")
@@ -208,9 +219,9 @@ class Link:
             if body is None:
                 return False
             if not self._is_sent(front):
-                raise BadReply("a reply came before its request was sent", is_unknown=False)
+                raise BadReplyError("a reply came before its request was sent", is_unknown=False)
             reply = front.step.read(body)
-        except BadReply as error:
+        except BadReplyError as error:
             self._waiting.popleft()
             self._lose(error)
             front.finish(error)
@@ -224,7 +235,7 @@ class Link:
         self._waiting.popleft()
         is_sent = self._is_sent(front)
         self._lose(TimeoutError("the reply before it took too long"))
-        front.finish(TimedOut(f"no reply in {front.step.seconds:g} seconds", is_unknown=is_sent))
+        front.finish(TimedOutError(f"no reply in {front.step.seconds:g} seconds", is_unknown=is_sent))
 
     def _is_sent(self, sent: Sent) -> bool:
         """Return True if the whole request may have reached the server, now or before."""
@@ -245,7 +256,7 @@ class Link:
         self._shut()
         for sent in failed:
             sent.finish(
-                ConnectionFailed(
+                ConnectionFailedError(
                     f"the connection ended before the reply: {error}", is_unknown=True
                 )
             )

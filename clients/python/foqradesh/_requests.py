@@ -7,8 +7,8 @@ from __future__ import annotations
 
 from typing import Optional, Sequence, Tuple, Union
 
-from .tokens import check_key
-from .words import (
+from ._tokens import check_key
+from ._words import (
     LONGEST_WAIT,
     MOST_PLACES,
     U16,
@@ -32,14 +32,14 @@ def _address(tenant: int, group: GroupName) -> Tuple[int, str]:
 
 
 def tenant_body(
-    token: str, tenant: int, key: bytes, groups: int, messages: int, bytes_: int, window: int
+    token: str, tenant: int, key: bytes, groups: int, messages: int, total_bytes: int, window: int
 ) -> bytes:
     """Return the body that takes a tenant in."""
     check_number(tenant, U16, "a tenant")
     limits = (
         check_number(groups, U32, "groups"),
         check_number(messages, U32, "messages"),
-        check_number(bytes_, U32, "bytes"),
+        check_number(total_bytes, U32, "total_bytes"),
         check_number(window, U32, "window"),
     )
     return _body("tenant", token, tenant, check_key(key).hex(), *limits)

@@ -5,21 +5,20 @@ from __future__ import annotations
 from dataclasses import dataclass, field
 from typing import Dict, NamedTuple, Optional
 
-from .client import FOLLOW_WAIT
-from .errors import (
-    BadPlace,
-    Budget,
-    BytesSpent,
-    MissingToken,
-    NoGroup,
-    OutOfMemory,
-    Spent,
-    TooLong,
-    Unanswered,
-    Window,
-    WrongPhase,
+from ._errors import (
+    BadPlaceError,
+    BudgetError,
+    BytesError,
+    MissingTokenError,
+    NoGroupError,
+    OutOfMemoryError,
+    SpentError,
+    TooLongError,
+    UnansweredError,
+    WindowError,
+    WrongPhaseError,
 )
-from .generations import (
+from ._generations import (
     LAST_GENERATION,
     MARKER,
     PASSING,
@@ -30,8 +29,9 @@ from .generations import (
     between_tries,
     spelled,
 )
-from .replies import Entry
-from .words import LONGEST_PAYLOAD, MOST_ENTRIES, Spec
+from ._operations import FOLLOW_WAIT
+from ._replies import Entry
+from ._words import LONGEST_PAYLOAD, MOST_ENTRIES, Spec
 
 AGAIN = 1.0
 """The least time, in seconds, after which it is tried again to go on before a generation is full."""
@@ -87,13 +87,13 @@ class Speech:
         """Return True if a message has room, and a marker behind it."""
         if self.is_full or self.next >= spec.messages:
             return False
-        return self.used + length + len(MARKER) <= spec.bytes
+        return self.used + length + len(MARKER) <= spec.total_bytes
 
     def is_late(self, spec: Spec) -> bool:
         """Return True if this member has used three quarters of the generation, and it is no last."""
         if self.generation == LAST_GENERATION:
             return False
-        return 4 * (self.next - 1) >= 3 * spec.messages or 4 * self.used >= 3 * spec.bytes
+        return 4 * (self.next - 1) >= 3 * spec.messages or 4 * self.used >= 3 * spec.total_bytes
 
 
 class Speaker:
@@ -132,13 +132,13 @@ class Speaker:
         if newest > greatest or living[-1:] != [greatest]:
             target = newest if newest > greatest else greatest + 1
             for generation in living:  # There may be no room for the next one until these are read.
-                yield from nodes.mark(generation, end)
+                yield from self._close(generation, end)
             yield from nodes.start(target, end)
             living += yield from nodes.between(greatest, target)
         elif not (yield from self._is_started(greatest, end, len(living) > 1)):
             living.pop()
         for generation in living[:-1]:
-            yield from nodes.mark(generation, end)
+            yield from self._close(generation, end)
         self.speech = Speech(living[-1])
 
     def _is_started(self, generation: int, end: float, is_spare: bool) -> Plan[bool]:
@@ -149,13 +149,17 @@ class Speaker:
         """
         try:
             yield from self._nodes.start(generation, self._nodes.clock() if is_spare else end)
-        except MissingToken:
+        except MissingTokenError:
             return True
         except PASSING:
             if not is_spare:
                 raise
             return False
         return True
+
+    def _close(self, generation: int, end: float) -> Plan[None]:
+        """Say nothing more in a generation, behind a marker."""
+        yield from self._nodes.mark(generation, end)
 
     def leave(self, generation: int) -> None:
         """Speak behind this generation from now on, in which the member's marker stands."""
@@ -174,7 +178,7 @@ class Speaker:
     def _go_on(self, speech: Speech, end: float) -> Plan[None]:
         """Start the next generation, and say the marker."""
         yield from self._nodes.start(speech.generation + 1, end)
-        yield from self._nodes.mark(speech.generation, end)
+        yield from self._close(speech.generation, end)
         self.leave(speech.generation)
 
     def _goes_on_early(self, speech: Speech) -> Plan[bool]:
@@ -184,7 +188,7 @@ class Speaker:
             return False
         try:
             yield from self._go_on(speech, begun)
-        except (MissingToken, *PASSING):
+        except (MissingTokenError, *PASSING):
             now = self._nodes.clock()
             self._try_at = now + max(AGAIN, SLOWER * (now - begun))
             return False
@@ -195,10 +199,10 @@ class Speaker:
         spec = self._nodes.spec
         message = spelled(payload)
         if len(message) > LONGEST_PAYLOAD:
-            raise TooLong()
-        if len(message) + len(MARKER) > spec.bytes:
-            raise BytesSpent(
-                f"{BytesSpent.text()}: no generation has room for {len(message)} bytes and a marker"
+            raise TooLongError()
+        if len(message) + len(MARKER) > spec.total_bytes:
+            raise BytesError(
+                f"{BytesError.text()}: no generation has room for {len(message)} bytes and a marker"
             )
         end, lost = self.end(), 0
         if repeat is not None and (yield from self._is_said_again(message, repeat, end)):
@@ -215,13 +219,13 @@ class Speaker:
             else:
                 try:
                     number = yield from self._say_next(speech, message, end)
-                except (Spent, NoGroup):
+                except (SpentError, NoGroupError):
                     lost += 1
                     if lost > _MOST_LOST:
                         raise
                     if self._current() is speech:
                         self.speech = None
-                except (Window, OutOfMemory):
+                except (WindowError, OutOfMemoryError):
                     left = end - self._nodes.clock()
                     if left <= 0:
                         raise
@@ -240,15 +244,15 @@ class Speaker:
             number = yield from self._settled(
                 message, RoomNumber(generation, speech.next), repeated=False
             )
-        except BadPlace:
+        except BadPlaceError:
             yield from self._learn(speech, end)
-        except (Budget, BytesSpent):
+        except (BudgetError, BytesError):
             speech.is_full = True
-        except WrongPhase:
+        except WrongPhaseError:
             if speech.was_opened:
                 raise
-            speech.was_opened = True
             yield from nodes.start(generation, end)
+            speech.was_opened = True
         else:
             if number == speech.next:
                 speech.said(len(message))
@@ -261,16 +265,16 @@ class Speaker:
         It is until it is answered, and after a failure until the patience is over or the next say.
         """
         nodes, generation = self._nodes, number.generation
-        words, name = nodes.words[nodes.node], nodes.name(generation)
+        node, name = nodes.speaker(generation), nodes.name(generation)
+        words = nodes.words[node]
         until, self._doubt = float("-inf"), (generation, float("inf"))
         try:
             return (
                 yield from asked(
-                    nodes.node,
-                    words.say(nodes.tenant, name, message, number.number, repeated, False),
+                    node, words.say(nodes.tenant, name, message, number.number, repeated, False)
                 )
             )
-        except (Unanswered, GeneratorExit) as error:
+        except (UnansweredError, GeneratorExit) as error:
             if isinstance(error, GeneratorExit):
                 until = self.end()
             elif repeated or error.is_unknown:
@@ -282,7 +286,8 @@ class Speaker:
     def _learn(self, speech: Speech, end: float) -> Plan[None]:
         """Look at the member's message with the next number, which another client has said.
 
-        It stands in the log when it is delivered. BadPlace if it is not before the time is over.
+        It stands in the log when it is delivered. BadPlaceError if it is not before the time is
+        over.
         """
         nodes, number = self._nodes, speech.next
         words = nodes.words[nodes.node]
@@ -295,8 +300,8 @@ class Speaker:
                 if entry.origin == nodes.node:
                     speech.found(entry)
             if not log.entries and nodes.clock() >= end and speech.next == number:
-                raise BadPlace(
-                    f"{BadPlace.text()}: another client of the member has said message {number} of"
+                raise BadPlaceError(
+                    f"{BadPlaceError.text()}: another client of the member has said message {number} of"
                     f" {nodes.text(speech.generation)}, and it is not delivered yet"
                 )
         if speech.has_marker:
@@ -309,11 +314,11 @@ class Speaker:
         while True:
             try:
                 yield from self._settled(message, repeat, repeated=True)
-            except (BadPlace, Budget, BytesSpent, TooLong, WrongPhase):
+            except (BadPlaceError, BudgetError, BytesError, TooLongError, WrongPhaseError):
                 return False
-            except Unanswered as error:
+            except UnansweredError as error:
                 left = end - self._nodes.clock()
-                if not isinstance(error.__cause__, (Window, OutOfMemory)) or left <= 0:
+                if not isinstance(error.__cause__, (WindowError, OutOfMemoryError)) or left <= 0:
                     raise
                 yield Pause(min(left, next(pauses)))
             else:

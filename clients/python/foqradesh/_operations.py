@@ -1,33 +1,35 @@
 """What each word of a client does, without any connection.
 
 An operation is a generator. It yields the requests that it makes, one at a time, and is given the
-reply to each; what it returns is the word's result. `client` runs operations over a blocking
-socket, `aio` over asyncio.
+reply to each; what it returns is the word's result. `_blocking` runs operations over a blocking
+socket, `_async` over asyncio.
 """
 
 from __future__ import annotations
 
 import functools
 import math
+import time
 from dataclasses import dataclass
 from typing import Callable, Dict, Generator, Optional, Sequence, Tuple, Type, TypeVar, Union
 
-from . import replies, requests
-from .errors import (
-    BadPlace,
-    BadReply,
-    Budget,
-    BytesSpent,
-    Refused,
-    TooLong,
-    Unanswered,
-    UnknownOutcome,
-    WrongPhase,
+from . import _replies as replies
+from . import _requests as requests
+from ._errors import (
+    BadPlaceError,
+    BadReplyError,
+    BudgetError,
+    BytesError,
+    RefusedError,
+    TooLongError,
+    UnansweredError,
+    UnknownOutcomeError,
+    WrongPhaseError,
 )
-from .numbers import Address, Numbers, Taken
-from .replies import Done, Entry, GroupRow, Listing, Log, Reply, Said, Status
-from .tokens import Secrets
-from .words import (
+from ._numbers import Address, Numbers, Taken
+from ._replies import Done, Entry, GroupRow, Listing, Log, Reply, Said, Status
+from ._tokens import Secrets
+from ._words import (
     LONGEST_PAYLOAD,
     LONGEST_WAIT,
     MOST_ENTRIES,
@@ -39,7 +41,10 @@ from .words import (
     check_number,
 )
 
-Found = Union[Reply, Tuple[int, Refused]]
+FOLLOW_WAIT = 30.0
+"""How long a follower waits in the server at a time, in seconds."""
+
+Found = Union[Reply, Tuple[int, RefusedError]]
 
 
 @dataclass(frozen=True)
@@ -71,9 +76,9 @@ Place = Tuple[int, GroupName, int]
 
 # After a repetition these say that it was never done: its number is free, and no copy of it
 # that comes later can be done.
-_NEVER_DONE = (TooLong, Budget, BytesSpent)
+_NEVER_DONE = (TooLongError, BudgetError, BytesError)
 # After a repetition these leave open whether it was done, and the log may tell.
-_LOG_MAY_TELL = (BadPlace, WrongPhase)
+_LOG_MAY_TELL = (BadPlaceError, WrongPhaseError)
 
 
 def milliseconds(seconds: float) -> int:
@@ -83,6 +88,11 @@ def milliseconds(seconds: float) -> int:
     Millionths of a millisecond are the fault of binary fractions, and do not count.
     """
     return math.ceil(round(seconds * 1000, 6))
+
+
+def wait_until(end: Optional[float]) -> float:
+    """Return how long a follower waits that ends at a time of the monotonic clock, or never."""
+    return FOLLOW_WAIT if end is None else min(FOLLOW_WAIT, max(0.0, end - time.monotonic()))
 
 
 def address_of(tenant: int, group: GroupName) -> Address:
@@ -95,10 +105,10 @@ def _expect(answer: Answer, kind: Type[Kind]) -> Kind:
     reply = answer.reply
     if isinstance(reply, tuple):
         raise reply[1]
-    if isinstance(reply, Refused):
+    if isinstance(reply, RefusedError):
         raise reply
     if not isinstance(reply, kind):
-        raise BadReply(f"{reply!r} is no reply to the request")
+        raise BadReplyError(f"{reply!r} is no reply to the request")
     return reply
 
 
@@ -141,12 +151,12 @@ class Operations:
     def _read(self, body: bytes, read: Callable[[bytes], Found], seconds: float = 0.0) -> Step:
         return Step(body, read, True, seconds + self.time_limit)
 
-    def tenant(
-        self, tenant: int, key: bytes, groups: int, messages: int, bytes_: int, window: int
+    def add_tenant(
+        self, tenant: int, key: bytes, groups: int, messages: int, total_bytes: int, window: int
     ) -> Operation[None]:
         """Take a tenant in."""
         token = self.secrets.admin()
-        body = requests.tenant_body(token, tenant, key, groups, messages, bytes_, window)
+        body = requests.tenant_body(token, tenant, key, groups, messages, total_bytes, window)
         _expect((yield self._change(body)), Done)
 
     def make(self, tenant: int, group: GroupName, spec: Spec) -> Operation[None]:
@@ -198,22 +208,22 @@ class Operations:
         body = requests.operate_body("status", self.secrets.admin())
         return dict(_expect((yield self._read(body, replies.read_status)), Status).figures)
 
-    def list(self, start: int, most: int) -> Operation[Listing]:
+    def list_page(self, start: int, most: int) -> Operation[Listing]:
         """Ask for groups of the node."""
         body = requests.operate_body("list", self.secrets.admin(), start, most)
         read = functools.partial(replies.read_listing, start=start, most=min(most, MOST_ROWS))
         return _expect((yield self._read(body, read)), Listing)
 
-    def groups(self) -> Operation[Tuple[GroupRow, ...]]:
+    def list_groups(self) -> Operation[Tuple[GroupRow, ...]]:
         """Ask for all groups of the node."""
         rows: Tuple[GroupRow, ...] = ()
         while True:
-            listing = yield from self.list(len(rows), MOST_ROWS)
+            listing = yield from self.list_page(len(rows), MOST_ROWS)
             rows += listing.rows
             if not listing.rows or len(rows) >= listing.total:
                 return rows
 
-    def stop(self) -> Operation[None]:
+    def shutdown(self) -> Operation[None]:
         """Ask the server to end."""
         _expect((yield self._change(requests.operate_body("stop", self.secrets.admin()))), Done)
 
@@ -231,7 +241,7 @@ class Operations:
         With `again` one that was certainly not said is said with another number.
         """
         if len(payload) > LONGEST_PAYLOAD:
-            raise TooLong()
+            raise TooLongError()
         if repeated and number is None:
             raise ValueError("a say without its number cannot be repeated")
         while True:
@@ -239,7 +249,7 @@ class Operations:
             if said is not None:
                 return said
             if number is not None or not again:
-                raise BadPlace()
+                raise BadPlaceError()
 
     def _take(self, address: Address, number: Optional[int], repeated: bool) -> Optional[Taken]:
         if number is None:
@@ -268,9 +278,9 @@ class Operations:
         read = functools.partial(replies.read_said, number=number)
         try:
             answer = yield Step(body, read, number is not None, self.time_limit)
-        except (Unanswered, GeneratorExit) as error:
+        except (UnansweredError, GeneratorExit) as error:
             self.numbers.lose(address, taken)
-            if isinstance(error, Unanswered):
+            if isinstance(error, UnansweredError):
                 error.number = number
             raise
         if isinstance(answer.reply, Said):
@@ -278,18 +288,18 @@ class Operations:
                 self.numbers.set(address, answer.reply.number + 1)
             return answer.reply.number
         refusal = answer.reply
-        assert isinstance(refusal, Refused)
+        assert isinstance(refusal, RefusedError)
         if number is not None and (repeated or answer.was_repeated):
             return (yield from self._settle(address, payload, number, taken, refusal))
         self._refused(address, taken, refusal)
         return None
 
-    def _refused(self, address: Address, taken: Optional[Taken], refusal: Refused) -> None:
+    def _refused(self, address: Address, taken: Optional[Taken], refusal: RefusedError) -> None:
         """Note that a say was certainly not done.
 
         Raises the refusal, but for another message's number.
         """
-        if isinstance(refusal, BadPlace):
+        if isinstance(refusal, BadPlaceError):
             self.numbers.lose(address, taken)
             return
         self.numbers.give_back(address, taken)
@@ -301,7 +311,7 @@ class Operations:
         payload: bytes,
         number: int,
         taken: Optional[Taken],
-        refusal: Refused,
+        refusal: RefusedError,
     ) -> Operation[Optional[int]]:
         """Find out whether a say was done that was refused after it had been sent before."""
         if isinstance(refusal, _NEVER_DONE):
@@ -309,21 +319,21 @@ class Operations:
         if isinstance(refusal, _LOG_MAY_TELL) and self.secrets.node is not None:
             try:
                 entry = yield from self._own_entry(address, self.secrets.node, number)
-            except (Refused, Unanswered) as error:
+            except (RefusedError, UnansweredError) as error:
                 self.numbers.lose(address, taken)
-                raise UnknownOutcome(
+                raise UnknownOutcomeError(
                     f"message {number} may be said, and the log was not read", number=number
                 ) from error
             if entry is not None and entry.payload == payload:
                 return number
             if entry is not None:
                 self.numbers.lose(address, taken)
-                if isinstance(refusal, BadPlace):
+                if isinstance(refusal, BadPlaceError):
                     return None
                 raise refusal
         self.numbers.lose(address, taken)
         text = f"message {number} may be said: {refusal}, after it had been sent before"
-        raise UnknownOutcome(text, number=number) from refusal
+        raise UnknownOutcomeError(text, number=number) from refusal
 
     def _own_entry(self, address: Address, node: int, number: int) -> Operation[Optional[Entry]]:
         """Find the member's message with a number in its log, within the time limit."""

@@ -1,7 +1,7 @@
 """The generations of a room at its members' nodes: which there are, how one is begun and marked.
 
 What is asked of which node is told by plans, which are generators without any connection, as the
-operations of `operations` are. `room` runs them over clients.
+operations of `_operations` are. `_room` and `_async_room` run them over clients.
 """
 
 from __future__ import annotations
@@ -22,22 +22,22 @@ from typing import (
     cast,
 )
 
-from .errors import (
-    BadPlace,
-    Budget,
-    BytesSpent,
-    Denied,
-    MissingToken,
-    NoGroup,
-    NoRoom,
-    OutOfMemory,
-    Spent,
-    Unanswered,
-    Window,
-    WrongPhase,
+from ._errors import (
+    BadPlaceError,
+    BudgetError,
+    BytesError,
+    DeniedError,
+    MissingTokenError,
+    NoGroupError,
+    NoRoomError,
+    OutOfMemoryError,
+    SpentError,
+    UnansweredError,
+    WindowError,
+    WrongPhaseError,
 )
-from .operations import Operation, Operations
-from .words import LONGEST_PAYLOAD, U16, U32, Generation, Spec, check_number
+from ._operations import Operation, Operations
+from ._words import LONGEST_PAYLOAD, U16, U32, Generation, Spec, check_number
 
 T = TypeVar("T")
 
@@ -63,7 +63,7 @@ LIVING = 4
 LOOKED_AT = 16
 """How many generations at a node, down from the greatest, are asked for."""
 
-PASSING = (NoRoom, Window, OutOfMemory, Unanswered)
+PASSING = (NoRoomError, WindowError, OutOfMemoryError, UnansweredError)
 """What may pass by itself."""
 
 PAUSES = (0.01, 0.02, 0.05, 0.1, 0.2)
@@ -136,7 +136,7 @@ class Nodes:
             raise ValueError(f"there is no client of node {missing[0]}, which is a member")
         if node not in spec.members:
             raise ValueError(f"node {node} is no member")
-        if spec.messages < 2 or spec.bytes < len(PAYLOAD + MARKER):
+        if spec.messages < 2 or spec.total_bytes < len(PAYLOAD + MARKER):
             raise ValueError(
                 "a generation has room for a message and a marker: 2 messages, 2 bytes"
             )
@@ -161,6 +161,10 @@ class Nodes:
         """Return how a generation is named to a reader of messages."""
         return f"generation {generation} of group {self.number} of tenant {self.tenant}"
 
+    def speaker(self, generation: int) -> int:
+        """Return the node whose member says what this room says in a generation."""
+        return self.node
+
     def running(self) -> List[int]:
         """Return the members that did not crash."""
         return [node for node in self.spec.members if node not in self.absent]
@@ -169,7 +173,7 @@ class Nodes:
         """Return the members that did not crash, but for this one."""
         return [node for node in self.running() if node != self.node]
 
-    def without(self, node: int) -> None:
+    def exclude(self, node: int) -> None:
         """Note that a member's node has crashed."""
         if node not in self.spec.members or node == self.node:
             raise ValueError(f"node {node} is no other member")
@@ -196,9 +200,9 @@ class Nodes:
         words = self.words[node]
         try:
             yield from asked(node, words.fetch(self.tenant, self.name(generation), 0, 0))
-        except Spent:
+        except SpentError:
             return False
-        except NoGroup:
+        except NoGroupError:
             return None
         return True
 
@@ -267,7 +271,7 @@ class Nodes:
                     is_used = yield from self._is_used(node, greatest)
                     is_missed = is_used or (is_missed and greatest == newest)
                 newest = greatest
-            except (Unanswered, MissingToken, Denied):
+            except (UnansweredError, MissingTokenError, DeniedError):
                 continue
         if is_missed and not (yield from self.look(self.node, newest)):
             return newest + 1
@@ -278,9 +282,9 @@ class Nodes:
         words = self.words[node]
         try:
             yield from asked(node, words.fetch(self.tenant, self.name(generation), 1, 0))
-        except (BadPlace, NoGroup):
+        except (BadPlaceError, NoGroupError):
             return False
-        except Spent:
+        except SpentError:
             pass
         return True
 
@@ -291,21 +295,21 @@ class Nodes:
         members do without it. What may pass is tried again until the time is over.
         """
         if generation > LAST_GENERATION:
-            raise Spent(f"{Spent.text()}: group {self.number} of tenant {self.tenant} is used up")
+            raise SpentError(f"{SpentError.text()}: group {self.number} of tenant {self.tenant} is used up")
         for node in self.running():
             try:
                 yield from self._persist(node, self._making(node, generation), end)
-            except Spent:
+            except SpentError:
                 pass
-            except NoRoom as refusal:
-                raise NoRoom(
+            except NoRoomError as refusal:
+                raise NoRoomError(
                     f"{refusal}: {self.text(generation)} at node {node}, where {LIVING} live that"
                     " its readers have not done with"
                 ) from None
         for node in self.running():
             try:
                 yield from self._persist(node, self._opening(node, generation), end)
-            except (WrongPhase, Spent):
+            except (WrongPhaseError, SpentError):
                 pass
             if node != self.node:
                 self.words[node].forget_number(self.tenant, self.name(generation))
@@ -319,32 +323,34 @@ class Nodes:
         return lambda: self.words[node].open(self.tenant, name)
 
     def mark(self, generation: int, end: float) -> Plan[None]:
-        """Say this member's marker in a generation, if none is known to stand there.
+        """Say the marker of the member that speaks in a generation, if none is known to stand there.
 
         A second one does no harm. Where the member has said all that it may, one stands there.
         """
-        if generation in self.marked:
-            return
-        words, name = self.words[self.node], self.name(generation)
-        try:
-            yield from self._say_marker(generation, end)
-        except (Budget, BytesSpent, Spent):
-            pass
-        words.forget_number(self.tenant, name)
-        self.note_marked(generation)
+        if generation not in self.marked:
+            yield from self.say_last(self.speaker(generation), generation, MARKER, end)
+            self.note_marked(generation)
 
-    def _say_marker(self, generation: int, end: float) -> Plan[None]:
-        words, name = self.words[self.node], self.name(generation)
+    def say_last(self, node: int, generation: int, message: bytes, end: float) -> Plan[None]:
+        """Say a message for the member of a node that may be said twice, if it may say one more.
+
+        What may pass is tried again until the time is over.
+        """
+        words, name = self.words[node], self.name(generation)
 
         def saying() -> Operation[int]:
-            return words.say(self.tenant, name, MARKER, None, False, True)
+            return words.say(self.tenant, name, message, None, False, True)
 
         try:
-            yield from self._persist(self.node, saying, end)
-        except WrongPhase:
-            # It was not opened here, or it is shut: then this is refused.
-            yield from self._persist(self.node, self._opening(self.node, generation), end)
-            yield from self._persist(self.node, saying, end)
+            try:
+                yield from self._persist(node, saying, end)
+            except WrongPhaseError:
+                # It was not opened here, or it is shut: then this is refused.
+                yield from self._persist(node, self._opening(node, generation), end)
+                yield from self._persist(node, saying, end)
+        except (BudgetError, BytesError, SpentError):
+            pass
+        words.forget_number(self.tenant, name)
 
     def note_marked(self, generation: int) -> None:
         """Note that this member's marker stands in a generation, or never will."""

@@ -9,21 +9,21 @@ class FoqradeshError(Exception):
     """All exceptions of this package, except ValueError and TypeError for wrong arguments."""
 
 
-class MissingToken(FoqradeshError):
+class MissingTokenError(FoqradeshError):
     """The client was given neither the token that the request needs nor the key that makes it.
 
     Nothing was sent.
     """
 
 
-class BadDirectory(FoqradeshError):
+class BadDirectoryError(FoqradeshError):
     """A directory file cannot be read, or does not say where a node is asked.
 
     The message names the field. Nothing was sent.
     """
 
 
-class Refused(FoqradeshError):
+class RefusedError(FoqradeshError):
     """The service refused a request. Nothing has changed by it.
 
     Each refusal is a class of its own, with its number and its name. docs/FORMATS.md says when
@@ -43,13 +43,13 @@ class Refused(FoqradeshError):
         return f"refused {cls.number} {cls.name}"
 
 
-class Denied(Refused):
+class DeniedError(RefusedError):
     """The request has not the token that it needs, or the node has not taken the tenant in."""
 
     number, name = 1, "Denied"
 
 
-class NoGroup(Refused):
+class NoGroupError(RefusedError):
     """The node has made neither the group nor a later generation of its room.
 
     At `make`: the group's number is not below the tenant's GROUPS.
@@ -58,7 +58,7 @@ class NoGroup(Refused):
     number, name = 2, "NoGroup"
 
 
-class Spent(Refused):
+class SpentError(RefusedError):
     """The node has dropped the group, or has left it out and made a later generation.
 
     At `make`: the node has made the group, or a later generation of its room, before.
@@ -67,13 +67,13 @@ class Spent(Refused):
     number, name = 3, "Spent"
 
 
-class BadMembers(Refused):
+class BadMembersError(RefusedError):
     """The members are without this node, or beyond the cluster."""
 
     number, name = 4, "BadMembers"
 
 
-class OverReserve(Refused):
+class OverReserveError(RefusedError):
     """More is asked than the tenant has or the service gives, or 0 where more is needed.
 
     At `make` also: the node sends packets of version 1 or 2, which name no later generation.
@@ -82,37 +82,37 @@ class OverReserve(Refused):
     number, name = 5, "OverReserve"
 
 
-class WrongPhase(Refused):
+class WrongPhaseError(RefusedError):
     """A say before `open` or after `shut`, a second `open`, or `shut` of one that is not open."""
 
     number, name = 6, "WrongPhase"
 
 
-class TooLong(Refused):
+class TooLongError(RefusedError):
     """The payload has more than 1,024 bytes in version 1, or 4,096 bytes in versions 2 and 3."""
 
     number, name = 7, "TooLong"
 
 
-class Budget(Refused):
+class BudgetError(RefusedError):
     """The member has said as many messages in the group as the group allows it."""
 
     number, name = 8, "Budget"
 
 
-class BytesSpent(Refused):
+class BytesError(RefusedError):
     """With this payload the member would have said more bytes than the group allows it."""
 
     number, name = 9, "Bytes"
 
 
-class Window(Refused):
+class WindowError(RefusedError):
     """As many messages of the member are unfinished as the group allows. It may be said later."""
 
     number, name = 10, "Window"
 
 
-class BadPlace(Refused):
+class BadPlaceError(RefusedError):
     """At a say: its number is not the member's next.
 
     At a fetch: the place is beyond the log, or too many are asked for.
@@ -121,7 +121,7 @@ class BadPlace(Refused):
     number, name = 11, "BadPlace"
 
 
-class NoRoom(Refused):
+class NoRoomError(RefusedError):
     """The node's tenants would have more than 1,024 rooms in all.
 
     At `make`: four generations of the room live at the node.
@@ -130,61 +130,63 @@ class NoRoom(Refused):
     number, name = 12, "NoRoom"
 
 
-class TenantThere(Refused):
+class TenantThereError(RefusedError):
     """The node has taken this tenant in before."""
 
     number, name = 13, "TenantThere"
 
 
-class Malformed(Refused):
+class MalformedError(RefusedError):
     """The request is none that the server knows. The server ends the connection then."""
 
     number, name = 14, "Malformed"
 
 
-class Stopped(Refused):
+class StoppedError(RefusedError):
     """The node has stopped."""
 
     number, name = 15, "Stopped"
 
 
-class OutOfMemory(Refused):
+class OutOfMemoryError(RefusedError):
     """The node was out of memory."""
 
     number, name = 16, "OutOfMemory"
 
 
-REFUSALS: Tuple[Type[Refused], ...] = (
-    Denied,
-    NoGroup,
-    Spent,
-    BadMembers,
-    OverReserve,
-    WrongPhase,
-    TooLong,
-    Budget,
-    BytesSpent,
-    Window,
-    BadPlace,
-    NoRoom,
-    TenantThere,
-    Malformed,
-    Stopped,
-    OutOfMemory,
+REFUSALS: Tuple[Type[RefusedError], ...] = (
+    DeniedError,
+    NoGroupError,
+    SpentError,
+    BadMembersError,
+    OverReserveError,
+    WrongPhaseError,
+    TooLongError,
+    BudgetError,
+    BytesError,
+    WindowError,
+    BadPlaceError,
+    NoRoomError,
+    TenantThereError,
+    MalformedError,
+    StoppedError,
+    OutOfMemoryError,
 )
 """All refusals, by number."""
 
-REFUSAL_TEXTS: Dict[str, Type[Refused]] = {refusal.text(): refusal for refusal in REFUSALS}
+REFUSAL_TEXTS: Dict[str, Type[RefusedError]] = {refusal.text(): refusal for refusal in REFUSALS}
 """The refusal of each reply's text."""
 
 
-class Unanswered(FoqradeshError):
+class UnansweredError(FoqradeshError):
     """A request got no answer that could be read.
 
     `is_unknown` is True if the request may have been done, and False if it was certainly not sent
     whole. `number` is the number that a say came with, or None. A say with a number may be said
     again with `number` and `repeated=True`, also by another client, and is done once at most.
-    `generation` is the generation in which a `Room` said it, and None outside a room.
+    `generation` is the generation in which a `Room` said it, and None outside a room. `node` is
+    the node that a `Room` or a `Group` asked, or for whose messages it waited, and None outside
+    them.
     """
 
     def __init__(self, message: str, *, is_unknown: bool, number: Optional[int] = None) -> None:
@@ -193,17 +195,35 @@ class Unanswered(FoqradeshError):
         self.is_unknown = is_unknown
         self.number = number
         self.generation: Optional[int] = None
+        self.node: Optional[int] = None
+
+    def at(self, node: int) -> None:
+        """Note which node was asked."""
+        self.node = node if self.node is None else self.node
+
+    def __reduce__(self) -> Tuple[object, ...]:
+        """Return how it is made again, in another process."""
+        return _again, (type(self), str(self), vars(self).copy())
 
 
-class ConnectionFailed(Unanswered):
+def _again(
+    kind: Type[UnansweredError], message: str, fields: Dict[str, object]
+) -> UnansweredError:
+    error = kind.__new__(kind)
+    Exception.__init__(error, message)
+    vars(error).update(fields)
+    return error
+
+
+class ConnectionFailedError(UnansweredError, ConnectionError):
     """There is no connection, or it ended before the reply."""
 
 
-class TimedOut(Unanswered):
+class TimedOutError(UnansweredError, TimeoutError):
     """The time limit passed before the reply."""
 
 
-class BadReply(Unanswered):
+class BadReplyError(UnansweredError):
     """What came is not the text of a reply to the request. The connection is closed then."""
 
     def __init__(
@@ -213,7 +233,7 @@ class BadReply(Unanswered):
         super().__init__(message, is_unknown=is_unknown, number=number)
 
 
-class UnknownOutcome(Unanswered):
+class UnknownOutcomeError(UnansweredError):
     """A request was answered, but the answer and the log do not tell whether it was done.
 
     `__cause__` is the refusal of the repeated request, where there was one.

@@ -1,0 +1,315 @@
+"""A client of one node for asyncio."""
+
+from __future__ import annotations
+
+import asyncio
+import time
+from ssl import SSLContext
+from types import TracebackType
+from typing import AsyncIterator, Dict, Optional, Sequence, Tuple, Type, Union
+
+from ._async import ClientBase, PipelineBase
+from ._directory import Path, directory_address
+from ._operations import FOLLOW_WAIT, Place, wait_until
+from ._replies import Entry, GroupRow, Listing, Log
+from ._tokens import Secrets
+from ._words import MOST_ENTRIES, MOST_ROWS, GroupName, Spec
+
+
+class AsyncPipeline(PipelineBase):
+    """Requests that are sent ahead of their replies.
+
+    Each word returns a task for what the client's word returns. The server does them in turn, and
+    answers them in turn. Leaving the context takes all replies, and raises nothing for those that
+    were refused: await each task, within the context or after it.
+
+    **Says.** A say in a group whose next number the client does not know waits for its own reply.
+    All others are sent ahead with numbers that follow one another. So if one of them is refused,
+    those behind it are refused BadPlaceError, and are not said: what was said of them is a front
+    part, in order, as long as no other client speaks for the member.
+    """
+
+    async def __aenter__(self) -> AsyncPipeline:
+        """Begin."""
+        return self
+
+    async def __aexit__(
+        self,
+        kind: Optional[Type[BaseException]],
+        error: Optional[BaseException],
+        trace: Optional[TracebackType],
+    ) -> None:
+        """Take all replies."""
+        await self.settle()
+
+    def add_tenant(
+        self, tenant: int, key: bytes, groups: int, messages: int, total_bytes: int, window: int
+    ) -> asyncio.Task[None]:
+        """Take a tenant in, as `AsyncClient.add_tenant`."""
+        return self._start(
+            self._operations.add_tenant(tenant, key, groups, messages, total_bytes, window)
+        )
+
+    def make(self, tenant: int, group: GroupName, spec: Spec) -> asyncio.Task[None]:
+        """Make a group, as `AsyncClient.make`."""
+        return self._start(self._operations.make(tenant, group, spec))
+
+    def open(self, tenant: int, group: GroupName) -> asyncio.Task[None]:
+        """Open a group, as `AsyncClient.open`."""
+        return self._start(self._operations.open(tenant, group))
+
+    def shut(self, tenant: int, group: GroupName) -> asyncio.Task[None]:
+        """Shut a group, as `AsyncClient.shut`."""
+        return self._start(self._operations.shut(tenant, group))
+
+    def drop(self, tenant: int, group: GroupName) -> asyncio.Task[None]:
+        """Drop a group, as `AsyncClient.drop`."""
+        return self._start(self._operations.drop(tenant, group))
+
+    def say(
+        self,
+        tenant: int,
+        group: GroupName,
+        payload: bytes,
+        *,
+        number: Optional[int] = None,
+        repeated: bool = False,
+    ) -> asyncio.Task[int]:
+        """Say a message, as `AsyncClient.say`. BadPlaceError is raised without a number too."""
+        return self._start_say(tenant, group, payload, number, repeated)
+
+    def fetch(
+        self, tenant: int, group: GroupName, place: int = 0, most: int = MOST_ENTRIES
+    ) -> asyncio.Task[Tuple[Entry, ...]]:
+        """Fetch entries of a log, as `AsyncClient.fetch`."""
+        return self._start(self._operations.fetch(tenant, group, place, most))
+
+
+class AsyncClient(ClientBase):
+    """A client of one node for asyncio, for tasks of one event loop.
+
+    Tasks may ask at the same time: their requests go over one connection, in the order in which
+    they are begun, each ahead of the replies before it. `wait` and `follow` have connections of
+    their own, since what stands behind a wait in a connection waits too. A task that is cancelled
+    while it waits for a reply leaves open whether its request is done. Says that are begun
+    together take numbers in the order in which they are begun. Where one is refused, those behind
+    it are said again, each by itself, so they may be said in another order: await each before the
+    next, or use `pipeline`, where the order matters.
+
+    A connection is opened at the first request, and opened again when it ended. What only reads
+    (`fetch`, `wait`, `status`, `list_groups`) and a say with a number are then sent again. The
+    others are not: where such a request may have been done it raises ConnectionFailedError or
+    TimedOutError, with `is_unknown` True.
+
+    A group is named by its number, or by a `Generation` of its room (docs/FORMATS.md, "Rooms").
+
+    Each word raises the refusal that it was answered (`RefusedError` and its classes),
+    ConnectionFailedError, TimedOutError, BadReplyError, or MissingTokenError if the client has no
+    token for it.
+    """
+
+    def __init__(
+        self,
+        address: Tuple[str, int],
+        secrets: Union[Secrets, str],
+        *,
+        time_limit: float = 10.0,
+        ssl: Optional[SSLContext] = None,
+    ) -> None:
+        """Makes a client. Nothing is sent yet.
+
+        `address` is the host and the port of the node's sessions (`node_address` makes it).
+        `secrets` are `Keys` or `Tokens`, or a single token, as text, for all that is asked.
+        `time_limit` is how long a reply may take, in seconds. With `ssl` the address is one of
+        TLS, as of a proxy before the node, and the context checks that its certificate names the
+        host; a node itself speaks no TLS.
+        """
+        super().__init__(address, secrets, time_limit, ssl)
+
+    @classmethod
+    def from_directory(
+        cls,
+        file: Path,
+        tenant: int,
+        node: int,
+        secrets: Union[Secrets, str],
+        *,
+        time_limit: float = 10.0,
+        ssl: Optional[SSLContext] = None,
+    ) -> AsyncClient:
+        """Return a client of a node of a tenant's cluster, which a directory file names.
+
+        It raises what `directory_address` raises. Python 3.11 and later.
+        """
+        address = directory_address(file, tenant, node)
+        return cls(address, secrets, time_limit=time_limit, ssl=ssl)
+
+    async def __aenter__(self) -> AsyncClient:
+        """Return the client."""
+        return self
+
+    async def __aexit__(
+        self,
+        kind: Optional[Type[BaseException]],
+        error: Optional[BaseException],
+        trace: Optional[TracebackType],
+    ) -> None:
+        """Close what is open, as `close` does."""
+        await self.close()
+
+    async def add_tenant(
+        self, tenant: int, key: bytes, groups: int, messages: int, total_bytes: int, window: int
+    ) -> None:
+        """Have the node take a tenant in, with its key and its reserve.
+
+        Needs the administrator's token. The tenant's groups have the numbers below `groups` (1 to
+        256). In each generation a member may say at most `messages` messages (1 to 1,024) of
+        `total_bytes` bytes in all (0 to 65,536), and have `window` of them unfinished at once (1
+        to 1,024).
+        """
+        await self.run(
+            self.operations.add_tenant(tenant, key, groups, messages, total_bytes, window)
+        )
+
+    async def make(self, tenant: int, group: GroupName, spec: Spec) -> None:
+        """Make a group at this node.
+
+        Make it at every member's node before it is opened at any: `AsyncGroup` does.
+        """
+        await self.run(self.operations.make(tenant, group, spec))
+
+    async def open(self, tenant: int, group: GroupName) -> None:
+        """Open a group at this node, so that its member may say messages."""
+        await self.run(self.operations.open(tenant, group))
+
+    async def shut(self, tenant: int, group: GroupName) -> None:
+        """Shut an open group at this node: its member says nothing more. Its log grows still."""
+        await self.run(self.operations.shut(tenant, group))
+
+    async def drop(self, tenant: int, group: GroupName) -> None:
+        """Drop a group at this node for good, with its log."""
+        await self.run(self.operations.drop(tenant, group))
+
+    async def say(
+        self,
+        tenant: int,
+        group: GroupName,
+        payload: bytes,
+        *,
+        number: Optional[int] = None,
+        repeated: bool = False,
+    ) -> int:
+        """Say a message in a group, and return its number.
+
+        A member's messages in a group are numbered from 1. A message carries its payload and
+        nothing else, also no time. Its number goes with the say wherever the client knows it, so
+        that the say can be sent again when its answer was lost: a number is given to one message
+        only.
+
+        The client knows a group's next number if it opened the group, if it has said something
+        there, by `set_number`, or if `number` is given. Else the say goes without a number, is
+        sent once, and teaches the next one.
+
+        What is certain:
+
+        - What is returned is the number of a message with this payload, which stands. It is this
+          say's own, unless a say was repeated (by the client after a lost connection, or with
+          `repeated`) and another client of the same member had said the very same bytes with this
+          number. Put something into the payload that tells clients apart if several speak for one
+          member.
+        - Where a refusal is raised the message was not said, and will not be.
+        - BadPlaceError to a say that was sent once means that it was not said: its number is not
+          the next one. Where the number was the client's own belief it says the message again,
+          without a number; where `number` was given it raises BadPlaceError.
+        - BadPlaceError to a say that was repeated: the member's own message with that number is
+          looked for in its log, for as long as the time limit, since some groups show it only when
+          it is delivered. With the same payload it is taken as this one; with another one this say
+          was not done, which is BadPlaceError again. If it is not found, or the node's number is
+          not known (`Tokens` without `node`), UnknownOutcomeError is raised, and so it is for each
+          other refusal after which a message may have been said.
+        - ConnectionFailedError, TimedOutError, BadReplyError and UnknownOutcomeError with
+          `is_unknown`: the message may or may not be said, once at most. If their `number` is not
+          None, `say` with this number and `repeated=True` goes on where it ended, also in another
+          client. Of a say without a number only the log can tell.
+
+        Numbers are one node's, as long as its server runs: a server that was started anew has none
+        of its messages. A payload of more than 4,096 bytes raises TooLongError and is not sent.
+        """
+        return await self._say_in_turn(tenant, group, payload, number, repeated)
+
+    def set_number(self, tenant: int, group: GroupName, number: int) -> None:
+        """Know the member's next number in a group: the next say comes with it."""
+        self.operations.set_number(tenant, group, number)
+
+    def next_number(self, tenant: int, group: GroupName) -> Optional[int]:
+        """Return the number of the next say in a group, or None if it is not known."""
+        return self.operations.next_number(tenant, group)
+
+    async def fetch(
+        self, tenant: int, group: GroupName, place: int = 0, most: int = MOST_ENTRIES
+    ) -> Tuple[Entry, ...]:
+        """Return at most `most` entries, up to 16, of a group's log, from a place on.
+
+        The first entry has place 0.
+        """
+        return await self.run(self.operations.fetch(tenant, group, place, most))
+
+    async def wait(
+        self, places: Sequence[Place], *, most: int = MOST_ENTRIES, seconds: float = FOLLOW_WAIT
+    ) -> Log:
+        """Wait in the server until one of some places has entries.
+
+        It waits at most `seconds`, 0 to 60. Each place, 1 to 16 of them, is a tenant, a group, and
+        the first place of its log that is wanted. They are looked at in turn. Returns the entries,
+        `most` at most, with the index of their place, or no entries.
+        """
+        return await self.run_apart(self.operations.wait(places, most, seconds))
+
+    async def follow(
+        self, tenant: int, group: GroupName, place: int = 0, *, idle: Optional[float] = None
+    ) -> AsyncIterator[Entry]:
+        """Yield the entries of a log from a place on, each once and in order, as they come.
+
+        It waits in the server, and connects again where the connection ended. It ends when nothing
+        came for `idle` seconds, and never if that is None. Nothing is asked while the caller has
+        an entry in hand. A server that was started anew has other logs: follow it from the start.
+        """
+        end = None if idle is None else time.monotonic() + idle
+        while True:
+            seconds = wait_until(end)
+            entries = (await self.wait([(tenant, group, place)], seconds=seconds)).entries
+            for entry in entries:
+                place += 1
+                yield entry
+            if entries and idle is not None:
+                end = time.monotonic() + idle
+            elif end is not None and time.monotonic() >= end:
+                return
+
+    async def status(self) -> Dict[str, int]:
+        """Return the figures of the node, each by its name. Needs the administrator's token."""
+        return await self.run(self.operations.status())
+
+    async def list_groups(self) -> Tuple[GroupRow, ...]:
+        """Return all groups that the node lists, room by room.
+
+        These are the groups that live there, and those that were dropped and whose place no later
+        generation took. Needs the administrator's token.
+        """
+        return await self.run(self.operations.list_groups())
+
+    async def list_page(self, start: int = 0, most: int = MOST_ROWS) -> Listing:
+        """Return how many groups the node lists, and some of them, by one request.
+
+        These are at most `most`, up to 64, from `start` on; the first is 0. They come room by
+        room, in the order in which the rooms began. Needs the administrator's token.
+        """
+        return await self.run(self.operations.list_page(start, most))
+
+    async def shutdown(self) -> None:
+        """Have the server end in order. Needs the administrator's token."""
+        await self.run(self.operations.shutdown())
+
+    def pipeline(self) -> AsyncPipeline:
+        """Return a context in which requests are sent ahead of their replies."""
+        return AsyncPipeline(self)
