@@ -121,9 +121,9 @@ def clients_of(base):
 
 def begin_groups(clients, kinds):
     for client in clients.values():
-        client.tenant(7, TENANT, groups=8, messages=1000, bytes=60000, window=1000)
+        client.add_tenant(7, TENANT, groups=8, messages=1000, total_bytes=60000, window=1000)
     for number, kind in enumerate(kinds, 1):
-        spec = Spec(kind, tuple(clients), messages=1000, bytes=60000, window=1000)
+        spec = Spec(kind, tuple(clients), messages=1000, total_bytes=60000, window=1000)
         Group(clients, 7, number, spec).start()
 
 
