@@ -9,7 +9,6 @@ use gb_host::{Seat, Tapes};
 use gb_loop::Ending;
 use gb_types::OutOfMemory;
 use std::alloc::Global;
-use std::fs::Files;
 use std::io::Write;
 use std::net::{Net, TcpListener, TcpStream};
 use std::sync::Wait;
@@ -66,7 +65,7 @@ fn join_desk<H: Threads>(rt: &H, threads: Vec<JoinHandle<()>>) {
 // As `hold_beside`, which lends what this thread does.
 fn hold<
     L: Tapes + Send + Sync,
-    H: Net<Listener = TcpListener, Stream = TcpStream> + Threads + Wait + Clock + Sync + Files,
+    H: Net<Listener = TcpListener, Stream = TcpStream> + Threads + Wait + Clock + Sync,
     E: Write + Send,
     T: Task<Output = B> + Drop,
     B,
@@ -139,7 +138,7 @@ fn hold<
 /// and no connection was served then.
 pub fn hold_beside<
     L: Tapes + Send + Sync,
-    H: Net<Listener = TcpListener, Stream = TcpStream> + Threads + Wait + Clock + Sync + Files,
+    H: Net<Listener = TcpListener, Stream = TcpStream> + Threads + Wait + Clock + Sync,
     E: Write + Send,
     G: FnMut() -> B,
     B: Drop,

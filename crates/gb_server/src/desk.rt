@@ -3,7 +3,6 @@ use crate::server_log::ServerLog;
 use crate::signals::Signals;
 use crate::status::StatusServer;
 use gb_loop::Ending;
-use std::fs::Files;
 use std::io::Write;
 use std::time::Clock;
 
@@ -23,7 +22,7 @@ impl Desk {
 
     /// Writes to `errors` what is new for the server's log, unless it is quiet, and answers each client that asks for the status, as
     /// far as it can now. Waits for nobody.
-    pub fn look<H: Clock + Files, E: Write>(&mut self, rt: &H, signals: &Signals, errors: &mut E) {
+    pub fn look<H: Clock, E: Write>(&mut self, rt: &H, signals: &Signals, errors: &mut E) {
         self.log.look(signals, errors);
         if let Some(status) = self.status.as_mut() {
             status.look(rt, signals.board(), signals.is_over());

@@ -18,7 +18,6 @@ use gb_port::PortSockets;
 use gb_types::memory::put_bytes;
 use gb_types::{NodeId, OutOfMemory};
 use std::alloc::Global;
-use std::fs::Files;
 use std::io::Write;
 use std::net::{Net, TcpListener, TcpStream};
 use std::sync::Wait;
@@ -100,7 +99,7 @@ fn desk_of<H: Clock>(
 /// `Write` if the line could not be written; and with `Unrecorded` if a record could not be written.
 pub fn run<
     L: Tapes + Send + Sync,
-    H: Net<Listener = TcpListener, Stream = TcpStream> + Threads + Wait + Clock + Sync + Files,
+    H: Net<Listener = TcpListener, Stream = TcpStream> + Threads + Wait + Clock + Sync,
     R: Input,
     W: Write,
     E: Write + Send,

@@ -1,5 +1,4 @@
 //! Who asks for the status of a server by HTTP, and how they are answered: a thread looks at them now and then, and waits for none.
-use crate::process::process_of;
 use crate::pulse::{Cluster, Pulses};
 use gb_loop::LoopClock;
 use gb_status::facts::facts_text;
@@ -9,7 +8,6 @@ use gb_types::OutOfMemory;
 use gb_types::memory::put_bytes;
 use gb_version::VERSION;
 use std::alloc::Global;
-use std::fs::Files;
 use std::io::{ErrorKind, Read, Write};
 use std::net::{Shutdown, SocketAddr, TcpListener, TcpStream};
 use std::time::Clock;
@@ -82,23 +80,20 @@ struct Telling<'a> {
 }
 
 // Returns what the server tells of itself, and which nodes have noticed which.
-fn facts_by<F: Files>(
-    files: &F,
+fn facts_by(
     alloc: Global,
     telling: Telling<'_>,
 ) -> Result<Vec<u8>, OutOfMemory> {
     let facts = Facts {
         version: VERSION.as_bytes(),
         started: telling.started,
-        process: process_of(files, alloc),
     };
     let noticed = telling.board.all_noticed(alloc)?;
     facts_text(alloc, &facts, &noticed)
 }
 
 // Returns the answer to the bytes of a request, by what stands at a board; None: more are waited for.
-fn reply_by<F: Files>(
-    files: &F,
+fn reply_by(
     alloc: Global,
     bytes: &[u8],
     may_come: bool,
@@ -107,14 +102,14 @@ fn reply_by<F: Files>(
     let all = telling.board.all(alloc)?;
     let mut facts = Vec::new(alloc);
     if asked_for(bytes) == Asked::Metrics {
-        facts = facts_by(files, alloc, telling)?;
+        facts = facts_by(alloc, telling)?;
     }
     reply(alloc, bytes, may_come, &all, &facts, telling.health)
 }
 
 impl StatusClient {
     // Reads what came of the request, and makes the answer once it is whole. Returns false if the client is lost.
-    fn hear<F: Files>(&mut self, files: &F, alloc: Global, telling: Telling<'_>) -> bool {
+    fn hear(&mut self, alloc: Global, telling: Telling<'_>) -> bool {
         let mut space = [0u8; MOST];
         let mut reader = &self.stream;
         let count = match reader.read(&mut space) {
@@ -128,7 +123,7 @@ impl StatusClient {
             return false;
         }
         let may_come = count > 0 && self.bytes.len() < MOST;
-        match reply_by(files, alloc, &self.bytes, may_come, telling) {
+        match reply_by(alloc, &self.bytes, may_come, telling) {
             Ok(Some(answer)) => {
                 self.bytes = answer;
                 self.stage = Stage::IsTold;
@@ -176,11 +171,11 @@ impl StatusClient {
     }
 
     // Does what there is to do. Returns false if the client is served or lost.
-    fn look<F: Files>(&mut self, files: &F, alloc: Global, telling: Telling<'_>, now: u64) -> bool {
+    fn look(&mut self, alloc: Global, telling: Telling<'_>, now: u64) -> bool {
         if now >= self.until {
             return false;
         }
-        if self.stage == Stage::Asks && !self.hear(files, alloc, telling) {
+        if self.stage == Stage::Asks && !self.hear(alloc, telling) {
             return false;
         }
         if self.stage == Stage::IsTold && !self.tell() {
@@ -244,7 +239,7 @@ impl StatusServer {
     /// Takes in new clients that ask for the status, and answers each client as far as it can now, with the figures of `board`. Drops
     /// clients that are served or lost, and those that came 2 seconds ago or earlier. `is_over` says that the server ends. Waits for
     /// nobody.
-    pub fn look<H: Clock + Files>(&mut self, rt: &H, board: &Board, is_over: bool) {
+    pub fn look<H: Clock>(&mut self, rt: &H, board: &Board, is_over: bool) {
         let now = self.clock.now(rt);
         self.accept(now);
         let telling = Telling {
@@ -255,7 +250,7 @@ impl StatusServer {
         let clients = std::mem::replace(&mut self.clients, Vec::new(self.alloc));
         for client in clients {
             let mut client = client;
-            if client.look(rt, self.alloc, telling, now) {
+            if client.look(self.alloc, telling, now) {
                 let _ = self.clients.push(client);
             }
         }

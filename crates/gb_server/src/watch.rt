@@ -10,7 +10,6 @@ use crate::orders::heed;
 use crate::signals::{Signals, Why};
 use crate::told::tell;
 use gb_loop::Ending;
-use std::fs::Files;
 use std::io::Write;
 use std::sync::Wait;
 use std::thread;
@@ -56,7 +55,7 @@ pub struct Attending<'a, E> {
 }
 
 // Serves a desk until the threads of all loops have ended.
-fn serve_desk<H: Wait + Clock + Files, E: Write>(
+fn serve_desk<H: Wait + Clock, E: Write>(
     rt: &H,
     signals: &Signals,
     desk: &mut Desk,
@@ -76,7 +75,7 @@ fn serve_desk<H: Wait + Clock + Files, E: Write>(
 /// Writes the first line of the server's log once the loops of all nodes have begun. Then writes what is new for the log, and answers
 /// who asks for the status, until the threads of all loops have ended. Does nothing if a thread could not be made or a loop could not
 /// begin.
-pub fn attend<H: Wait + Clock + Files, E: Write>(
+pub fn attend<H: Wait + Clock, E: Write>(
     rt: &H,
     signals: &Signals,
     attending: Attending<'_, E>,

@@ -6,7 +6,7 @@ use gb_status::facts::facts_text;
 use gb_status::figure::{COUNT, FIGURES};
 use gb_status::http::{answer, asked_for};
 use gb_status::text::{metrics_text, status_text};
-use gb_status::{Asked, Board, Facts, Figure, Figures, Health, NodeFigures, NodeNoticed, Process};
+use gb_status::{Asked, Board, Facts, Figure, Figures, Health, NodeFigures, NodeNoticed};
 use gb_types::{NodeId, NodeSet};
 use std::alloc::Global;
 use std::rt::HostRuntime;
@@ -95,17 +95,6 @@ foqradesh_build_info{version=\"0.1.0\"} 1\n\
 # TYPE process_start_time_seconds gauge\n\
 process_start_time_seconds 1764547200\n";
 
-// What it tells of its process.
-static PROCESS: &[u8] = b"# HELP process_resident_memory_bytes Resident memory size in bytes.\n\
-# TYPE process_resident_memory_bytes gauge\n\
-process_resident_memory_bytes 8192\n\
-# HELP process_open_fds Number of open file descriptors.\n\
-# TYPE process_open_fds gauge\n\
-process_open_fds 21\n\
-# HELP process_cpu_seconds_total Total user and system CPU time spent in seconds.\n\
-# TYPE process_cpu_seconds_total counter\n\
-process_cpu_seconds_total 12.05\n";
-
 // A row of a node that has noticed two others.
 fn noticed(number: u8, first: u8, second: u8) -> NodeNoticed
     requires own { number < 32 }
@@ -124,21 +113,12 @@ fn noticed(number: u8, first: u8, second: u8) -> NodeNoticed
 #[test]
 fn a_server_tells_of_itself(rt: HostRuntime) {
     let rows = [noticed(0, 31, 1), noticed(2, 0, 0)];
-    let mut facts = Facts {
+    let facts = Facts {
         version: b"0.1.0",
         started: 1_764_547_200,
-        process: None,
     };
     let text = facts_text(rt.alloc(), &facts, &rows).expect(&rt, "memory");
     assert!(rt; text.as_slice() == FACTS);
-    facts.process = Some(Process {
-        memory: 8_192,
-        descriptors: 21,
-        hundredths: 1_205,
-    });
-    let more = facts_text(rt.alloc(), &facts, &rows).expect(&rt, "memory");
-    assert!(rt; more.starts_with(FACTS) && more.ends_with(PROCESS));
-    assert!(rt; more.len() == FACTS.len() + PROCESS.len());
 }
 
 // Heads, and what they ask for.

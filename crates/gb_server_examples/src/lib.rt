@@ -25,8 +25,6 @@ mod nodes;
 #[cfg(test)]
 mod plans;
 #[cfg(test)]
-mod processes;
-#[cfg(test)]
 mod pulses;
 #[cfg(test)]
 mod recorded;

@@ -1,23 +1,12 @@
-//! What a server says of itself beside the figures of its nodes: its version, its start, its process, and which node has noticed which.
+//! What a server says of itself beside the figures of its nodes: its version, its start, and which node has noticed which.
 ghost use Rattle.std.specs.Prelude.{◌≡◌, ◌++◌, IfOk, OnOk, decimal};
 ghost use Rattle.gb_types.specs.Common.{rising};
-ghost use Rattle.gb_status.specs.Facts.{build_front, build_text, descriptors_front, facts_text, known_process, memory_front, noticed_line, noticed_text, number_line, process_text, quoted, row_text, seconds_text, started_front, suspected_front, suspected_head, time_front, time_text};
+ghost use Rattle.gb_status.specs.Facts.{build_front, build_text, facts_text, noticed_line, noticed_text, number_line, quoted, row_text, started_front, suspected_front, suspected_head};
 
 use gb_spelling::number::put_number;
 use gb_types::memory::put_bytes;
 use gb_types::{NodeId, NodeSet, OutOfMemory};
 use std::alloc::Global;
-
-/// What the system says of a process.
-#[derive(Clone, Copy, Debug, PartialEq, Eq)]
-pub struct Process {
-    /// The bytes of its memory that are in the machine's.
-    pub memory: u64,
-    /// How many descriptors it holds.
-    pub descriptors: u64,
-    /// The processor time that it took, in hundredths of a second.
-    pub hundredths: u64,
-}
 
 /// What a server says of itself.
 #[derive(Clone, Copy)]
@@ -26,8 +15,6 @@ pub struct Facts<'a> {
     pub version: &'a [u8],
     /// When it started, in seconds since the beginning of the year 1970.
     pub started: u64,
-    /// What the system says of its process. `None`: it does not say.
-    pub process: Option<Process>,
 }
 
 /// The nodes that a node holds for crashed (noticed as crashed).
@@ -51,30 +38,6 @@ fn started_front() -> &'static [u8]
     ensures { result.now ≡ started_front }
 {
     b"# HELP process_start_time_seconds Start time of the process since unix epoch in seconds.\n# TYPE process_start_time_seconds gauge\nprocess_start_time_seconds "
-}
-
-// Returns what stands in front of the bytes of memory.
-#[tactic(auto, unfolding(crate::specs::Facts::memory_front))]
-fn memory_front() -> &'static [u8]
-    ensures { result.now ≡ memory_front }
-{
-    b"# HELP process_resident_memory_bytes Resident memory size in bytes.\n# TYPE process_resident_memory_bytes gauge\nprocess_resident_memory_bytes "
-}
-
-// Returns what stands in front of the number of descriptors.
-#[tactic(auto, unfolding(crate::specs::Facts::descriptors_front))]
-fn descriptors_front() -> &'static [u8]
-    ensures { result.now ≡ descriptors_front }
-{
-    b"# HELP process_open_fds Number of open file descriptors.\n# TYPE process_open_fds gauge\nprocess_open_fds "
-}
-
-// Returns what stands in front of the processor time.
-#[tactic(auto, unfolding(crate::specs::Facts::time_front))]
-fn time_front() -> &'static [u8]
-    ensures { result.now ≡ time_front }
-{
-    b"# HELP process_cpu_seconds_total Total user and system CPU time spent in seconds.\n# TYPE process_cpu_seconds_total counter\nprocess_cpu_seconds_total "
 }
 
 // Returns the lines above the nodes that are noticed.
@@ -118,44 +81,6 @@ fn put_build(out: &mut Vec<u8>, version: &[u8]) -> Result<(), OutOfMemory>
     put_bytes(out, build_front())?;
     put_quoted(out, version)?;
     put_bytes(out, b"} 1\n")
-}
-
-// Appends hundredths of a second as seconds.
-fn put_seconds(out: &mut Vec<u8>, hundredths: u64) -> Result<(), OutOfMemory>
-    ensures { OnOk result (out.new.items ≡ out.old.items ++ seconds_text hundredths) }
-{
-    put_number(out, hundredths / 100)?;
-    put_bytes(out, b".")?;
-    put_number(out, hundredths / 10 % 10)?;
-    put_number(out, hundredths % 10)
-}
-
-// Appends the processor time of the process.
-fn put_time(out: &mut Vec<u8>, hundredths: u64) -> Result<(), OutOfMemory>
-    ensures { OnOk result (out.new.items ≡ out.old.items ++ time_text hundredths) }
-{
-    put_bytes(out, time_front())?;
-    put_seconds(out, hundredths)?;
-    put_bytes(out, b"\n")
-}
-
-// Appends what the system says of the process.
-fn put_process(out: &mut Vec<u8>, process: Process) -> Result<(), OutOfMemory>
-    ensures { OnOk result (out.new.items ≡ out.old.items ++ process_text process) }
-{
-    put_number_line(out, memory_front(), process.memory)?;
-    put_number_line(out, descriptors_front(), process.descriptors)?;
-    put_time(out, process.hundredths)
-}
-
-// Appends what the system says of the process, if it does.
-fn put_known(out: &mut Vec<u8>, process: Option<Process>) -> Result<(), OutOfMemory>
-    ensures { OnOk result (out.new.items ≡ out.old.items ++ known_process process) }
-{
-    match process {
-        Some(process) => put_process(out, process),
-        None => Ok(()),
-    }
 }
 
 // Appends a number in quotation marks.
@@ -212,6 +137,5 @@ pub fn facts_text(
     put_rows(&mut out, rows)?;
     put_build(&mut out, facts.version)?;
     put_number_line(&mut out, started_front(), facts.started)?;
-    put_known(&mut out, facts.process)?;
     Ok(out)
 }

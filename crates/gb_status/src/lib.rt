@@ -15,7 +15,7 @@ pub mod news;
 pub mod text;
 
 pub use board::Board;
-pub use facts::{Facts, NodeNoticed, Process};
+pub use facts::{Facts, NodeNoticed};
 pub use figure::Figure;
 pub use figures::{Figures, NodeFigures};
 pub use health::{Health, NodeHealth};
