@@ -1,7 +1,8 @@
 //! How much tenants may ask, from the words of a command line to the loops.
-ghost use Rattle.std.specs.Prelude.{◌≡◌};
+ghost use Rattle.std.specs.Prelude.{◌≡◌, map};
 ghost use Rattle.gb_server.specs.Behaviour.{rate_by, rates_by, row_by};
 
+use gb_loop::rates::NAMED;
 use gb_loop::{Rate, RateLimits, TenantRate};
 use gb_serve_words::{NamedLimit, TenantLimit, TenantLimits};
 
@@ -29,13 +30,24 @@ fn row_by(row: Option<NamedLimit>) -> Option<TenantRate>
     }
 }
 
+// Returns the rows of the tenants with rates of their own.
+#[tactic(auto, using(std::proofs::lemmas::List::take_more_set, crate::proofs::RateLemmas::map_more, crate::proofs::RateLemmas::all_taken))]
+fn rows_by(named: &[Option<NamedLimit>; NAMED]) -> [Option<TenantRate>; NAMED]
+    ensures { result ≡ map row_by named.now }
+{
+    let mut rows: [Option<TenantRate>; NAMED] = [None; NAMED];
+    'rows: for at in 0..NAMED {
+        rows[at] = row_by(named[at]);
+    }
+    rows
+}
+
 /// Returns how much each tenant may ask at a node, as the words of a command line say.
 pub fn rates_by(limits: TenantLimits) -> RateLimits
     ensures { result ≡ rates_by limits }
 {
-    let named = limits.named;
     RateLimits {
         each: rate_by(limits.each),
-        named: named.map(row_by),
+        named: rows_by(&limits.named),
     }
 }
