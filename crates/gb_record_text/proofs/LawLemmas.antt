@@ -5,11 +5,12 @@ use Rattle.gb_spelling.specs.Common.{OneTextOneReply, OneWordOneKind, IsShort, w
 use Rattle.gb_types.specs.declared.{node.NodeId.NodeId, version.Version.Version, version.Version.TheVariants.One, version.Version.TheVariants.Two, version.Version.TheVariants.Three}
 use Rattle.gb_spelling.proofs.CutLemmas.{Without, cut}
 use Rattle.gb_node.specs.declared.tape.TapeEntry.{TapeEntry}
-use Rattle.gb_record_text.specs.Fits.{FitsEntry, FitsHead}
-use Rattle.gb_record_text.specs.Laws.{IsAnswered, Answers, OneLineOneEntry, SameLinesSameEntries, OneTextOneRecord}
-use Rattle.gb_record_text.specs.RecordText.{event_text, answer_text, entry_line, entry_lines, head_line, last_line}
-use Rattle.gb_record_text.specs.declared.head.RecordHead.{RecordHead}
-use Rattle.gb_record_text.proofs.SplitLemmas.{IsGap, blank, feed, front, front-append, EachLacks, each_append, lacks_front, lacks_literal, lacks_number, lacks_node, same_words, same_line, same_node, word_at}
+use Rattle.hex.specs.Hex.{encode_lower}
+use Rattle.gb_record_text.specs.Fits.{FitsEntry, FitsHead, FitsPart}
+use Rattle.gb_record_text.specs.Laws.{IsAnswered, Answers, OneLineOneEntry, SameLinesSameEntries, OneTextOneRecord, OneLineOnePart}
+use Rattle.gb_record_text.specs.RecordText.{event_text, answer_text, entry_line, entry_lines, head_line, part_line, sync_word, last_line}
+use Rattle.gb_record_text.specs.declared.{head.RecordHead.RecordHead, part_head.PartHead.PartHead}
+use Rattle.gb_record_text.proofs.SplitLemmas.{IsGap, blank, feed, front, front-append, EachLacks, each_append, lacks_front, lacks_literal, lacks_number, lacks_node, lacks_hex, same_words, same_line, same_node, same_hex, word_at}
 use Rattle.gb_record_text.proofs.EventLemmas.{event_words, event_front, event_lacks, same_event}
 use Rattle.gb_record_text.proofs.AnswerLemmas.{same_answer, answer_lacks}
 
@@ -121,16 +122,65 @@ head_no_feed : (h : RecordHead) → FitsHead h → Without 10 (head_line h)
 head_no_feed h fits =
     subst (Without 10) (sym (head_front h)) (lacks_front 10 (λ same. absurd (omega (arith, same))) (head_words h) (decimal h.room) (head_lacks 10 feed h fits) (lacks_number 10 feed h.room (short h.room fits.room)))
 
+same_fields : (g h : RecordHead) → FitsHead g → FitsHead h → decimal g.node.number ≡ decimal h.node.number → decimal g.nodes ≡ decimal h.nodes → decimal g.silence ≡ decimal h.silence → decimal g.places ≡ decimal h.places
+    → decimal (limits_of g.version).byte ≡ decimal (limits_of h.version).byte → decimal g.room ≡ decimal h.room → g ≡ h
+same_fields g h fg fh is_node is_nodes is_silence is_places is_version is_room =
+    let node = same_node g.node h.node is_node in
+    let nodes = decimal_injective g.nodes h.nodes (short g.nodes fg.nodes) (short h.nodes fh.nodes) is_nodes in
+    let silence = decimal_injective g.silence h.silence (short g.silence fg.silence) (short h.silence fh.silence) is_silence in
+    let places = decimal_injective g.places h.places (short g.places fg.places) (short h.places fh.places) is_places in
+    let version = same_version g.version h.version (decimal_injective (limits_of g.version).byte (limits_of h.version).byte (byte_small g.version) (byte_small h.version) is_version) in
+    let room = decimal_injective g.room h.room (short g.room fg.room) (short h.room fh.room) is_room in
+    λ i. record { node = node i; nodes = nodes i; silence = silence i; places = places i; version = version i; room = room i }
+
 same_head : (g h : RecordHead) → FitsHead g → FitsHead h → head_line g ≡ head_line h → g ≡ h
 same_head g h fg fh e =
     let words = same_words (head_words g) (head_words h) (decimal g.room) (decimal h.room) (head_lacks 32 blank g fg) (head_lacks 32 blank h fh) (sym (head_front g) ∙ (e ∙ head_front h)) in
-    let node = same_node g.node h.node (ap (word_at 2) words) in
-    let nodes = decimal_injective g.nodes h.nodes (short g.nodes fg.nodes) (short h.nodes fh.nodes) (ap (word_at 3) words) in
-    let silence = decimal_injective g.silence h.silence (short g.silence fg.silence) (short h.silence fh.silence) (ap (word_at 4) words) in
-    let places = decimal_injective g.places h.places (short g.places fg.places) (short h.places fh.places) (ap (word_at 5) words) in
-    let version = same_version g.version h.version (decimal_injective (limits_of g.version).byte (limits_of h.version).byte (byte_small g.version) (byte_small h.version) (ap (word_at 6) words)) in
-    let room = decimal_injective g.room h.room (short g.room fg.room) (short h.room fh.room) (same_line (decimal g.room) (decimal h.room) (ap (drop 7) words)) in
-    λ i. record { node = node i; nodes = nodes i; silence = silence i; places = places i; version = version i; room = room i }
+    same_fields g h fg fh (ap (word_at 2) words) (ap (word_at 3) words) (ap (word_at 4) words) (ap (word_at 5) words) (ap (word_at 6) words) (same_line (decimal g.room) (decimal h.room) (ap (drop 7) words))
+
+-- First lines of parts.
+
+abbrev part_words : PartHead → List (List ℕ)
+part_words h =
+    let c = h.cluster in
+    codes "tape" ∷ codes "2" ∷ decimal c.node.number ∷ decimal c.nodes ∷ decimal c.silence ∷ decimal c.places ∷ decimal (limits_of c.version).byte ∷ decimal c.room ∷ decimal h.part ∷ decimal h.before ∷ encode_lower h.boot ∷ sync_word h.syncs ∷ []
+
+pub part_parts : (k s a b c d v r p e o y t : List ℕ) → k ++ (s ++ a) ++ (s ++ b) ++ (s ++ c) ++ (s ++ d) ++ (s ++ v) ++ (s ++ r) ++ (s ++ p) ++ (s ++ e) ++ (s ++ o) ++ (s ++ y) ++ (s ++ t)
+    ≡ k ++ (s ++ (a ++ (s ++ (b ++ (s ++ (c ++ (s ++ (d ++ (s ++ (v ++ (s ++ (r ++ (s ++ (p ++ (s ++ (e ++ (s ++ (o ++ (s ++ (y ++ (s ++ t)))))))))))))))))))))
+part_parts k s a b c d v r p e o y t = simp append_assoc
+
+part_front : (h : PartHead) → part_line h ≡ front (part_words h) (encode_lower h.tag)
+part_front h =
+    let c = h.cluster in
+    part_parts (codes "tape 2") (codes " ") (decimal c.node.number) (decimal c.nodes) (decimal c.silence) (decimal c.places) (decimal (limits_of c.version).byte) (decimal c.room) (decimal h.part) (decimal h.before) (encode_lower h.boot) (sync_word h.syncs) (encode_lower h.tag)
+
+sync_lacks : (c : ℕ) → IsGap c → (b : Bool) → Without c (sync_word b)
+sync_lacks c gap true = lacks_literal c gap (codes "sync") refl
+sync_lacks c gap false = lacks_literal c gap (codes "nosync") refl
+
+same_sync : (a b : Bool) → sync_word a ≡ sync_word b → a ≡ b
+same_sync true true e = refl
+same_sync false false e = refl
+same_sync true false e = cc
+same_sync false true e = cc
+
+part_lacks : (c : ℕ) → IsGap c → (h : PartHead) → FitsPart h → EachLacks c (part_words h)
+part_lacks c gap h fits =
+    let g = h.cluster in
+    let f = fits.cluster in
+    let numbers : EachLacks c (decimal h.part ∷ decimal h.before ∷ encode_lower h.boot ∷ sync_word h.syncs ∷ []) = (lacks_number c gap h.part (omega (arith, fits.part)), (lacks_number c gap h.before fits.before, (lacks_hex c gap h.boot fits.boot, (sync_lacks c gap h.syncs, tt)))) in
+    (lacks_literal c gap (codes "tape") refl, (lacks_literal c gap (codes "2") refl, (lacks_node c gap g.node, (lacks_number c gap g.nodes (short g.nodes f.nodes), (lacks_number c gap g.silence (short g.silence f.silence), (lacks_number c gap g.places (short g.places f.places), (lacks_number c gap (limits_of g.version).byte (byte_small g.version), (lacks_number c gap g.room (short g.room f.room), numbers))))))))
+
+pub same_part : OneLineOnePart
+same_part g h fg fh e =
+    let words = same_words (part_words g) (part_words h) (encode_lower g.tag) (encode_lower h.tag) (part_lacks 32 blank g fg) (part_lacks 32 blank h fh) (sym (part_front g) ∙ (e ∙ part_front h)) in
+    let cluster = same_fields g.cluster h.cluster fg.cluster fh.cluster (ap (word_at 2) words) (ap (word_at 3) words) (ap (word_at 4) words) (ap (word_at 5) words) (ap (word_at 6) words) (ap (word_at 7) words) in
+    let part = decimal_injective g.part h.part (omega (arith, fg.part)) (omega (arith, fh.part)) (ap (word_at 8) words) in
+    let before = decimal_injective g.before h.before fg.before fh.before (ap (word_at 9) words) in
+    let boot = same_hex g.boot h.boot fg.boot fh.boot (ap (word_at 10) words) in
+    let syncs = same_sync g.syncs h.syncs (ap (word_at 11) words) in
+    let tag = same_hex g.tag h.tag fg.tag fh.tag (same_line (encode_lower g.tag) (encode_lower h.tag) (ap (drop 12) words)) in
+    λ i. record { cluster = cluster i; part = part i; before = before i; boot = boot i; syncs = syncs i; tag = tag i }
 
 pub same_record : OneTextOneReply → OneWordOneKind → OneTextOneRecord
 same_record one_reply one_kind r s text fr fs ar as_ ir is =

@@ -6,3 +6,4 @@ pub mod SplitLemmas
 pub mod EventLemmas
 pub mod AnswerLemmas
 pub mod LawLemmas
+pub mod JoinLemmas

@@ -6,7 +6,7 @@ use Rattle.gb_types.specs.Common.{AreNodes}
 use Rattle.gb_types.specs.declared.{address.Addr.Addr, new_message.NewMessage.NewMessage, request.Action.Action, request.Action.TheVariants.AddTenant, request.Action.TheVariants.Group, request.GroupCommand.GroupCommand, request.Request.Request, spec.Spec.Spec, spec.TenantRow.TenantRow, request.GroupCommand.TheVariants.Make, request.GroupCommand.TheVariants.Say, request.GroupCommand.TheVariants.Fetch}
 use Rattle.gb_node.specs.declared.{answer.NodeAnswer.NodeAnswer, answer.PacketAnswer.TheVariants.Good as TakenGood, answer.Sent.TheVariants.Packet as SentPacket, answer.Ticked.TheVariants.Noticed, event.NodeEvent.NodeEvent, tape.TapeEntry.TapeEntry, event.NodeEvent.TheVariants.Request as Asked, event.NodeEvent.TheVariants.Packet as Came, event.NodeEvent.TheVariants.Again}
 use Rattle.gb_node.specs.declared.answer.NodeAnswer.TheVariants.{Reply as Replied, Taken, Sent, Ticked}
-use Rattle.gb_record_text.specs.declared.{head.RecordHead.RecordHead, reader.Record.Record}
+use Rattle.gb_record_text.specs.declared.{head.RecordHead.RecordHead, part_head.PartHead.PartHead, reader.Record.Record}
 
 abbrev pub FitsAddress : Addr → Type 0
 FitsAddress addr = IsShort addr.tenant × IsGroup addr
@@ -65,6 +65,13 @@ pub record FitsHead (h : RecordHead) : Type 0 where
   pub silence : IsShort h.silence
   pub places : IsShort h.places
   pub room : IsShort h.room
+
+pub record FitsPart (h : PartHead) : Type 0 where
+  pub cluster : FitsHead h.cluster
+  pub part : IsLong h.part
+  pub before : h.before < 2 ^ 64
+  pub boot : IsBytes h.boot
+  pub tag : IsBytes h.tag
 
 pub record FitsRecord (r : Record) : Type 0 where
   pub head : FitsHead r.head

@@ -5,10 +5,10 @@ use Rattle.gb_node.specs.Common.{IsTurn, NodeValue}
 use Rattle.gb_node.specs.declared.{answer.NodeAnswer.NodeAnswer, event.NodeEvent.NodeEvent, tape.TapeEntry.TapeEntry}
 use Rattle.gb_node.specs.declared.answer.NodeAnswer.TheVariants.{Reply as Replied, Taken, Sent, Ticked, Halted as Halts}
 use Rattle.gb_node.specs.declared.event.NodeEvent.TheVariants.{Request as Asked, Packet as Came, Pack, Again, Ack, Tick, Stop}
-use Rattle.gb_record_text.specs.Fits.{FitsEntry, FitsRecord}
-use Rattle.gb_record_text.specs.RecordText.{entry_line, entry_lines}
+use Rattle.gb_record_text.specs.Fits.{FitsEntry, FitsPart, FitsRecord}
+use Rattle.gb_record_text.specs.RecordText.{entry_line, entry_lines, part_line}
 use Rattle.gb_record_text.specs.Records.{IsRecord}
-use Rattle.gb_record_text.specs.declared.reader.Record.{Record}
+use Rattle.gb_record_text.specs.declared.{part_head.PartHead.PartHead, reader.Record.Record}
 
 -- the answer is one to this kind of event
 abbrev pub Answers : NodeEvent → NodeAnswer → Type 0
@@ -49,3 +49,7 @@ pub record AreSame (r s : Record) : Type 0 where
 abbrev pub OneTextOneRecord : Type 0
 OneTextOneRecord =
     (r s : Record) (text : List ℕ) → FitsRecord r → FitsRecord s → All IsAnswered r.entries.items → All IsAnswered s.entries.items → IsRecord r text → IsRecord s text → AreSame r s
+
+-- two parts with one first line say the same there
+abbrev pub OneLineOnePart : Type 0
+OneLineOnePart = (g h : PartHead) → FitsPart g → FitsPart h → part_line g ≡ part_line h → g ≡ h

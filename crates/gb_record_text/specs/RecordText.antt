@@ -1,5 +1,6 @@
 -- The text of a node's record: a line for each entry of its tape, in the words of a schedule and its answers, with tokens, keys and packets in full.
-use Rattle.std.specs.Prelude.{ℕ, List, [], ◌∷◌, ◌++◌, Option, Some, None, codes, decimal}
+use Rattle.gb_types.specs.Common.{zero, suc}
+use Rattle.std.specs.Prelude.{ℕ, Bool, true, false, List, [], ◌∷◌, ◌++◌, Option, Some, None, codes, decimal}
 use Rattle.hex.specs.Hex.{encode_lower}
 use Rattle.gb_spelling.specs.Common.{head_word, kind_word, payload_word, reply_spelling, members_word, group_word}
 use Rattle.gb_types.specs.declared.{address.Addr.Addr, node.NodeId.NodeId, reply.Reply.TheVariants.Refused, request.Action.Action, request.Action.TheVariants.AddTenant, request.Action.TheVariants.Group, request.GroupCommand.GroupCommand, request.Request.Request, spec.Spec.Spec, spec.TenantRow.TenantRow, new_message.NewMessage.NewMessage}
@@ -9,7 +10,7 @@ use Rattle.gb_node.specs.declared.{answer.NodeAnswer.NodeAnswer, answer.PacketAn
 use Rattle.gb_node.specs.declared.answer.NodeAnswer.TheVariants.{Reply as Replied, Taken, Sent, Ticked, Halted as Halts}
 use Rattle.gb_node.specs.declared.event.NodeEvent.TheVariants.{Request as Asked, Packet as Came, Pack, Again, Ack, Tick, Stop}
 use Rattle.gb_types.specs.Common.{limits_of}
-use Rattle.gb_record_text.specs.declared.head.RecordHead.{RecordHead}
+use Rattle.gb_record_text.specs.declared.{head.RecordHead.RecordHead, part_head.PartHead.PartHead}
 use Rattle.gb_answer_text.specs.AnswerText.{good_spelling, fault_spelling, ticked_spelling, halted_spelling}
 
 -- a word after a space
@@ -112,9 +113,29 @@ abbrev pub entry_lines : NodeId → List TapeEntry → List ℕ
 entry_lines b [] = []
 entry_lines b (e ∷ es) = entry_line b e ++ 10 ∷ entry_lines b es
 
+-- a text, and behind it ` NODE NODES SILENCE PLACES VERSION ROOM`
+abbrev pub with_cluster : List ℕ → RecordHead → List ℕ
+with_cluster text h = text ++ after_space (decimal h.node.number) ++ after_space (decimal h.nodes) ++ after_space (decimal h.silence) ++ after_space (decimal h.places) ++ after_space (decimal (limits_of h.version).byte) ++ after_space (decimal h.room)
+
 -- what a record says of its node and its cluster: `tape 1 NODE NODES SILENCE PLACES VERSION ROOM`
 abbrev pub head_line : RecordHead → List ℕ
-head_line h = codes "tape 1" ++ after_space (decimal h.node.number) ++ after_space (decimal h.nodes) ++ after_space (decimal h.silence) ++ after_space (decimal h.places) ++ after_space (decimal (limits_of h.version).byte) ++ after_space (decimal h.room)
+head_line h = with_cluster (codes "tape 1") h
+
+abbrev pub sync_word : Bool → List ℕ
+sync_word true = codes "sync"
+sync_word false = codes "nosync"
+
+-- what a part says besides: `tape 2 NODE NODES SILENCE PLACES VERSION ROOM PART BEFORE BOOT SYNC TAG`
+abbrev pub part_line : PartHead → List ℕ
+part_line h = with_cluster (codes "tape 2") h.cluster ++ after_space (decimal h.part) ++ after_space (decimal h.before) ++ after_space (encode_lower h.boot) ++ after_space (sync_word h.syncs) ++ after_space (encode_lower h.tag)
+
+-- the name of a part's file: `run-RUN-node-NODE.record`, and with `.PART` behind NODE if it is not part 0
+abbrev pub part_suffix : ℕ → List ℕ
+part_suffix zero = []
+part_suffix (suc part) = codes "." ++ decimal (suc part)
+
+abbrev pub part_name : ℕ → NodeId → ℕ → List ℕ
+part_name run b part = codes "run-" ++ decimal run ++ codes "-node-" ++ decimal b.number ++ part_suffix part ++ codes ".record"
 
 -- the line behind a tape that is whole
 abbrev pub last_line : List ℕ

@@ -4,9 +4,10 @@ ghost use Rattle.hex.specs.Hex.{IsBytes};
 ghost use Rattle.gb_spelling.specs.Common.{FitsReply, IsLong};
 ghost use Rattle.gb_spelling.specs.Laws.{FitsEntry as FitsLogEntry};
 ghost use Rattle.gb_types.specs.Common.{AreNodes};
-ghost use Rattle.gb_record_text.specs.Fits.{FitsAddress, FitsRow, FitsSpec, FitsMessage, FitsCommand, FitsAction, FitsRequest, FitsEvent, FitsAnswer, FitsEntry, FitsHead};
+ghost use Rattle.gb_record_text.specs.Fits.{FitsAddress, FitsRow, FitsSpec, FitsMessage, FitsCommand, FitsAction, FitsRequest, FitsEvent, FitsAnswer, FitsEntry, FitsHead, FitsPart};
 
 use crate::head::RecordHead;
+use crate::part_head::PartHead;
 use gb_node::{Good, NodeAnswer, NodeEvent, PacketAnswer, Sent, TapeEntry, Ticked};
 use gb_types::{
     Action, Addr, Entry, GroupCommand, NewMessage, NodeSet, Reply, Request, Spec, TenantRow,
@@ -193,4 +194,15 @@ pub(crate) fn head_fits(head: &RecordHead)
     let _silence = head.silence;
     let _places = head.places;
     let _room = head.room;
+}
+
+/// The numbers of a part's first line are within their types.
+pub(crate) fn part_fits(head: &PartHead)
+    ensures { FitsPart head.now }
+{
+    head_fits(&head.cluster);
+    let _part = head.part;
+    let _before = head.before;
+    bytes_fit(head.boot.as_slice());
+    key_fits(&head.tag);
 }

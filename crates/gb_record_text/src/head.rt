@@ -1,6 +1,6 @@
 //! The first line of a record. It names the node and says what its cluster was made with.
-ghost use Rattle.std.specs.Prelude.{◌≡◌, ◌++◌, OnOk, IfOk, IfSome};
-ghost use Rattle.gb_record_text.specs.RecordText.{head_line};
+ghost use Rattle.std.specs.Prelude.{◌≡◌, ◌↔◌, ◌++◌, OnOk, IfOk, IfSome, IsTrue};
+ghost use Rattle.gb_record_text.specs.RecordText.{head_line, with_cluster};
 
 use crate::reading::read_node;
 use crate::writing::put_after;
@@ -27,11 +27,10 @@ pub struct RecordHead {
     pub room: u16,
 }
 
-/// Appends the first line of a record, without its line feed.
-pub fn put_head(out: &mut Vec<u8>, head: &RecordHead) -> Result<(), OutOfMemory>
-    ensures { OnOk result (out.new.items ≡ out.old.items ++ head_line head.now) }
+// Appends ` NODE NODES SILENCE PLACES VERSION ROOM`.
+pub(crate) fn put_cluster(out: &mut Vec<u8>, head: &RecordHead) -> Result<(), OutOfMemory>
+    ensures { OnOk result (out.new.items ≡ with_cluster out.old.items head.now) }
 {
-    put_bytes(out, b"tape 1")?;
     put_after(out, u64::from(head.node.number))?;
     put_after(out, u64::from(head.nodes))?;
     put_after(out, u64::from(head.silence))?;
@@ -40,9 +39,48 @@ pub fn put_head(out: &mut Vec<u8>, head: &RecordHead) -> Result<(), OutOfMemory>
     put_after(out, u64::from(head.room))
 }
 
-// Returns what the words of a first line may say.
-fn read_words(words: &[&[u8]]) -> Option<RecordHead> {
-    let [_tape, _one, node, nodes, silence, places, version, room] = words else {
+// Returns true if it is one version.
+fn same_version(a: Version, b: Version) -> bool
+    ensures { IsTrue result ↔ (a ≡ b) }
+{
+    a == b
+}
+
+impl RecordHead {
+    /// Returns true if both say the same.
+    pub fn is(&self, other: &RecordHead) -> bool
+        ensures { IsTrue result ↔ (self.now ≡ other.now) }
+    {
+        if self.node.number != other.node.number {
+            return false;
+        }
+        if self.nodes != other.nodes {
+            return false;
+        }
+        if self.silence != other.silence {
+            return false;
+        }
+        if self.places != other.places {
+            return false;
+        }
+        if self.room != other.room {
+            return false;
+        }
+        same_version(self.version, other.version)
+    }
+}
+
+/// Appends the first line of a record, without its line feed.
+pub fn put_head(out: &mut Vec<u8>, head: &RecordHead) -> Result<(), OutOfMemory>
+    ensures { OnOk result (out.new.items ≡ out.old.items ++ head_line head.now) }
+{
+    put_bytes(out, b"tape 1")?;
+    put_cluster(out, head)
+}
+
+// Returns what six words may say of a node and its cluster.
+pub(crate) fn read_cluster(words: &[&[u8]]) -> Option<RecordHead> {
+    let [node, nodes, silence, places, version, room] = words else {
         return None;
     };
     Some(RecordHead {
@@ -60,7 +98,10 @@ pub fn read_head(alloc: Global, line: &[u8]) -> Result<Option<RecordHead>, OutOf
     ensures { IfOk result (λ found. IfSome found (λ head. head_line head ≡ line.now)) }
 {
     let words = split_words(alloc, line)?;
-    let Some(head) = read_words(&words) else {
+    let [_tape, _one, words @ ..] = words.as_slice() else {
+        return Ok(None);
+    };
+    let Some(head) = read_cluster(words) else {
         return Ok(None);
     };
     let mut text = Vec::new(alloc);

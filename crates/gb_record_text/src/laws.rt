@@ -1,5 +1,5 @@
 //! Laws of records: what a line or a text says is one thing alone. Each function is a law: its contract is the theorem.
-ghost use Rattle.gb_record_text.specs.Laws.{TurnsAnswer, OneLineOneEntry, SameLinesSameEntries, OneTextOneRecord};
+ghost use Rattle.gb_record_text.specs.Laws.{TurnsAnswer, OneLineOneEntry, SameLinesSameEntries, OneTextOneRecord, OneLineOnePart};
 
 use gb_spelling::laws::{one_text_one_reply, one_word_one_kind};
 
@@ -32,3 +32,8 @@ pub fn one_text_one_record()
     one_text_one_reply();
     one_word_one_kind();
 }
+
+/// Two parts with one first line say the same there.
+pub fn one_line_one_part()
+    ensures { OneLineOnePart }
+{}

@@ -1,13 +1,13 @@
 //! Reading a whole record: one that its node ended, or one that was cut short.
 ghost use Rattle.std.specs.Prelude.{◌≡◌, ◌≢◌, ◌++◌, ◌∷◌, IfOk, IfSome, IfNone, All};
-ghost use Rattle.gb_record_text.specs.Fits.{FitsRecord};
-ghost use Rattle.gb_record_text.specs.Records.{IsRecord};
+ghost use Rattle.gb_record_text.specs.Fits.{FitsEntry, FitsRecord};
+ghost use Rattle.gb_record_text.specs.Records.{AreLines, IsRecord};
 
 use crate::fits::head_fits;
 use crate::head::{RecordHead, read_head};
 use crate::reading::read_entry;
 use gb_node::TapeEntry;
-use gb_types::OutOfMemory;
+use gb_types::{NodeId, OutOfMemory};
 use std::alloc::{AllocFailed, Global};
 
 /// A record that was read.
@@ -42,8 +42,8 @@ impl<T: Drop> From<AllocFailed<T>> for ReadFault {
     }
 }
 
-// Returns the first line of a text and what stands behind its line feed. `None` if the text has no line feed.
-fn cut_line(text: &[u8]) -> Option<(&[u8], &[u8])>
+/// Returns the first line of a text and what stands behind its line feed. `None` if the text has no line feed.
+pub fn cut_line(text: &[u8]) -> Option<(&[u8], &[u8])>
     ensures some { IfSome result (λ cut. text.now ≡ cut.0.now ++ 10 ∷ cut.1.now) }
     ensures none { IfNone result (All (λ byte. byte ≢ 10) text.now) }
 {
@@ -51,7 +51,50 @@ fn cut_line(text: &[u8]) -> Option<(&[u8], &[u8])>
     Some((&text[..end], &text[end + 1..]))
 }
 
+// What stands behind a first line.
+#[derive(Drop)]
+pub(crate) struct Lines {
+    pub(crate) entries: Vec<TapeEntry>,
+    pub(crate) is_whole: bool,
+    pub(crate) torn: usize,
+}
+
+// Returns what stands behind the first line of a record or part of this node. That line has number 1.
+#[tactic(auto, using(crate::proofs::RecordLemmas::are_lines))]
+pub(crate) fn read_lines(alloc: Global, node: NodeId, text: &[u8]) -> Result<Lines, ReadFault>
+    ensures lines { IfOk result (λ read. AreLines node read.entries.items read.is_whole read.torn text.now) }
+    ensures fits { IfOk result (λ read. All FitsEntry read.entries.items) }
+{
+    let mut found = Lines {
+        entries: Vec::new(alloc),
+        is_whole: false,
+        torn: 0,
+    };
+    let mut rest = text;
+    let mut number: u64 = 1;
+    'lines: while let Some((line, behind)) = cut_line(rest) {
+        number = number.saturating_add(1);
+        if found.is_whole {
+            return Err(ReadFault::BadLine(number));
+        }
+        rest = behind;
+        if line == b"end".as_slice() {
+            found.is_whole = true;
+            continue 'lines;
+        }
+        match read_entry(alloc, line)? {
+            Some(read) if read.node.number == node.number => {
+                found.entries.push(read.entry)?;
+            }
+            _ => return Err(ReadFault::BadLine(number)),
+        }
+    }
+    found.torn = rest.len();
+    Ok(found)
+}
+
 /// Returns the record that a text is. What stands behind the last line feed is left out; `torn` counts its bytes.
+#[tactic(auto, using(crate::proofs::RecordLemmas::is_record))]
 pub fn read_record(alloc: Global, text: &[u8]) -> Result<Record, ReadFault>
     ensures text { IfOk result (λ read. IsRecord read text.now) }
     ensures fits { IfOk result FitsRecord }
@@ -63,31 +106,15 @@ pub fn read_record(alloc: Global, text: &[u8]) -> Result<Record, ReadFault>
         return Err(ReadFault::BadLine(1));
     };
     head_fits(&head);
-    let mut record = Record {
+    let Lines {
+        entries,
+        is_whole,
+        torn,
+    } = read_lines(alloc, head.node, behind)?;
+    Ok(Record {
         head,
-        entries: Vec::new(alloc),
-        is_whole: false,
-        torn: 0,
-    };
-    let mut rest = behind;
-    let mut number: u64 = 1;
-    'lines: while let Some((line, behind)) = cut_line(rest) {
-        number = number.saturating_add(1);
-        if record.is_whole {
-            return Err(ReadFault::BadLine(number));
-        }
-        rest = behind;
-        if line == b"end".as_slice() {
-            record.is_whole = true;
-            continue 'lines;
-        }
-        match read_entry(alloc, line)? {
-            Some(read) if read.node.number == record.head.node.number => {
-                record.entries.push(read.entry)?;
-            }
-            _ => return Err(ReadFault::BadLine(number)),
-        }
-    }
-    record.torn = rest.len();
-    Ok(record)
+        entries,
+        is_whole,
+        torn,
+    })
 }

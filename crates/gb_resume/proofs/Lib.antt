@@ -1,0 +1,4 @@
+pub mod TurnLemmas
+pub mod ReadLemmas
+pub mod KeptLemmas
+pub mod PartLemmas
