@@ -498,6 +498,27 @@ def lost_packets(attacks):
             mine.close()
 
 
+def known_tenants(attacks):
+    """Whether the time of a refusal tells which tenants exist."""
+    with attacks.served() as server:
+        prepare(server.sessions)
+        times = {7: [], 9: []}
+        for _ in range(40):
+            for tenant, took in times.items():
+                link = Link(server.sessions, 60)
+                body = framed(f"open {NOBODY} {tenant} 9") * 50
+                begun = time.monotonic()
+                for _ in range(20):
+                    link.socket.sendall(body)
+                    read_denied(link, 50)
+                took.append(time.monotonic() - begun)
+                link.close()
+        known, unknown = (sorted(took)[len(took) // 4] for took in times.values())
+        ratio = known / unknown
+        expect(0.8 < ratio < 1.25, f"a refusal takes {ratio:.2f} times as long where the tenant is known")
+        return f"a refusal takes {ratio:.2f} times as long where the tenant is known"
+
+
 SENDER = """
 import os, socket, sys, time
 port, until = int(sys.argv[1]), time.monotonic() + float(sys.argv[2])
@@ -618,6 +639,7 @@ ATTACKS = (
     asked_ahead,
     paused_node,
     lost_packets,
+    known_tenants,
     flood,
     trickle,
     no_descriptors,

@@ -218,12 +218,14 @@ impl Table {
     }
 
     /// Returns true if `token` is the token of the address's member at this node. That token is looked up at `place`; if it is
-    /// not there, it is computed.
+    /// not there, or is another, it is computed. So each token that is not the right one takes as long.
     fn is_member(&self, token: &Token, addr: Addr, place: Option<usize>) -> bool
         ensures { result ≡ is_by_tenant addr.tenant (Need.Member addr.tenant addr.group self.now.me) token.now self.now }
     {
-        if let Some(own) = self.kept_token(addr, place) {
-            return is_kept(token, own);
+        if let Some(own) = self.kept_token(addr, place)
+            && is_kept(token, own)
+        {
+            return true;
         }
         self.tenants
             .admits(addr.tenant, self.as_member(addr), token)

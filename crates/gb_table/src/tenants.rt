@@ -53,11 +53,11 @@ impl Tenant {
         self.key.token(need)
     }
 
-    /// Returns true if `token` is the one for `need` under the tenant's key.
-    fn admits(&self, need: Need, token: &Token) -> bool
-        ensures { result ≡ is_token self.now.key need token.now }
+    /// Returns the tenant's key.
+    fn key(&self) -> &HmacKey
+        ensures { result.now ≡ self.now.key }
     {
-        self.key.admits(need, token)
+        &self.key
     }
 }
 
@@ -67,6 +67,8 @@ pub struct Tenants {
     rows: IndexMap<TenantId, Tenant>,
     /// The number of rooms that the tenants reserve in all.
     reserved: u32,
+    /// The key under which a token is computed for a tenant that is not here. No token under it admits anybody.
+    stand_in: HmacKey,
 }
 
 impl Model for Tenants {
@@ -90,6 +92,7 @@ impl Tenants {
         Tenants {
             rows: IndexMap::new(alloc),
             reserved: 0,
+            stand_in: HmacKey::new(&[0; 32]),
         }
     }
 
@@ -140,13 +143,15 @@ impl Tenants {
         }
     }
 
-    /// Returns true if `token` is the token for `need` under the tenant's key. False if it is another, or if the tenant is not here.
+    /// Returns true if `token` is the token for `need` under the tenant's key. False if it is another, or if the tenant is not here: then
+    /// one under another key is computed, so the time that this takes does not say which tenants there are.
     pub fn admits(&self, tenant: TenantId, need: Need, token: &Token) -> bool
         ensures { result ≡ is_by_row need token.now (row_of tenant self.now) }
     {
-        match self.find(tenant) {
-            Some(found) => found.admits(need, token),
-            None => false,
-        }
+        let (key, is_here) = match self.find(tenant) {
+            Some(found) => (found.key(), true),
+            None => (&self.stand_in, false),
+        };
+        key.admits(need, token) && is_here
     }
 }
