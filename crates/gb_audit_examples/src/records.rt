@@ -197,11 +197,11 @@ fn is_told(alloc: Global, texts: &[Vec<u8>], case: &Case) -> Result<bool, OutOfM
     is_audited(alloc, &sources, KEYS, case.lines, case.status)
 }
 
-static CASES: [Case; 13] = [
+static CASES: [Case; 15] = [
     Case {
         first: Change::None,
         second: Change::None,
-        lines: "tape a node 0 entries 7 whole\ntape b node 1 entries 8 whole\nmerged 15 events\n",
+        lines: "tape a node 0 entries 7 whole\ntape b node 1 entries 8 whole\nmerged 15 events\nwhole of the records given, complete\n",
         status: 0,
     },
     // An answer is changed: what node 1 fetched.
@@ -211,12 +211,19 @@ static CASES: [Case; 13] = [
         lines: "tape a node 0 entries 7 whole\ntape b node 1 entries 8 whole\naudit fault 3 b line 7\n",
         status: 1,
     },
-    // An answer says that the node had no memory. A record with such an answer is not replayed further.
+    // An answer is changed, and says that the node had no memory: what the node did further is not what it does without the message.
     Case {
         first: Change::Replace(5, b"> said 1", b"> refused 16 OutOfMemory"),
         second: Change::None,
-        lines: "tape a node 0 entries 7 whole\ntape b node 1 entries 8 whole\naudit fault 3 a line 5\n",
+        lines: "tape a node 0 entries 7 whole\npassed over a entries 1\ntape b node 1 entries 8 whole\naudit fault 3 a line 6\n",
         status: 1,
+    },
+    // A tick is answered so.
+    Case {
+        first: Change::Replace(8, b"> noticed -", b"> refused 16 OutOfMemory"),
+        second: Change::None,
+        lines: "tape a node 0 entries 7 whole\npassed over a entries 1\ntape b node 1 entries 8 whole\nmerged 14 events\nwhole of the records given, complete\n",
+        status: 0,
     },
     // An entry is dropped: the opening of the group in which node 0 says a message.
     Case {
@@ -252,6 +259,13 @@ static CASES: [Case; 13] = [
         second: Change::None,
         lines: "tape a node 0 entries 4 cut torn 3\ntape b node 1 entries 8 whole\nleft b line 6 entries 4 awaits 0\nmerged 8 events\n",
         status: 3,
+    },
+    // The end of a record is missing, and no other record heard of what stood there.
+    Case {
+        first: Change::None,
+        second: Change::Cut(8, 0),
+        lines: "tape a node 0 entries 7 whole\ntape b node 1 entries 7 cut torn 0\nmerged 14 events\nwhole of the records given, partial\n",
+        status: 0,
     },
     // The record is said to be another node's.
     Case {
@@ -306,7 +320,7 @@ fn are_told(alloc: Global) -> Result<bool, OutOfMemory> {
 const OTHER_RUN: Case = Case {
     first: Change::None,
     second: Change::None,
-    lines: "tape a node 0 entries 7 whole\ntape b node 1 entries 8 whole\naudit fault 3 b line 5\n",
+    lines: "tape a node 0 entries 7 whole\ntape b node 1 entries 8 whole\nother keys b line 5\n",
     status: 1,
 };
 

@@ -104,9 +104,9 @@ fn are_audited(alloc: Global, first: &[u8], second: &[u8]) -> Result<bool, OutOf
     let Some(admin) = read_token(ADMIN) else {
         return Ok(false);
     };
-    let run = "tape a node 0 entries 6 whole\ntape b node 1 entries 6 whole\nmerged 12 events\n";
-    let old =
-        "tape a node 0 entries 6 whole\ntape b node 1 entries 6 whole\naudit fault 3 a line 3\n";
+    let run =
+        "tape a node 0 entries 6 whole\ntape b node 1 entries 6 whole\nmerged 12 events\nwhole of the records given, complete\n";
+    let old = "tape a node 0 entries 6 whole\ntape b node 1 entries 6 whole\nother keys a line 3\n";
     let left =
         "tape a node 0 entries 4 cut torn 0\ntape b node 1 entries 6 whole\nleft b line 5 entries 3 awaits 0\nmerged 7 events\n";
     let cut = changed(alloc, first, Change::Cut(5, 60))?;

@@ -4,10 +4,11 @@
 pub mod audit;
 pub mod cluster;
 pub mod counts;
+pub mod keys;
 pub mod left;
 pub mod lines;
 pub mod replay;
 pub mod verdict;
 
-pub use audit::{Audited, Source, Verdict};
+pub use audit::{Audited, Source, Unaudited, Verdict};
 pub use cluster::ClusterKeys;

@@ -100,7 +100,7 @@ front_faulty plan tapes rest picks OutOfMemory parts is = is
 
 -- What happened at a node.
 
-past_at-append : (a : NodeId) (run more : List NodeStep) → past_at a (run ++ more) ≡ past_at a run ++ past_at a more
+pub past_at-append : (a : NodeId) (run more : List NodeStep) → past_at a (run ++ more) ≡ past_at a run ++ past_at a more
 unfolding past_at
 past_at-append a [] more = refl
 past_at-append a (d ∷ run) more = by (nat_eq d.node.number a.number) (past_at-append a run more)
