@@ -8,11 +8,10 @@ use Rattle.gb_node.specs.declared.tape.TapeEntry.{TapeEntry}
 use Rattle.gb_record_text.specs.declared.{head.RecordHead.RecordHead, reader.Record.Record}
 use Rattle.gb_audit_run.specs.declared.audit.Source.{Source}
 use Rattle.gb_record_text.specs.{Fits.FitsRecord, Laws.AreSame, Laws.OneTextOneRecord}
-use Rattle.gb_audit_run.specs.Audits.{AreDifferent, AreGapped, AreOfOne, AreRecords, AreUnlike, AreUnplanned, HasGapAt, HasText, HasWrong, entries_of, IsAllAnswered, AreSent, AreTheOnly, IsCluster, IsOfPlan, IsUnaudited, IsUnplanned, IsUnreadable, SendsOne}
+use Rattle.gb_audit_run.specs.Audits.{AreFaulty, AreOfOne, AreRecords, AreUnlike, AreUnplanned, HasGapAt, HasText, HasWrong, entries_of, IsAllAnswered, IsAudit, IsAudited, IsFaulty, IsRight, AreSent, AreTheOnly, IsCluster, IsOfPlan, IsUnaudited, IsUnplanned, SendsOne, tapes_of}
 use Rattle.gb_audit_run.specs.Counts.{IsFirstGap}
 use Rattle.gb_audit_run.specs.Replayed.{IsFirstWrong}
-use Rattle.gb_audit_run.specs.declared.{audit.Unaudited.Unaudited, cluster.ClusterKeys.ClusterKeys}
-use Rattle.gb_audit_run.specs.declared.audit.Unaudited.TheVariants.{Unread, Unlike}
+use Rattle.gb_audit_run.specs.declared.{audit.Audited.Audited, audit.Unaudited.Unaudited, cluster.ClusterKeys.ClusterKeys}
 
 -- a test of each element of a list, from the first on
 
@@ -229,12 +228,6 @@ wrong_so plan records i r n lt is wrong = record { place = i; wrong_record = r; 
 pub gap_so : (records : List Record) (i : ℕ) (r : Record) (n : ℕ) → i < length records → r ≡ get_or records i r → IsFirstGap r.entries.items n → HasGapAt records i n
 gap_so records i r n lt is gap = record { gap_record = r; there = (lt, is); gap = gap }
 
--- why texts are not read is why they are not audited
-pub unread_so : (sources : List Source) (keys : ClusterKeys) (why : Unaudited) → IsUnreadable sources why → IsUnaudited sources keys why
-unread_so sources keys Unread is = is
-unread_so sources keys Unlike is = is
-unread_so sources keys why is = absurd is
-
 -- texts of no records are none
 pub no_texts : (sources : List Source) (records : List Record) → AllZip HasText sources records → map (λ (r : Record). r.head) records ≡ [] → sources ≡ []
 no_texts [] records have none = refl
@@ -244,3 +237,27 @@ no_texts (x ∷ sources) (r ∷ records) have none = absurd (cc)
 pub unplanned_so : (sources : List Source) (records : List Record) → sources ≢ [] → AreRecords sources records → (map (λ (r : Record). r.head) records ≡ []) ⊎ IsUnplanned (map (λ (r : Record). r.head) records) → AreUnplanned sources
 unplanned_so sources records some are (inl none) = absurd (some (no_texts sources records are.read none))
 unplanned_so sources records some are (inr unplanned) = record { records = records; are = are; unplanned = unplanned }
+
+-- Records of a cluster.
+
+pub cluster_so : (keys : ClusterKeys) (records : List Record) (plan : Plan) → IsClusterPlan plan → (plan.cluster_key ≡ keys.cluster) × (plan.admin_key ≡ keys.admin) → All (IsOfPlan plan) (map (λ (r : Record). r.head) records) → IsCluster keys records plan
+cluster_so keys records plan is are fit = record { is = is; fit = heads_of_all (IsOfPlan plan) records fit; cluster_key = are.0; admin_key = are.1 }
+
+pub all_here : (records : List Record) (plan : Plan) → All (λ (r : Record). IsOfPlan plan r.head) records → All (λ (r : Record). r.head.node.number < plan.nodes) records
+all_here records plan fit k d lt = (fit k d lt).here
+
+pub tapes_count : (plan : Plan) (records : List Record) → length (tapes_of plan records) ≡ plan.nodes
+tapes_count plan records = length-map-range_with_len (entries_of records) 0 plan.nodes
+
+pub audit_so : OneTextOneRecord → (sources : List Source) (keys : ClusterKeys) (records : List Record) (plan : Plan) (run : Audited) → AreRecords sources records → All FitsRecord records → IsCluster keys records plan → (run.plan ≡ plan) × IsAudited records run → IsAudit sources keys run
+audit_so law sources keys records plan run are fits cluster audited =
+    record {
+      records = records;
+      are = are;
+      only = the_only law sources records are.read fits (λ k d lt. (audited.1.right k d lt).1);
+      cluster = subst (IsCluster keys records) (sym audited.0) cluster;
+      audited = audited.1;
+    }
+
+pub faulty_so : (sources : List Source) (keys : ClusterKeys) (records : List Record) (plan : Plan) (why : Unaudited) → AreRecords sources records → IsCluster keys records plan → IsFaulty plan records why → IsUnaudited sources keys why
+faulty_so sources keys records plan why are cluster faulty = inr (record { records = records; plan = plan; are = are; cluster = cluster; faulty = faulty })

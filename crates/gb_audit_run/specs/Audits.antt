@@ -10,7 +10,7 @@ use Rattle.gb_merge.specs.Common.{IsDifferent, IsForgedAt, IsMergedFront, IsNone
 use Rattle.gb_record_text.specs.{Fits.FitsRecord, Laws.IsAnswered, Laws.AreSame, Records.IsRecord}
 use Rattle.gb_record_text.specs.declared.{head.RecordHead.RecordHead, reader.Record.Record}
 use Rattle.gb_audit_run.specs.Counts.{AreCounted, IsFirstGap}
-use Rattle.gb_audit_run.specs.Replayed.{IsFirstWrong}
+use Rattle.gb_audit_run.specs.Replayed.{AreReplayed, IsFirstWrong}
 use Rattle.gb_audit_run.specs.declared.{audit.Audited.Audited, audit.Source.Source, audit.Unaudited.Unaudited, audit.Verdict.Verdict, cluster.ClusterKeys.ClusterKeys}
 use Rattle.gb_audit_run.specs.declared.audit.Verdict.TheVariants.{Whole, Left, Refused}
 use Rattle.gb_audit_run.specs.declared.audit.Unaudited.TheVariants.{NoRecords, Unread, Unlike, Unplanned, Differs, Gap}
@@ -105,29 +105,43 @@ IsVerdict plan tapes events ended Whole = AreAll tapes events
 IsVerdict plan tapes events ended Left = (AreAll tapes events → ⊥) × IsNoneForged plan tapes ended × (AreEnded ended → ⊥)
 IsVerdict plan tapes events ended Refused = (AreAll tapes events → ⊥) × (HasForged plan tapes ended ⊎ AreEnded ended)
 
--- The plan and the tapes are those of these records, under these keys.
+-- a cluster may be started with the plan, which has what the first lines of these records say, and these keys
 pub record IsCluster (keys : ClusterKeys) (records : List Record) (plan : Plan) : Type 0 where
   pub is : IsClusterPlan plan
   pub fit : All (λ (r : Record). IsOfPlan plan r.head) records
   pub cluster_key : plan.cluster_key ≡ keys.cluster
   pub admin_key : plan.admin_key ≡ keys.admin
 
+-- the entries of each node, by the nodes' numbers
 abbrev pub tapes_of : Plan → List Record → List (List TapeEntry)
 tapes_of plan records = map (entries_of records) (range_with_len 0 plan.nodes)
 
--- What is audited are these texts: the plan and the tapes are those of their records, under these keys. The texts are of these
--- records alone, and each seat's entries count from 0 on without a gap. The events are a run of the first entries of the tapes, as
--- far as one run goes, without those that lack of memory refused. The verdict is the one that this makes.
-pub record IsAudit (sources : List Source) (keys : ClusterKeys) (run : Audited) : Type 0 where
-  pub records : List Record
-  pub are : AreRecords sources records
-  pub only : AreTheOnly sources records
-  pub counted : All (λ (r : Record). AreCounted r.entries.items) records
-  pub cluster : IsCluster keys records run.plan
+-- The events are a run of the first entries of these records' tapes, as far as one run goes, without those that lack of memory
+-- refused. The verdict is the one that this makes.
+pub record IsMergedFrom (records : List Record) (run : Audited) : Type 0 where
   pub tapes : run.tapes.items ≡ tapes_of run.plan records
   pub front : IsMergedFront run.plan (fed_tapes run.tapes.items) run.events.items
   pub verdict : IsVerdict run.plan run.tapes.items run.events.items (ended_of run.plan records) run.verdict
   pub complete : (run.is_complete ≡ true) ↔ AreEnded (ended_of run.plan records)
+
+-- each answer of the record is the one that its node returns when it is replayed alone, or refuses for lack of memory
+abbrev pub IsRight : Plan → Record → Type 0
+IsRight plan r = AreReplayed plan r.head.node r.entries.items × IsAllAnswered r
+
+-- What an audit of these records finds: each record is right, each seat's entries count from 0 on without a gap, and the run and the
+-- verdict are made of the records.
+pub record IsAudited (records : List Record) (run : Audited) : Type 0 where
+  pub right : All (IsRight run.plan) records
+  pub counted : All (λ (r : Record). AreCounted r.entries.items) records
+  pub merged : IsMergedFrom records run
+
+-- What is audited are these texts: they are of these records alone, which are of a cluster with the plan under these keys.
+pub record IsAudit (sources : List Source) (keys : ClusterKeys) (run : Audited) : Type 0 where
+  pub records : List Record
+  pub are : AreRecords sources records
+  pub only : AreTheOnly sources records
+  pub cluster : IsCluster keys records run.plan
+  pub audited : IsAudited records run
 
 -- Why records are not audited.
 
@@ -142,11 +156,19 @@ pub record AreUnlike (sources : List Source) : Type 0 where
   pub read : AllZip HasText (take count sources) records
   pub unlike : AllPairs (λ (r : Record) (s : Record). AreOfOne r.head s.head) records → ⊥
 
--- why texts are not read; that a line is one of a record is what its reader says
-abbrev pub IsUnreadable : List Source → Unaudited → Type 0
-IsUnreadable sources Unread = sources ≢ []
-IsUnreadable sources Unlike = AreUnlike sources
-IsUnreadable sources why = ⊥
+-- these records are of no cluster: no plan has what their first lines say
+pub record AreUnplanned (sources : List Source) : Type 0 where
+  pub records : List Record
+  pub are : AreRecords sources records
+  pub unplanned : IsUnplanned (map (λ (r : Record). r.head) records)
+
+-- why texts are no records of a cluster; that a line is none of a record is what its reader says
+abbrev pub IsUnread : List Source → Unaudited → Type 0
+IsUnread sources NoRecords = sources ≡ []
+IsUnread sources Unread = sources ≢ []
+IsUnread sources Unlike = AreUnlike sources
+IsUnread sources Unplanned = AreUnplanned sources
+IsUnread sources why = ⊥
 
 -- an answer is not the one that its node returns when it is replayed alone, and does not refuse for lack of memory
 pub record HasWrong (plan : Plan) (records : List Record) : Type 0 where
@@ -162,33 +184,20 @@ pub record HasGapAt (records : List Record) (place count : ℕ) : Type 0 where
   pub there : StandsAt records place gap_record
   pub gap : IsFirstGap gap_record.entries.items count
 
--- these records are of one cluster, and an answer in them is not their node's
-pub record AreDifferent (sources : List Source) (keys : ClusterKeys) : Type 0 where
+-- why records of a cluster with this plan are not audited: an answer is not its node's, or the counts of a seat have a gap
+abbrev pub IsFaulty : Plan → List Record → Unaudited → Type 0
+IsFaulty plan records Differs = HasWrong plan records ⊎ IsDifferent plan (fed_tapes (tapes_of plan records))
+IsFaulty plan records Gap = (place : ℕ) × (count : ℕ) × HasGapAt records place count
+IsFaulty plan records why = ⊥
+
+-- the texts are records of a cluster under these keys, which are not audited for this reason
+pub record AreFaulty (sources : List Source) (keys : ClusterKeys) (why : Unaudited) : Type 0 where
   pub records : List Record
   pub plan : Plan
   pub are : AreRecords sources records
   pub cluster : IsCluster keys records plan
-  pub different : HasWrong plan records ⊎ IsDifferent plan (fed_tapes (tapes_of plan records))
+  pub faulty : IsFaulty plan records why
 
--- these records have a gap in the counts of a seat
-pub record AreGapped (sources : List Source) : Type 0 where
-  pub records : List Record
-  pub place : ℕ
-  pub count : ℕ
-  pub are : AreRecords sources records
-  pub gap : HasGapAt records place count
-
--- these records are of no cluster: no plan has what their first lines say
-pub record AreUnplanned (sources : List Source) : Type 0 where
-  pub records : List Record
-  pub are : AreRecords sources records
-  pub unplanned : IsUnplanned (map (λ (r : Record). r.head) records)
-
--- why the records in these texts are not audited under these keys
+-- why what stands in these texts is not audited under these keys
 abbrev pub IsUnaudited : List Source → ClusterKeys → Unaudited → Type 0
-IsUnaudited sources keys NoRecords = sources ≡ []
-IsUnaudited sources keys Unread = sources ≢ []
-IsUnaudited sources keys Unlike = AreUnlike sources
-IsUnaudited sources keys Unplanned = AreUnplanned sources
-IsUnaudited sources keys Differs = AreDifferent sources keys
-IsUnaudited sources keys Gap = AreGapped sources
+IsUnaudited sources keys why = IsUnread sources why ⊎ AreFaulty sources keys why

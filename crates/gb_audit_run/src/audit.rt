@@ -3,9 +3,9 @@ ghost use Rattle.std.specs.Prelude.{◌≡◌, ◌<◌, ◌↔◌, length, map, 
 ghost use Rattle.std.specs.List.{range_with_len};
 ghost use Rattle.gb_cluster.specs.Common.{IsClusterPlan};
 ghost use Rattle.gb_merge.specs.Common.{IsDifferent, IsMergedFront, fed_tapes};
-ghost use Rattle.gb_record_text.specs.{Fits.FitsRecord, Laws.IsAnswered};
+ghost use Rattle.gb_record_text.specs.Fits.{FitsRecord};
 ghost use Rattle.gb_audit_run.specs.Counts.{AreCounted};
-ghost use Rattle.gb_audit_run.specs.Audits.{AreOfOne, AreRecords, HasGapAt, HasWrong, IsAudit, IsOfPlan, IsUnaudited, IsUnreadable, IsVerdict, entries_of, fed_count, is_ended};
+ghost use Rattle.gb_audit_run.specs.Audits.{AreOfOne, AreRecords, HasGapAt, HasWrong, IsAudit, IsAudited, IsCluster, IsFaulty, IsMergedFrom, IsOfPlan, IsRight, IsUnaudited, IsUnread, IsVerdict, entries_of, fed_count, is_ended, tapes_of};
 
 use crate::cluster::{ClusterKeys, are_of_one, plan_of};
 use crate::counts::first_gap;
@@ -131,7 +131,7 @@ fn read_all(
 ) -> Result<Result<Vec<Record>, Unaudited>, OutOfMemory>
     ensures records { IfOk result (λ found. IfOk found (λ records. AreRecords sources.now records.items)) }
     ensures fit { IfOk result (λ found. IfOk found (λ records. All FitsRecord records.items)) }
-    ensures err { IfOk result (λ found. IfErr found (IsUnreadable sources.now)) }
+    ensures err { IfOk result (λ found. IfErr found (IsUnread sources.now)) }
 {
     let mut records: Vec<Record> = Vec::new(alloc);
     for source in sources {
@@ -183,7 +183,7 @@ fn are_replayed(
 ) -> Result<bool, OutOfMemory>
     requires plan { IsClusterPlan plan.now }
     requires here { All (λ r. r.head.node.number < plan.now.nodes) records.now }
-    ensures answered { IfOk result (λ right. IsTrue right → All (λ r. All IsAnswered r.entries.items) records.now) }
+    ensures right { IfOk result (λ right. IsTrue right → All (IsRight plan.now) records.now) }
     ensures wrong { IfOk result (λ right. right ≡ false → HasWrong plan.now records.now) }
 {
     for place in 0..records.len() {
@@ -370,9 +370,103 @@ fn verdict_of(
     }
 }
 
-/// Audits the records in `sources`, one for each node and in any order, under the cluster's keys, and appends to `out` a line for each
-/// finding. It passes over the entries that lack of memory refused, which changed nothing. Returns the part of the records that is one
-/// run of the cluster, with a verdict; or why the records are not audited. `Err` if memory runs out.
+/// The records of a cluster's nodes, and the plan of the cluster.
+#[derive(Drop)]
+pub struct Recorded {
+    pub records: Vec<Record>,
+    pub plan: Plan,
+}
+
+// Reads the records and finds the plan of their cluster. `Err` if there is none; the last line says why, except for `NoRecords`.
+fn read_cluster(
+    alloc: Global,
+    sources: &[Source<'_>],
+    keys: ClusterKeys,
+    out: &mut Vec<u8>,
+) -> Result<Result<Recorded, Unaudited>, OutOfMemory>
+    ensures records { IfOk result (λ found. IfOk found (λ read. AreRecords sources.now read.records.items)) }
+    ensures fit { IfOk result (λ found. IfOk found (λ read. All FitsRecord read.records.items)) }
+    ensures cluster { IfOk result (λ found. IfOk found (λ read. IsCluster keys read.records.items read.plan)) }
+    ensures err { IfOk result (λ found. IfErr found (IsUnread sources.now)) }
+{
+    let Some(first) = sources.first() else {
+        return Ok(Err(Unaudited::NoRecords));
+    };
+    let records = match read_all(alloc, sources, out)? {
+        Ok(records) => records,
+        Err(why) => return Ok(Err(why)),
+    };
+    let heads = heads_of(alloc, &records)?;
+    let Some(plan) = plan_of(&heads, keys) else {
+        put_stranger(out, first.name)?;
+        return Ok(Err(Unaudited::Unplanned));
+    };
+    Ok(Ok(Recorded { records, plan }))
+}
+
+// Merges the records of a cluster, each of which is what its node does alone, and returns the verdict. `None` if an answer among the
+// merged entries is not its replay's; the last line says so.
+fn merged(
+    alloc: Global,
+    sources: &[Source<'_>],
+    recorded: Recorded,
+    out: &mut Vec<u8>,
+) -> Result<Option<Audited>, OutOfMemory>
+    requires plan { IsClusterPlan recorded.plan }
+    requires here { All (λ r. r.head.node.number < recorded.plan.nodes) recorded.records.items }
+    ensures some { IfOk result (λ found. IfSome found (λ run. (run.plan ≡ recorded.plan) × IsMergedFrom recorded.records.items run)) }
+    ensures none { IfOk result (λ found. IfNone found (IsDifferent recorded.plan (fed_tapes (tapes_of recorded.plan recorded.records.items)))) }
+{
+    let Recorded { records, plan } = recorded;
+    let names = names_of(sources, &records);
+    let ended = ended_of(alloc, plan.nodes, &records)?;
+    let tapes = tapes_of(alloc, plan.nodes, records)?;
+    let Some(events) = merge_all(alloc, &plan, &tapes)? else {
+        put_bytes(out, b"audit fault 3\n")?;
+        return Ok(None);
+    };
+    let verdict = verdict_of(alloc, &plan, &tapes, &events, &ended, &names, out)?;
+    let is_complete = are_true(&ended);
+    put_merged(out, events.len())?;
+    put_whole(out, verdict, is_complete)?;
+    Ok(Some(Audited {
+        plan,
+        tapes,
+        events,
+        verdict,
+        is_complete,
+    }))
+}
+
+/// Audits the records of a cluster. `sources` are the files that they were read from, in the same order. It appends to `out` a line for
+/// each finding, and passes over the entries that lack of memory refused, which changed nothing. Returns the part of the records that is
+/// one run of the cluster, with a verdict; or why the records are not audited. `Err` if memory runs out.
+pub fn audit_cluster(
+    alloc: Global,
+    sources: &[Source<'_>],
+    recorded: Recorded,
+    out: &mut Vec<u8>,
+) -> Result<Result<Audited, Unaudited>, OutOfMemory>
+    requires plan { IsClusterPlan recorded.plan }
+    requires fit { All (λ r. IsOfPlan recorded.plan r.head) recorded.records.items }
+    ensures ok { IfOk result (λ found. IfOk found (λ run. (run.plan ≡ recorded.plan) × IsAudited recorded.records.items run)) }
+    ensures err { IfOk result (λ found. IfErr found (IsFaulty recorded.plan recorded.records.items)) }
+{
+    if !are_replayed(alloc, &recorded.plan, sources, &recorded.records, out)? {
+        return Ok(Err(Unaudited::Differs));
+    }
+    if let Some(Gap { file, entry }) = find_gap(alloc, &recorded.records)? {
+        put_gap(out, name_at(sources, file), entry)?;
+        return Ok(Err(Unaudited::Gap));
+    }
+    match merged(alloc, sources, recorded, out)? {
+        Some(run) => Ok(Ok(run)),
+        None => Ok(Err(Unaudited::Differs)),
+    }
+}
+
+/// Audits the records in `sources`, one for each node and in any order, under the cluster's keys, as `audit_cluster` does once they are
+/// read. `Err` if memory runs out.
 pub fn audit(
     alloc: Global,
     sources: &[Source<'_>],
@@ -382,44 +476,10 @@ pub fn audit(
     ensures ok { IfOk result (λ found. IfOk found (IsAudit sources.now keys)) }
     ensures err { IfOk result (λ found. IfErr found (IsUnaudited sources.now keys)) }
 {
-    let records = match read_all(alloc, sources, out)? {
-        Ok(records) => records,
-        Err(why) => return Ok(Err(why)),
-    };
-    let heads = heads_of(alloc, &records)?;
-    let Some(first) = sources.first() else {
-        return Ok(Err(Unaudited::NoRecords));
-    };
-    let Some(plan) = plan_of(&heads, keys) else {
-        put_stranger(out, first.name)?;
-        return Ok(Err(Unaudited::Unplanned));
-    };
-    if !are_replayed(alloc, &plan, sources, &records, out)? {
-        return Ok(Err(Unaudited::Differs));
-    }
     one_text_one_record();
-    let gap = find_gap(alloc, &records)?;
-    let names = names_of(sources, &records);
-    let ended = ended_of(alloc, plan.nodes, &records)?;
-    let tapes = tapes_of(alloc, plan.nodes, records)?;
     fed_is_one_run();
-    let Some(events) = merge_all(alloc, &plan, &tapes)? else {
-        put_bytes(out, b"audit fault 3\n")?;
-        return Ok(Err(Unaudited::Differs));
-    };
-    let verdict = verdict_of(alloc, &plan, &tapes, &events, &ended, &names, out)?;
-    if let Some(Gap { file, entry }) = gap {
-        put_gap(out, name_at(sources, file), entry)?;
-        return Ok(Err(Unaudited::Gap));
+    match read_cluster(alloc, sources, keys, out)? {
+        Ok(recorded) => audit_cluster(alloc, sources, recorded, out),
+        Err(why) => Ok(Err(why)),
     }
-    let is_complete = are_true(&ended);
-    put_merged(out, events.len())?;
-    put_whole(out, verdict, is_complete)?;
-    Ok(Ok(Audited {
-        plan,
-        tapes,
-        events,
-        verdict,
-        is_complete,
-    }))
 }

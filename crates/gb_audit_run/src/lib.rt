@@ -10,5 +10,5 @@ pub mod lines;
 pub mod replay;
 pub mod verdict;
 
-pub use audit::{Audited, Source, Unaudited, Verdict};
+pub use audit::{Audited, Recorded, Source, Unaudited, Verdict};
 pub use cluster::ClusterKeys;

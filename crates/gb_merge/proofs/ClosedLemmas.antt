@@ -28,7 +28,7 @@ same_at [] (y ∷ ws) u w bs ds len e = absurd (let n : suc (length bs) ≡ suc 
 same_at (x ∷ vs) [] u w bs ds len e = absurd (let n : suc (length (vs ++ u ∷ bs)) ≡ suc (length ds) = ap length e in omega (arith, n, len, length-append vs (u ∷ bs)))
 same_at (x ∷ vs) (y ∷ ws) u w bs ds len e = same_at vs ws u w bs ds len (ap (drop 1) e)
 
-get_front : {X : Type 0} (xs ys : List X) (k : ℕ) → k < length xs → slice_get (xs ++ ys) k ≡ slice_get xs k
+pub get_front : {X : Type 0} (xs ys : List X) (k : ℕ) → k < length xs → slice_get (xs ++ ys) k ≡ slice_get xs k
 get_front [] ys k lt = absurd (omega (arith, lt))
 get_front (x ∷ xs) ys zero lt = refl
 get_front (x ∷ xs) ys (suc k) lt = get_front xs ys k (omega (arith, lt))
@@ -44,7 +44,7 @@ no_front (x ∷ xs) ys e = absurd (cc)
 -- What was sent.
 
 -- an entry that was taken sent its packet
-in_sent : (a : ℕ) (picks : List Pick) (k : ℕ) (x : TapeEntry) (bytes : List ℕ) → slice_get (entries_at a picks) k ≡ Some x → sent_by x.answer ≡ bytes ∷ [] → In bytes (sent_with picks)
+pub in_sent : (a : ℕ) (picks : List Pick) (k : ℕ) (x : TapeEntry) (bytes : List ℕ) → slice_get (entries_at a picks) k ≡ Some x → sent_by x.answer ≡ bytes ∷ [] → In bytes (sent_with picks)
 unfolding sent_with
 in_sent a [] k x bytes there sent = absurd (let bad : slice_get [] k ≡ Some x = ap (λ (es : List TapeEntry). slice_get es k) (sym (nothing a)) ∙ there in cc)
 in_sent a (p ∷ picks) k x bytes there sent = by (cases_eq p.node.number a) (λ n at. in_sent a picks n x bytes at sent)

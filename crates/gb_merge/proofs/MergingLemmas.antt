@@ -61,7 +61,7 @@ events_count plan sent (p ∷ picks) (e ∷ events) are = ap suc (events_count p
 events_count plan sent [] (e ∷ events) are = absurd are
 events_count plan sent (p ∷ picks) [] are = absurd are
 
-seam : {X : Type 0} (xs : List X) (y : X) (ys : List X) → slice_get (xs ++ y ∷ ys) (length xs) ≡ Some y
+pub seam : {X : Type 0} (xs : List X) (y : X) (ys : List X) → slice_get (xs ++ y ∷ ys) (length xs) ≡ Some y
 seam [] y ys = refl
 seam (x ∷ xs) y ys = seam xs y ys
 

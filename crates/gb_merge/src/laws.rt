@@ -1,4 +1,5 @@
 //! Laws of every merged list of events.
+ghost use Rattle.gb_merge.specs.Alike.{AlikeTapesMergeAlike};
 ghost use Rattle.gb_merge.specs.Closed.{ClosedTapesMergeWhole};
 ghost use Rattle.gb_merge.specs.EachEntry.{MergedHasEachEntry};
 ghost use Rattle.gb_merge.specs.Merged.{MergedIsOneRun};
@@ -26,4 +27,10 @@ pub fn merged_has_each_entry()
 /// function does nothing when it runs; its contract is the law.
 pub fn closed_tapes_merge_whole()
     ensures { ClosedTapesMergeWhole }
+{}
+
+/// A law: of tapes whose entries have the same answers and wait for the same packets `merge_front` merges the same first entries of each
+/// node, in whatever order. So what it merges depends on the tapes alone. The function does nothing when it runs; its contract is the law.
+pub fn alike_tapes_merge_alike()
+    ensures { AlikeTapesMergeAlike }
 {}
