@@ -35,7 +35,8 @@ pub record IsWholeFront (plan : Plan) (tapes : List (List TapeEntry)) (events : 
   pub each : (a : ℕ) → entries_at a m.picks ≡ tape_of tapes a
   pub count : length events ≡ sum_by length tapes
 
--- of such tapes nothing is left when their first entries are merged
+-- of tapes that are beginnings of what happened at their nodes in one run, and have each sending before its arrival, nothing is left
+-- when their first entries are merged
 abbrev pub ClosedTapesMergeWhole : Type 0
 ClosedTapesMergeWhole =
     (plan : Plan) (run : List NodeStep) (tapes : List (List TapeEntry)) (events : List Event) → IsClosedPart plan run tapes → (m : IsMergedFront plan tapes events) → IsWholeFront plan tapes events m

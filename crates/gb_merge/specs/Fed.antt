@@ -15,6 +15,7 @@ use Rattle.gb_merge.specs.Front.{IsMergedFront}
 unfoldable pub fed_of : List TapeEntry → List TapeEntry
 fed_of entries = filter (λ x. not (wants_memory x.answer)) entries
 
+-- tapes without their entries that were refused for lack of memory
 abbrev pub fed_tapes : List (List TapeEntry) → List (List TapeEntry)
 fed_tapes tapes = map fed_of tapes
 
