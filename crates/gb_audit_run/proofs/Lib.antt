@@ -1,3 +1,4 @@
 pub mod AuditLemmas
 pub mod CountLemmas
 pub mod ReplayLemmas
+pub mod GoodLemmas

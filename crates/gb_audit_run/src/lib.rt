@@ -5,6 +5,7 @@ pub mod audit;
 pub mod cluster;
 pub mod counts;
 pub mod keys;
+pub mod laws;
 pub mod left;
 pub mod lines;
 pub mod replay;

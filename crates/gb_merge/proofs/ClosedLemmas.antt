@@ -85,7 +85,7 @@ not_blocked plan tapes sent earlier a event among before blocked = blocked
 
 -- What comes next.
 
-past_of-append : (xs ys : List TapeEntry) → past_of (xs ++ ys) ≡ past_of ys ++ past_of xs
+pub past_of-append : (xs ys : List TapeEntry) → past_of (xs ++ ys) ≡ past_of ys ++ past_of xs
 past_of-append xs ys = ap reverse (map-append happened xs ys) ∙ reverse-append (map happened xs) (map happened ys)
 
 past_of-length : (xs : List TapeEntry) → length (past_of xs) ≡ length xs
