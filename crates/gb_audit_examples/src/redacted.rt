@@ -6,7 +6,8 @@ use crate::steps::{At, Step};
 use gb_audit_run::ClusterKeys;
 use gb_cap::Key;
 use gb_redact::laws::{
-    denied_leave_nothing, marked_are_read, redacted_are_a_tape, right_stay_right,
+    copies_are_audited_alike, denied_leave_nothing, marked_are_read, redacted_are_a_tape,
+    right_stay_right,
 };
 use gb_redact::text::{keys_text, redact_text, unmarked_text};
 use gb_spelling::token_word::read_token;
@@ -137,6 +138,7 @@ fn redacted_records_are_audited_with_the_keys_beside_them(rt: HostRuntime) {
     redacted_are_a_tape();
     denied_leave_nothing();
     marked_are_read();
+    copies_are_audited_alike();
     let right = outcome(rt.alloc());
     assert!(rt; right == Ok(true));
 }
