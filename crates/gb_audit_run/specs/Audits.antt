@@ -6,7 +6,7 @@ use Rattle.gb_types.specs.declared.{limits.TheConstants.NODES, plan.Plan.Plan, v
 use Rattle.gb_node.specs.declared.tape.TapeEntry.{TapeEntry}
 use Rattle.gb_cluster.specs.Common.{IsClusterPlan}
 use Rattle.gb_cluster.specs.declared.event.Event.{Event}
-use Rattle.gb_merge.specs.Common.{IsDifferent, IsForgedAt, IsMergedFront, IsNoneForged, fed_tapes, wants_memory}
+use Rattle.gb_merge.specs.Common.{IsForgedAt, IsMergedFront, IsNoneForged, fed_tapes, wants_memory}
 use Rattle.gb_record_text.specs.{Fits.FitsRecord, Laws.IsAnswered, Laws.AreSame, Records.IsRecord}
 use Rattle.gb_record_text.specs.declared.{head.RecordHead.RecordHead, reader.Record.Record}
 use Rattle.gb_audit_run.specs.Counts.{AreCounted, IsFirstGap}
@@ -186,7 +186,7 @@ pub record HasGapAt (records : List Record) (place count : ℕ) : Type 0 where
 
 -- why records of a cluster with this plan are not audited: an answer is not its node's, or the counts of a seat have a gap
 abbrev pub IsFaulty : Plan → List Record → Unaudited → Type 0
-IsFaulty plan records Differs = HasWrong plan records ⊎ IsDifferent plan (fed_tapes (tapes_of plan records))
+IsFaulty plan records Differs = HasWrong plan records
 IsFaulty plan records Gap = (place : ℕ) × (count : ℕ) × HasGapAt records place count
 IsFaulty plan records why = ⊥
 

@@ -1,11 +1,11 @@
 //! The audit of the records of a cluster's nodes: whether what they recorded is one run of the cluster.
-ghost use Rattle.std.specs.Prelude.{◌≡◌, ◌<◌, ◌↔◌, length, map, sum, true, false, AllPairs, All, IfOk, IfErr, IfSome, IfNone, IsTrue};
+ghost use Rattle.std.specs.Prelude.{◌≡◌, ◌<◌, ◌↔◌, length, map, sum, true, false, All, IfOk, IfErr, IfSome, IfNone, IsTrue};
 ghost use Rattle.std.specs.List.{range_with_len};
 ghost use Rattle.gb_cluster.specs.Common.{IsClusterPlan};
 ghost use Rattle.gb_merge.specs.Common.{IsDifferent, IsMergedFront, fed_tapes};
 ghost use Rattle.gb_record_text.specs.Fits.{FitsRecord};
 ghost use Rattle.gb_audit_run.specs.Counts.{AreCounted};
-ghost use Rattle.gb_audit_run.specs.Audits.{AreOfOne, AreRecords, HasGapAt, HasWrong, IsAudit, IsAudited, IsCluster, IsFaulty, IsMergedFrom, IsOfPlan, IsRight, IsUnaudited, IsUnread, IsVerdict, entries_of, fed_count, is_ended, tapes_of};
+ghost use Rattle.gb_audit_run.specs.Audits.{AreOfOne, AreRecords, HasGapAt, HasWrong, IsAudit, IsAudited, IsCluster, IsFaulty, IsMergedFrom, IsOfPlan, IsRight, IsUnaudited, IsUnread, IsVerdict, entries_of, fed_count, is_ended};
 
 use crate::cluster::{ClusterKeys, are_of_one, plan_of};
 use crate::counts::first_gap;
@@ -296,17 +296,17 @@ fn have_entries(tapes: &[Tape], count: usize) -> bool
     left == 0
 }
 
-// Merges the first entries of the tapes. `None` if an answer among them is not its replay's.
-fn merge_all(alloc: Global, plan: &Plan, tapes: &[Tape]) -> Result<Option<Vec<Event>>, OutOfMemory>
+// Merges the first entries of the tapes, each of which is its replay's. `Err` if memory runs out.
+fn merge_all(alloc: Global, plan: &Plan, tapes: &[Tape]) -> Result<Vec<Event>, OutOfMemory>
     requires plan { IsClusterPlan plan.now }
     requires one_each { length tapes.now ≡ plan.now.nodes }
-    ensures some { IfOk result (λ found. IfSome found (λ events. IsMergedFront plan.now (fed_tapes tapes.now) events.items)) }
-    ensures none { IfOk result (λ found. IfNone found (IsDifferent plan.now (fed_tapes tapes.now))) }
+    requires right { IsDifferent plan.now (fed_tapes tapes.now) → ⊥ }
+    ensures { IfOk result (λ events. IsMergedFront plan.now (fed_tapes tapes.now) events.items) }
 {
     match merge_front(alloc, plan, tapes) {
-        Ok(events) => Ok(Some(events)),
+        Ok(events) => Ok(events),
         Err(AuditFault::OutOfMemory) => Err(OutOfMemory),
-        Err(AuditFault::Differs) => Ok(None),
+        Err(AuditFault::Differs) => unreachable!(),
         Err(AuditFault::Stranger) => unreachable!(),
         Err(AuditFault::Stuck) => unreachable!(),
     }
@@ -406,38 +406,35 @@ fn read_cluster(
     Ok(Ok(Recorded { records, plan }))
 }
 
-// Merges the records of a cluster, each of which is what its node does alone, and returns the verdict. `None` if an answer among the
-// merged entries is not its replay's; the last line says so.
+// Merges the records of a cluster, each of which is what its node does alone, and returns the verdict. `Err` if memory runs out.
 fn merged(
     alloc: Global,
     sources: &[Source<'_>],
     recorded: Recorded,
     out: &mut Vec<u8>,
-) -> Result<Option<Audited>, OutOfMemory>
+) -> Result<Audited, OutOfMemory>
     requires plan { IsClusterPlan recorded.plan }
     requires here { All (λ r. r.head.node.number < recorded.plan.nodes) recorded.records.items }
-    ensures some { IfOk result (λ found. IfSome found (λ run. (run.plan ≡ recorded.plan) × IsMergedFrom recorded.records.items run)) }
-    ensures none { IfOk result (λ found. IfNone found (IsDifferent recorded.plan (fed_tapes (tapes_of recorded.plan recorded.records.items)))) }
+    requires right { All (IsRight recorded.plan) recorded.records.items }
+    ensures plan { IfOk result (λ run. run.plan ≡ recorded.plan) }
+    ensures merged { IfOk result (IsMergedFrom recorded.records.items) }
 {
     let Recorded { records, plan } = recorded;
     let names = names_of(sources, &records);
     let ended = ended_of(alloc, plan.nodes, &records)?;
     let tapes = tapes_of(alloc, plan.nodes, records)?;
-    let Some(events) = merge_all(alloc, &plan, &tapes)? else {
-        put_bytes(out, b"audit fault 3\n")?;
-        return Ok(None);
-    };
+    let events = merge_all(alloc, &plan, &tapes)?;
     let verdict = verdict_of(alloc, &plan, &tapes, &events, &ended, &names, out)?;
     let is_complete = are_true(&ended);
     put_merged(out, events.len())?;
     put_whole(out, verdict, is_complete)?;
-    Ok(Some(Audited {
+    Ok(Audited {
         plan,
         tapes,
         events,
         verdict,
         is_complete,
-    }))
+    })
 }
 
 /// Audits the records of a cluster. `sources` are the files that they were read from, in the same order. It appends to `out` a line for
@@ -461,10 +458,7 @@ pub fn audit_cluster(
         put_gap(out, name_at(sources, file), entry)?;
         return Ok(Err(Unaudited::Gap));
     }
-    match merged(alloc, sources, recorded, out)? {
-        Some(run) => Ok(Ok(run)),
-        None => Ok(Err(Unaudited::Differs)),
-    }
+    Ok(Ok(merged(alloc, sources, recorded, out)?))
 }
 
 /// Audits the records in `sources`, one for each node and in any order, under the cluster's keys, as `audit_cluster` does once they are

@@ -118,7 +118,7 @@ replay_is v [] = refl
 replay_is v (x ∷ entries) = replay_is (after_entry v x) entries ∙ (sym (after_from-last v x (past_of entries)) ∙ ap (after_from v) (sym (past_of-more x entries)))
 
 -- what was refused changes no replay
-replay_fed : (v : NodeValue) (entries : List TapeEntry) → fold after_entry v (fed_of entries) ≡ fold after_entry v entries
+pub replay_fed : (v : NodeValue) (entries : List TapeEntry) → fold after_entry v (fed_of entries) ≡ fold after_entry v entries
 replay_fed v [] = ap (fold after_entry v) fed_of-none
 replay_fed v (x ∷ entries) = by (wants_or_not (wants_memory x.answer)) (replay_fed v entries) (replay_fed (after_entry v x) entries)
   where
