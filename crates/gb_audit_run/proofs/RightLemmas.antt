@@ -67,7 +67,7 @@ never_other plan a tape right place x there differs = by differs given
 
 -- the entries of a node are right
 of_right : (plan : Plan) (a : NodeId) (records : List Record) → All (IsRight plan) records → AreReplayed plan a (entries_of records a.number)
-of_right plan a [] all i d lt = absurd (omega (arith, lt))
+of_right plan a [] all = λ i d lt. absurd (omega (arith, lt))
 of_right plan a (r ∷ records) all = by (nat_eq r.head.node.number a.number) refl (of_right plan a records (All-tail (IsRight plan) r records all))
   where
     by : (b : Bool) → nat_eq r.head.node.number a.number ≡ b → AreReplayed plan a (entries_of records a.number) → AreReplayed plan a (option_map_or (λ (s : Record). s.entries.items) (cond b (Some r) (find (is_of a.number) records)) [])

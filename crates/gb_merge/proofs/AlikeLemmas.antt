@@ -94,37 +94,33 @@ module _ (plan other : Plan) (tapes others : List (List TapeEntry)) (more : List
   -- an entry that goes is not the next that is held
   not_next : (done : List Pick) (rest : ℕ → List TapeEntry) (p : Pick) (e : Event) (after : List TapeEntry) → ((a : ℕ) → entries_at a done ++ rest a ≡ tape_of tapes a) → rest p.node.number ≡ p.entry ∷ after → Within done → IsEventOf plan p.node (sent_with done) p.entry.event e
       → length (entries_at p.node.number n.picks) ≡ length (entries_at p.node.number done) → ⊥
-  not_next done rest p e after parts next within is same = by (tape_of n.rest a) refl
+  not_next done rest p e after parts next within is same = by (tape_of n.rest p.node.number) refl
     where
-      a : ℕ
-      a = p.node.number
+      there : slice_get (tape_of tapes p.node.number) (length (entries_at p.node.number done)) ≡ Some p.entry
+      there =
+          ap (λ (es : List TapeEntry). slice_get es (length (entries_at p.node.number done))) (sym (parts p.node.number) ∙ ap (λ (es : List TapeEntry). entries_at p.node.number done ++ es) next)
+          ∙ seam (entries_at p.node.number done) p.entry after
 
-      k : ℕ
-      k = length (entries_at a done)
+      y : (y : TapeEntry) × (slice_get (tape_of others p.node.number) (length (entries_at p.node.number done)) ≡ Some y) × IsAlike plan other p.node.number p.entry y
+      y = zip_at (IsAlike plan other p.node.number) (tape_of tapes p.node.number) (tape_of others p.node.number) (length (entries_at p.node.number done)) p.entry (alike p.node.number) there
 
-      there : slice_get (tape_of tapes a) k ≡ Some p.entry
-      there = ap (λ (es : List TapeEntry). slice_get es k) (sym (parts a) ∙ ap (λ (es : List TapeEntry). entries_at a done ++ es) next) ∙ seam (entries_at a done) p.entry after
-
-      y : (y : TapeEntry) × (slice_get (tape_of others a) k ≡ Some y) × IsAlike plan other a p.entry y
-      y = zip_at (IsAlike plan other a) (tape_of tapes a) (tape_of others a) k p.entry (alike a) there
-
-      held : (left : List TapeEntry) → tape_of n.rest a ≡ left → IsHeld other a (sent_with n.picks) left
-      held left eq = subst (IsHeld other a (sent_with n.picks)) eq (n.held a)
-
-      by : (left : List TapeEntry) → tape_of n.rest a ≡ left → ⊥
+      by : (left : List TapeEntry) → tape_of n.rest p.node.number ≡ left → ⊥
       by [] eq =
-          let whole : tape_of others a ≡ entries_at a n.picks = sym (n.parts a) ∙ (ap (λ (es : List TapeEntry). entries_at a n.picks ++ es) eq ∙ append-nil (entries_at a n.picks)) in
-          let inside = slice_get_within (tape_of others a) k y.0 y.1 in
-          let size : length (tape_of others a) ≡ length (entries_at a n.picks) = ap length whole in
+          let whole : tape_of others p.node.number ≡ entries_at p.node.number n.picks = sym (n.parts p.node.number) ∙ (ap (λ (es : List TapeEntry). entries_at p.node.number n.picks ++ es) eq ∙ append-nil (entries_at p.node.number n.picks)) in
+          let inside : length (entries_at p.node.number done) < length (tape_of others p.node.number) = slice_get_within (tape_of others p.node.number) (length (entries_at p.node.number done)) y.0 y.1 in
+          let size : length (tape_of others p.node.number) ≡ length (entries_at p.node.number n.picks) = ap length whole in
           absurd (omega (arith, inside, size, same))
       by (z ∷ left) eq =
-          let at : slice_get (tape_of others a) k ≡ Some z =
-          ap (λ (es : List TapeEntry). slice_get es k) (sym (n.parts a) ∙ ap (λ (es : List TapeEntry). entries_at a n.picks ++ es) eq) ∙ (ap (λ i. slice_get (entries_at a n.picks ++ z ∷ left) i) (sym same) ∙ seam (entries_at a n.picks) z left) in
-          let one : z ≡ y.0 = let other_at = y.1 in cc in
-          let blocked : IsBlocked other (node_numbered a) (sent_with n.picks) y.0.event = subst (λ (x : TapeEntry). IsBlocked other (node_numbered a) (sent_with n.picks) x.event) one (held (z ∷ left) eq) in
-          let waits : IsBlocked plan (node_numbered a) (sent_with n.picks) p.entry.event = (y.2.waits (sent_with n.picks)).1 blocked in
+          let at : slice_get (tape_of others p.node.number) (length (entries_at p.node.number done)) ≡ Some z =
+          ap (λ (es : List TapeEntry). slice_get es (length (entries_at p.node.number done))) (sym (n.parts p.node.number) ∙ ap (λ (es : List TapeEntry). entries_at p.node.number n.picks ++ es) eq)
+          ∙ (ap (λ i. slice_get (entries_at p.node.number n.picks ++ z ∷ left) i) (sym same) ∙ seam (entries_at p.node.number n.picks) z left) in
+          let other_at : slice_get (tape_of others p.node.number) (length (entries_at p.node.number done)) ≡ Some y.0 = y.1 in
+          let one : z ≡ y.0 = cc in
+          let held : IsHeld other p.node.number (sent_with n.picks) (z ∷ left) = subst (IsHeld other p.node.number (sent_with n.picks)) eq (n.held p.node.number) in
+          let blocked : IsBlocked other (node_numbered p.node.number) (sent_with n.picks) y.0.event = subst (λ (x : TapeEntry). IsBlocked other (node_numbered p.node.number) (sent_with n.picks) x.event) one held in
+          let waits : IsBlocked plan (node_numbered p.node.number) (sent_with n.picks) p.entry.event = (y.2.waits (sent_with n.picks)).1 blocked in
           not_waiting plan p.node (sent_with done) (sent_with n.picks) p.entry.event e is (sent_too done rest parts within)
-          (subst (λ (b : NodeId). IsBlocked plan b (sent_with n.picks) p.entry.event) (node_of a p.node refl) waits)
+          (subst (λ (b : NodeId). IsBlocked plan b (sent_with n.picks) p.entry.event) (node_of p.node.number p.node refl) waits)
 
   goes : (done picks : List Pick) (events : List Event) (rest : ℕ → List TapeEntry) → ((a : ℕ) → entries_at a done ++ (entries_at a picks ++ rest a) ≡ tape_of tapes a) → AreEvents plan (sent_with done) picks events → Within done → Within (done ++ picks)
   unfolding AreEvents
@@ -196,7 +192,9 @@ left_of p picks tapes rest parts a = by (cases_eq p.node.number a)
 
 -- what was taken and what is left are all
 count_left : (picks : List Pick) (tapes rest : List (List TapeEntry)) → ((a : ℕ) → entries_at a picks ++ tape_of rest a ≡ tape_of tapes a) → length picks + count_of rest ≡ count_of tapes
-count_left [] tapes rest parts = same_count rest tapes (λ a. ap length (sym (ap (λ (es : List TapeEntry). es ++ tape_of rest a) (nothing a)) ∙ parts a))
+count_left [] tapes rest parts =
+    let same : count_of rest ≡ count_of tapes = same_count rest tapes (λ a. ap length (sym (ap (λ (es : List TapeEntry). es ++ tape_of rest a) (nothing a)) ∙ parts a)) in
+    omega (arith, same)
 count_left (p ∷ picks) tapes rest parts =
     let n = p.node.number in
     let after = entries_at n picks ++ tape_of rest n in
