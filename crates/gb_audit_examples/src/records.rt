@@ -305,14 +305,62 @@ static CASES: [Case; 15] = [
 ];
 
 // Returns true if the audit of each case prints its lines.
-fn are_told(alloc: Global) -> Result<bool, OutOfMemory> {
-    let texts = records_of(alloc, &plan(2), &STEPS)?;
-    for case in &CASES {
-        if !is_told(alloc, &texts, case)? {
+fn are_all_told(alloc: Global, texts: &[Vec<u8>], cases: &[Case]) -> Result<bool, OutOfMemory> {
+    for case in cases {
+        if !is_told(alloc, texts, case)? {
             return Ok(false);
         }
     }
     Ok(true)
+}
+
+fn are_told(alloc: Global) -> Result<bool, OutOfMemory> {
+    let texts = records_of(alloc, &plan(2), &STEPS)?;
+    are_all_told(alloc, &texts, &CASES)
+}
+
+// Node 1 takes a packet of node 2, of which there is no record, and behind it one of node 0.
+static BEHIND: [At; 12] = [
+    (0, Step::Ask(Asked::AddTenant)),
+    (0, Step::Ask(Asked::MakeGroup)),
+    (0, Step::Ask(Asked::OpenGroup)),
+    (0, Step::Ask(Asked::Say(b"a"))),
+    (0, Step::Pack(1)),
+    (1, Step::Ask(Asked::AddTenant)),
+    (1, Step::Ask(Asked::MakeGroup)),
+    (1, Step::Ask(Asked::OpenGroup)),
+    (2, Step::Ack(1)),
+    (1, Step::Come(2, 0)),
+    (1, Step::Come(0, 4)),
+    (1, Step::Tick),
+];
+
+static BEHIND_CASES: [Case; 2] = [
+    // The record of node 2 may have what it sent.
+    Case {
+        first: Change::None,
+        second: Change::None,
+        lines: "tape a node 0 entries 5 whole\ntape b node 1 entries 6 whole\nleft b line 5 entries 3 awaits 2\nmerged 8 events\n",
+        status: 3,
+    },
+    // That explains nothing of the packet behind, which node 0, whose record is whole, did not send.
+    Case {
+        first: Change::End(5),
+        second: Change::None,
+        lines: "tape a node 0 entries 4 whole\ntape b node 1 entries 6 whole\naudit fault 1 b line 6\nmerged 7 events\n",
+        status: 1,
+    },
+];
+
+fn are_told_behind(alloc: Global) -> Result<bool, OutOfMemory> {
+    let texts = records_of(alloc, &plan(3), &BEHIND)?;
+    are_all_told(alloc, &texts, &BEHIND_CASES)
+}
+
+#[test]
+fn a_missing_record_hides_no_packet_that_nobody_sent(rt: HostRuntime) {
+    let told = are_told_behind(rt.alloc());
+    assert!(rt; told == Ok(true));
 }
 
 // A record of another run stands in for node 1's. Its packets are tagged under that run's key, so the first that it sent is not what the
