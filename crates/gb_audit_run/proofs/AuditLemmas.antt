@@ -1,6 +1,6 @@
 -- Records, one after another, and the tapes that they make.
-use Rattle.gb_types.specs.Common.{◌≡◌, ◌≢◌, ℕ, zero, suc, ◌+◌, ◌<◌, ◌≤◌, ◌⊎◌, List, [], ◌∷◌, ◌++◌, length, map, take, get_or, All, ◌↔◌, refl, sym, ap, ◌∙◌, subst, arith, Option, Some, None, IsSome, Vec, vec_len, AllPairs, sum, slice_get, range_with_len, AllZip, set, take_more, take_all, take-map, get_or-take, length-take-le, map-append, get_or-set_same, get_or-set_other, length-map, same_lists, get_or_default, append-nil, All-append, All-get_or, All-head, All-tail, sum_by-take-le, sum_by-append, sum_by-cons, version_at, limits_of, inl, inr, cases_eq, length-append, get_or_append_left, get_or-append_seam}
-use Rattle.std.proofs.{Math.ListN.get_or-map, lemmas.Slice.Zip.all_zipped_more, lemmas.List.FromFn.length-map-range_with_len, lemmas.List.FromFn.get_or-map-range_with_len}
+use Rattle.gb_types.specs.Common.{◌≡◌, ◌≢◌, ℕ, zero, suc, ◌+◌, ◌<◌, ◌≤◌, ◌⊎◌, List, [], ◌∷◌, ◌++◌, length, map, take, get_or, All, ◌↔◌, refl, sym, ap, ◌∙◌, subst, arith, Option, Some, None, IsSome, Vec, vec_len, AllPairs, sum, slice_get, range_with_len, AllZip, set, take_more, take_all, take-map, get_or-take, length-take-le, map-append, get_or-set_same, get_or-set_other, length-map, same_lists, get_or_default, append-nil, All-append, All-get_or, All-head, All-tail, sum_by-take-le, sum_by-append, sum_by-cons, version_at, limits_of, inl, inr, cases_eq, length-append, get_or_append_left, get_or-append_seam, not}
+use Rattle.std.proofs.{Math.ListN.get_or-map, lemmas.List.Sums.length-filter, lemmas.Slice.Zip.all_zipped_more, lemmas.List.FromFn.length-map-range_with_len, lemmas.List.FromFn.get_or-map-range_with_len}
 use Rattle.std.specs.declared.alloc.Global.{Global}
 use Rattle.gb_types.specs.declared.{limits.TheConstants.NODES, plan.Plan.Plan, version.Version.Version, version.Version.TheVariants.One}
 use Rattle.gb_cluster.specs.Common.{IsClusterPlan}
@@ -8,7 +8,8 @@ use Rattle.gb_node.specs.declared.tape.TapeEntry.{TapeEntry}
 use Rattle.gb_record_text.specs.declared.{head.RecordHead.RecordHead, reader.Record.Record}
 use Rattle.gb_audit_run.specs.declared.audit.Source.{Source}
 use Rattle.gb_record_text.specs.{Fits.FitsRecord, Laws.AreSame, Laws.OneTextOneRecord}
-use Rattle.gb_audit_run.specs.Audits.{AreFaulty, AreOfOne, AreRecords, AreUnlike, AreUnplanned, HasGapAt, HasText, HasWrong, entries_of, IsAllAnswered, IsAudit, IsAudited, IsFaulty, IsRight, AreSent, AreTheOnly, IsCluster, IsOfPlan, IsUnaudited, IsUnplanned, SendsOne, tapes_of}
+use Rattle.gb_merge.specs.Common.{fed_of, wants_memory}
+use Rattle.gb_audit_run.specs.Audits.{AreFaulty, AreOfOne, AreRecords, AreUnlike, AreUnplanned, HasGapAt, HasText, HasWrong, entries_of, fed_count, IsAllAnswered, IsAudit, IsAudited, IsFaulty, IsRight, AreSent, AreTheOnly, IsCluster, IsOfPlan, IsUnaudited, IsUnplanned, SendsOne, tapes_of}
 use Rattle.gb_audit_run.specs.Counts.{IsFirstGap}
 use Rattle.gb_audit_run.specs.Replayed.{IsFirstWrong}
 use Rattle.gb_audit_run.specs.declared.{audit.Audited.Audited, audit.Unaudited.Unaudited, cluster.ClusterKeys.ClusterKeys}
@@ -117,6 +118,11 @@ sum_more f tapes i tape lt is =
     let more : sum (map f (take (i + 1) tapes)) ≡ sum (map f (take i tapes)) + sum (f tape ∷ []) = ap sum (mapped_more f tapes i tape lt is) ∙ sum_by-append (λ n. n) (map f (take i tapes)) (f tape ∷ []) in
     let one = sum_by-cons (λ n. n) (f tape) [] in
     omega (arith, more, one)
+
+-- how many entries were not refused
+pub fed_counted : (entries : List TapeEntry) → length (fed_of entries) ≡ fed_count entries
+unfolding fed_of
+fed_counted entries = length-filter (λ (x : TapeEntry). not (wants_memory x.answer)) entries
 
 -- records with one that is not of their cluster, or of one of their nodes
 pub unlike_of : (records : List Record) (r : Record) → (All (λ (x : Record). AreOfOne x.head r.head) records → ⊥) → AllPairs (λ (x : Record) (y : Record). AreOfOne x.head y.head) (records ++ r ∷ []) → ⊥

@@ -1,18 +1,24 @@
 -- The replay of what happened at a node is what the node did.
-use Rattle.gb_types.specs.Common.{◌≡◌, ℕ, zero, suc, ◌+◌, ◌<◌, ◌≤◌, ◌⊎◌, true, false, List, [], ◌∷◌, ◌++◌, length, take, drop, get_or, inl, inr, refl, sym, ap, subst, ◌∙◌, arith, take_more, take-append-drop}
+use Rattle.gb_types.specs.Common.{◌≡◌, ℕ, zero, suc, ◌+◌, ◌<◌, ◌≤◌, ◌⊎◌, true, false, List, [], ◌∷◌, ◌++◌, length, take, drop, get_or, inl, inr, refl, sym, ap, subst, ◌∙◌, arith, take_more, take-append-drop, Bool, ap₂, map, sum, sum_by, sum_by-cons}
 use Rattle.gb_types.specs.declared.{node.NodeId.NodeId, plan.Plan.Plan}
 use Rattle.gb_node.specs.Common.{Happened, IsTurn, NodeValue, StarvedSays}
 use Rattle.gb_node.specs.Past.{ComesTo as NodeComesTo}
 use Rattle.gb_node.specs.declared.{plan.NodePlan.NodePlan, tape.TapeEntry.TapeEntry}
 use Rattle.gb_cluster.specs.Common.{ClusterValue, ComesTo, NodeStep, node_at, node_plan, past_at}
 use Rattle.gb_cluster.proofs.NodesLemmas.{have_pasts}
-use Rattle.gb_merge.specs.Common.{after_entry, past_of, replay, wants_memory}
+use Rattle.gb_cluster.specs.declared.event.Event.{Event}
+use Rattle.gb_merge.specs.Closed.{ClosedTapesMergeWhole}
+use Rattle.gb_merge.specs.Common.{IsMergedFront, after_entry, fed_of, fed_tapes, past_of, replay, wants_memory}
 use Rattle.gb_merge.specs.Merged.{happened}
 use Rattle.gb_merge.proofs.ClosedLemmas.{past_of-append}
 use Rattle.gb_merge.proofs.FedLemmas.{leaves_node, wants_or_not}
 use Rattle.gb_record_text.specs.Laws.{TurnsAnswer}
-use Rattle.gb_audit_run.specs.Good.{BeginningsAreReplayed}
+use Rattle.gb_audit_run.specs.Audits.{AreAll, IsVerdict, fed_count}
+use Rattle.gb_audit_run.specs.Good.{BeginningsAreReplayed, GoodTapesAreWhole}
+use Rattle.gb_audit_run.specs.declared.audit.Verdict.{Verdict}
+use Rattle.gb_audit_run.specs.declared.audit.Verdict.TheVariants.{Whole, Left, Refused}
 use Rattle.gb_audit_run.specs.Replayed.{IsGiven}
+use Rattle.gb_audit_run.proofs.AuditLemmas.{fed_counted}
 use Rattle.gb_audit_run.proofs.ReplayLemmas.{after_so, given_so, refused_stays, replayed_more}
 
 -- the node before the later part of its past
@@ -64,3 +70,21 @@ replayed_so starves answers plan run v a later tape comes within begins =
     let whole = subst (λ (p : List Happened). NodeComesTo (node_plan plan a) p (node_at v a)) begins (have_pasts plan run v a comes within) in
     let there = before_later (node_plan plan a) later (past_of tape) (node_at v a) whole in
     given_so_at starves answers plan a tape there.0 there.1
+
+-- Nothing is left of good tapes.
+
+fed_sizes : (tapes : List (List TapeEntry)) → sum_by length (fed_tapes tapes) ≡ sum (map fed_count tapes)
+fed_sizes [] = refl
+fed_sizes (t ∷ tapes) =
+    sum_by-cons length (fed_of t) (fed_tapes tapes) ∙ (ap₂ (λ (m n : ℕ). m + n) (fed_counted t) (fed_sizes tapes) ∙ sym (sum_by-cons (λ n. n) (fed_count t) (map fed_count tapes)))
+
+pub whole_so : ClosedTapesMergeWhole → GoodTapesAreWhole
+whole_so law plan run tapes events ended verdict part m is = by verdict is
+  where
+    all : AreAll tapes events
+    all = (law plan run (fed_tapes tapes) events part m).count ∙ fed_sizes tapes
+
+    by : (w : Verdict) → IsVerdict plan tapes events ended w → w ≡ Whole
+    by Whole is = refl
+    by Left is = absurd (is.0 all)
+    by Refused is = absurd (is.0 all)

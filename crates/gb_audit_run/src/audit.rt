@@ -10,7 +10,7 @@ ghost use Rattle.gb_audit_run.specs.Audits.{AreOfOne, AreRecords, HasGapAt, HasW
 use crate::cluster::{ClusterKeys, are_of_one, plan_of};
 use crate::counts::first_gap;
 use crate::keys::has_other_keys;
-use crate::laws::beginnings_are_replayed;
+use crate::laws::{beginnings_are_replayed, good_tapes_are_whole};
 use crate::left::{merged_counts, sender_of};
 use crate::lines::{
     put_bad_line, put_fault, put_gap, put_left, put_merged, put_other_keys, put_passed,
@@ -22,7 +22,6 @@ use gb_merge::AuditFault;
 use gb_merge::fed::fed_is_one_run;
 use gb_merge::forged::find_forged;
 use gb_merge::front::merge_front;
-use gb_merge::laws::closed_tapes_merge_whole;
 use gb_node::{Tape, TapeEntry};
 use gb_record_text::laws::one_text_one_record;
 use gb_record_text::reader::read_record;
@@ -474,7 +473,7 @@ pub fn audit(
 {
     one_text_one_record();
     fed_is_one_run();
-    closed_tapes_merge_whole();
+    good_tapes_are_whole();
     beginnings_are_replayed();
     match read_cluster(alloc, sources, keys, out)? {
         Ok(recorded) => audit_cluster(alloc, sources, recorded, out),

@@ -1,6 +1,5 @@
 -- Audits of redacted records find what audits of the records find.
-use Rattle.gb_types.specs.Common.{◌≡◌, ℕ, zero, suc, ◌+◌, ◌⊎◌, ◌<◌, ◌↔◌, Bool, true, false, not, List, [], ◌∷◌, ◌++◌, length, map, take, get_or, All, AllZip, Some, Result, Ok, Err, inl, inr, refl, sym, ◌∙◌, ap, ap₂, subst, arith, sum, is_ok, append_assoc, append-nil, slice_get}
-use Rattle.std.proofs.lemmas.List.Sums.{length-filter}
+use Rattle.gb_types.specs.Common.{◌≡◌, ℕ, zero, suc, ◌+◌, ◌⊎◌, ◌<◌, ◌↔◌, Bool, true, false, List, [], ◌∷◌, ◌++◌, length, map, take, get_or, All, AllZip, Some, Result, Ok, Err, inl, inr, refl, sym, ◌∙◌, ap, ap₂, subst, arith, sum, is_ok, append_assoc, append-nil, slice_get}
 use Rattle.gb_types.specs.declared.{node.NodeId.NodeId, plan.Plan.Plan, spec.TenantRow.TenantRow, reply.Reply.Reply, reply.Reply.TheVariants.Done, reply.Reply.TheVariants.Refused, reply.Reply.TheVariants.Said, reply.Reply.TheVariants.Log}
 use Rattle.gb_frame.specs.declared.fault.PacketFault.{PacketFault}
 use Rattle.gb_frame.specs.Common.{Content, reading}
@@ -16,6 +15,7 @@ use Rattle.gb_merge.specs.Forged.{IsForgedAt, IsNoneForged, NamesEnded}
 use Rattle.gb_merge.specs.Interleaving.{entries_at, is_good, sent_by, tape_of}
 use Rattle.gb_merge.proofs.AlikeLemmas.{zip_at, zip_length}
 use Rattle.gb_merge.proofs.FedLemmas.{fed_of-none, fed_of-fed, fed_of-refused, tape_of-fed, wants_or_not}
+use Rattle.gb_audit_run.proofs.AuditLemmas.{fed_counted}
 use Rattle.gb_audit_run.specs.Audits.{AreAll, HasForged, IsVerdict, fed_count}
 use Rattle.gb_audit_run.specs.declared.audit.Verdict.{Verdict}
 use Rattle.gb_audit_run.specs.declared.audit.Verdict.TheVariants.{Whole, Left, Refused as VerdictRefused}
@@ -159,10 +159,6 @@ all_sent_same [] [] len same = refl
 all_sent_same [] (c ∷ copies) len same = absurd (omega (arith, len))
 all_sent_same (t ∷ tapes) [] len same = absurd (omega (arith, len))
 all_sent_same (t ∷ tapes) (c ∷ copies) len same = ap₂ (λ (us vs : List (List ℕ)). us ++ vs) (same 0) (all_sent_same tapes copies (omega (arith, len)) (λ a. same (suc a)))
-
-fed_counted : (entries : List TapeEntry) → length (fed_of entries) ≡ fed_count entries
-unfolding fed_of
-fed_counted entries = length-filter (λ (x : TapeEntry). not (wants_memory x.answer)) entries
 
 counts_same : (tapes copies : List (List TapeEntry)) → length copies ≡ length tapes → ((a : ℕ) → fed_count (tape_of tapes a) ≡ fed_count (tape_of copies a)) → map fed_count tapes ≡ map fed_count copies
 counts_same [] [] len same = refl
