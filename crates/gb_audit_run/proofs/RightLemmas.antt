@@ -33,7 +33,7 @@ stands_fed (y ∷ tape) place x there = by (wants_or_not (wants_memory y.answer)
         record { at = suc s.at; within = omega (arith, lt); here = s.here; before = fed_of-refused y (take s.at tape) refused ∙ (s.before ∙ ap (take k) (sym same)); fed = s.fed }
     by (inr fed) more zero at =
         let first = ap (λ (es : List TapeEntry). slice_get es 0) (sym (fed_of-fed y tape fed)) ∙ at in
-        let is : y ≡ x = cc in
+        let is : y ≡ x = let e = first in cc in
         record { at = 0; within = omega arith; here = is; before = fed_of-none; fed = ap (λ (e : TapeEntry). wants_memory e.answer) (sym is) ∙ fed }
     by (inr fed) more (suc k) at =
         let same = fed_of-fed y tape fed in

@@ -114,8 +114,7 @@ module _ (plan other : Plan) (tapes others : List (List TapeEntry)) (more : List
           let at : slice_get (tape_of others p.node.number) (length (entries_at p.node.number done)) ≡ Some z =
           ap (λ (es : List TapeEntry). slice_get es (length (entries_at p.node.number done))) (sym (n.parts p.node.number) ∙ ap (λ (es : List TapeEntry). entries_at p.node.number n.picks ++ es) eq)
           ∙ (ap (λ i. slice_get (entries_at p.node.number n.picks ++ z ∷ left) i) (sym same) ∙ seam (entries_at p.node.number n.picks) z left) in
-          let other_at : slice_get (tape_of others p.node.number) (length (entries_at p.node.number done)) ≡ Some y.0 = y.1 in
-          let one : z ≡ y.0 = cc in
+          let one : z ≡ y.0 = let e = sym at ∙ y.1 in cc in
           let held : IsHeld other p.node.number (sent_with n.picks) (z ∷ left) = subst (IsHeld other p.node.number (sent_with n.picks)) eq (n.held p.node.number) in
           let blocked : IsBlocked other (node_numbered p.node.number) (sent_with n.picks) y.0.event = subst (λ (x : TapeEntry). IsBlocked other (node_numbered p.node.number) (sent_with n.picks) x.event) one held in
           let waits : IsBlocked plan (node_numbered p.node.number) (sent_with n.picks) p.entry.event = (y.2.waits (sent_with n.picks)).1 blocked in
@@ -129,7 +128,7 @@ module _ (plan other : Plan) (tapes others : List (List TapeEntry)) (more : List
   goes done (p ∷ picks) [] rest parts are within a = absurd are
   goes done (p ∷ picks) (e ∷ events) rest parts are within a =
       subst (λ (ps : List Pick). length (entries_at a ps) ≤ length (entries_at a n.picks)) (append_assoc done (p ∷ []) picks)
-      (goes (done ++ p ∷ []) picks events rest (λ b. parts_more b (cases_eq p.node.number b)) (subst (λ (s : List (List ℕ)). AreEvents plan s picks events) (sym (sent_with-push done p)) are.1) (λ b. within_more b (cases_eq p.node.number b)) a)
+      (goes (done ++ p ∷ []) picks events rest (λ b. parts_more b (cases_eq p.node.number b)) (subst (λ (s : List (List ℕ)). AreEvents plan s picks events) (sym (sent_with-push done p)) are.1) (λ b. within_more are.0 b (cases_eq p.node.number b)) a)
     where
       parts_more : (b : ℕ) → (p.node.number ≡ b) ⊎ (p.node.number ≡ b → ⊥) → entries_at b (done ++ p ∷ []) ++ (entries_at b picks ++ rest b) ≡ tape_of tapes b
       parts_more b (inl here) =
@@ -142,18 +141,18 @@ module _ (plan other : Plan) (tapes others : List (List TapeEntry)) (more : List
       next : entries_at p.node.number (p ∷ picks) ++ rest p.node.number ≡ p.entry ∷ (entries_at p.node.number picks ++ rest p.node.number)
       next = ap (λ (es : List TapeEntry). es ++ rest p.node.number) (entries_at-same p.node.number p picks refl)
 
-      lower : (length (entries_at p.node.number done) < length (entries_at p.node.number n.picks)) ⊎ (length (entries_at p.node.number n.picks) ≤ length (entries_at p.node.number done)) → length (entries_at p.node.number done) < length (entries_at p.node.number n.picks)
-      lower (inl lt) = lt
-      lower (inr ge) = absurd (not_next done (λ b. entries_at b (p ∷ picks) ++ rest b) p e (entries_at p.node.number picks ++ rest p.node.number) parts next within are.0 (let le = within p.node.number in omega (arith, le, ge)))
+      lower : IsEventOf plan p.node (sent_with done) p.entry.event e → (length (entries_at p.node.number done) < length (entries_at p.node.number n.picks)) ⊎ (length (entries_at p.node.number n.picks) ≤ length (entries_at p.node.number done)) → length (entries_at p.node.number done) < length (entries_at p.node.number n.picks)
+      lower is (inl lt) = lt
+      lower is (inr ge) = absurd (not_next done (λ b. entries_at b (p ∷ picks) ++ rest b) p e (entries_at p.node.number picks ++ rest p.node.number) parts next within is (let le = within p.node.number in omega (arith, le, ge)))
 
-      within_more : (b : ℕ) → (p.node.number ≡ b) ⊎ (p.node.number ≡ b → ⊥) → length (entries_at b (done ++ p ∷ [])) ≤ length (entries_at b n.picks)
-      within_more b (inl here) =
+      within_more : IsEventOf plan p.node (sent_with done) p.entry.event e → (b : ℕ) → (p.node.number ≡ b) ⊎ (p.node.number ≡ b → ⊥) → length (entries_at b (done ++ p ∷ [])) ≤ length (entries_at b n.picks)
+      within_more is b (inl here) =
           let size : length (entries_at b (done ++ p ∷ [])) ≡ length (entries_at b done) + 1 =
           ap length (entries_at-append b done (p ∷ []) ∙ ap (λ (es : List TapeEntry). entries_at b done ++ es) (entries_at-same b p [] here ∙ ap (λ (es : List TapeEntry). p.entry ∷ es) (nothing b))) ∙ length-append (entries_at b done) (p.entry ∷ []) in
           let lt : length (entries_at b done) < length (entries_at b n.picks) =
-          subst (λ (i : ℕ). length (entries_at i done) < length (entries_at i n.picks)) here (lower (cases_lt (length (entries_at p.node.number done)) (length (entries_at p.node.number n.picks)))) in
+          subst (λ (i : ℕ). length (entries_at i done) < length (entries_at i n.picks)) here (lower is (cases_lt (length (entries_at p.node.number done)) (length (entries_at p.node.number n.picks)))) in
           omega (arith, size, lt)
-      within_more b (inr away) =
+      within_more is b (inr away) =
           let size : length (entries_at b (done ++ p ∷ [])) ≡ length (entries_at b done) =
           ap length (entries_at-append b done (p ∷ []) ∙ (ap (λ (es : List TapeEntry). entries_at b done ++ es) (entries_at-other b p [] away ∙ nothing b) ∙ append-nil (entries_at b done))) in
           let le = within b in omega (arith, size, le)
