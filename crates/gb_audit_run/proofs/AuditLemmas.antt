@@ -1,5 +1,5 @@
 -- Records, one after another, and the tapes that they make.
-use Rattle.gb_types.specs.Common.{◌≡◌, ◌≢◌, ℕ, zero, suc, ◌+◌, ◌<◌, ◌≤◌, ◌⊎◌, List, [], ◌∷◌, ◌++◌, length, map, take, get_or, All, ◌↔◌, refl, sym, ap, ◌∙◌, subst, arith, Option, Some, None, IsSome, Vec, vec_len, AllPairs, sum, slice_get, range_with_len, AllZip, set, take_more, take_all, take-map, get_or-take, length-take-le, map-append, get_or-set_same, get_or-set_other, length-map, same_lists, get_or_default, append-nil, All-append, All-get_or, All-head, All-tail, sum_by-take-le, sum_by-append, sum_by-cons, version_at, limits_of, inl, inr, cases_eq, length-append, get_or_append_left, get_or-append_seam, not}
+use Rattle.gb_types.specs.Common.{◌≡◌, ◌≢◌, ℕ, zero, suc, ◌+◌, ◌<◌, ◌≤◌, ◌⊎◌, List, [], ◌∷◌, ◌++◌, length, map, take, get_or, All, ◌↔◌, refl, sym, ap, ◌∙◌, subst, arith, Option, Some, None, IsSome, Vec, vec_len, AllPairs, sum, slice_get, range_with_len, AllZip, set, take_more, take_all, take-map, get_or-take, length-take-le, map-append, get_or-set_same, get_or-set_other, length-map, same_lists, get_or_default, append-nil, All-append, All-get_or, All-head, All-tail, sum_by-take-le, sum_by-append, sum_by-cons, version_at, limits_of, inl, inr, cases_eq, length-append, get_or_append_left, get_or-append_seam, not, Bool, true}
 use Rattle.std.proofs.{Math.ListN.get_or-map, lemmas.List.Sums.length-filter, lemmas.Slice.Zip.all_zipped_more, lemmas.List.FromFn.length-map-range_with_len, lemmas.List.FromFn.get_or-map-range_with_len}
 use Rattle.std.specs.declared.alloc.Global.{Global}
 use Rattle.gb_types.specs.declared.{limits.TheConstants.NODES, plan.Plan.Plan, version.Version.Version, version.Version.TheVariants.One}
@@ -8,8 +8,9 @@ use Rattle.gb_node.specs.declared.tape.TapeEntry.{TapeEntry}
 use Rattle.gb_record_text.specs.declared.{head.RecordHead.RecordHead, reader.Record.Record}
 use Rattle.gb_audit_run.specs.declared.audit.Source.{Source}
 use Rattle.gb_record_text.specs.{Fits.FitsRecord, Laws.AreSame, Laws.OneTextOneRecord}
-use Rattle.gb_merge.specs.Common.{fed_of, wants_memory}
-use Rattle.gb_audit_run.specs.Audits.{AreFaulty, AreOfOne, AreRecords, AreUnlike, AreUnplanned, HasGapAt, HasText, HasWrong, entries_of, fed_count, IsAllAnswered, IsAudit, IsAudited, IsFaulty, IsRight, AreSent, AreTheOnly, IsCluster, IsOfPlan, IsUnaudited, IsUnplanned, SendsOne, tapes_of}
+use Rattle.gb_cluster.specs.declared.event.Event.{Event}
+use Rattle.gb_merge.specs.Common.{IsMergedFront, fed_of, fed_tapes, wants_memory}
+use Rattle.gb_audit_run.specs.Audits.{AreEnded, AreFaulty, AreOfOne, AreRecords, AreUnlike, AreUnplanned, HasGapAt, HasText, HasWrong, ended_of, entries_of, fed_count, IsAllAnswered, IsAudit, IsAudited, IsFaulty, IsMergedFrom, IsRight, IsVerdict, AreSent, AreTheOnly, IsCluster, IsOfPlan, IsUnaudited, IsUnplanned, SendsOne, tapes_of}
 use Rattle.gb_audit_run.specs.Counts.{IsFirstGap}
 use Rattle.gb_audit_run.specs.Replayed.{IsFirstWrong}
 use Rattle.gb_audit_run.specs.declared.{audit.Audited.Audited, audit.Unaudited.Unaudited, cluster.ClusterKeys.ClusterKeys}
@@ -254,6 +255,17 @@ all_here records plan fit k d lt = (fit k d lt).here
 
 pub tapes_count : (plan : Plan) (records : List Record) → length (tapes_of plan records) ≡ plan.nodes
 tapes_count plan records = length-map-range_with_len (entries_of records) 0 plan.nodes
+
+-- what was merged of records is what it is made of
+pub merged_so : (records : List Record) (run : Audited) (tapes : List (List TapeEntry)) (events : List Event) (ended : List Bool) → run.tapes.items ≡ tapes_of run.plan records → ended ≡ ended_of run.plan records → tapes ≡ run.tapes.items → events ≡ run.events.items
+    → IsMergedFront run.plan (fed_tapes tapes) events → IsVerdict run.plan tapes events ended run.verdict → (run.is_complete ≡ true) ↔ AreEnded ended → IsMergedFrom records run
+merged_so records run tapes events ended made are_ended same_tapes same_events front verdict complete = record {
+  tapes = made;
+  front = subst (λ (ts : List (List TapeEntry)). IsMergedFront run.plan (fed_tapes ts) run.events.items) same_tapes (subst (IsMergedFront run.plan (fed_tapes tapes)) same_events front);
+  verdict = subst (λ (bs : List Bool). IsVerdict run.plan run.tapes.items run.events.items bs run.verdict) are_ended
+      (subst (λ (ts : List (List TapeEntry)). IsVerdict run.plan ts run.events.items ended run.verdict) same_tapes (subst (λ (es : List Event). IsVerdict run.plan tapes es ended run.verdict) same_events verdict));
+  complete = subst (λ (bs : List Bool). (run.is_complete ≡ true) ↔ AreEnded bs) are_ended complete;
+}
 
 pub audit_so : OneTextOneRecord → (sources : List Source) (keys : ClusterKeys) (records : List Record) (plan : Plan) (run : Audited) → AreRecords sources records → All FitsRecord records → IsCluster keys records plan → (run.plan ≡ plan) × IsAudited records run → IsAudit sources keys run
 audit_so law sources keys records plan run are fits cluster audited =
