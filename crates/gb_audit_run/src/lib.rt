@@ -6,6 +6,7 @@ pub mod cluster;
 pub mod counts;
 pub mod left;
 pub mod lines;
+pub mod parts;
 pub mod replay;
 pub mod verdict;
 
