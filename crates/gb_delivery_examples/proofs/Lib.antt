@@ -1,0 +1,5 @@
+mod GoesLemmas
+mod PacketLemmas
+mod StateLemmas
+mod SeenLemmas
+pub mod FloodLemmas
