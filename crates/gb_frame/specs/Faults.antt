@@ -1,12 +1,13 @@
 -- The table of faults: when each holds of bytes, and which is the first.
-use Rattle.std.specs.Prelude.{◌≡◌, ◌≢◌, ℕ, ◌<◌, ◌≤◌, ◌%◌, ◌⊎◌, List, [], ◌++◌, length, take, codes, All, None}
+use Rattle.std.specs.Prelude.{true, ◌≡◌, ◌≢◌, ℕ, ◌<◌, ◌≤◌, ◌%◌, ◌⊎◌, List, [], ◌++◌, length, take, codes, All, None}
 use Rattle.gb_types.specs.Common.{limits_of, version_named}
 use Rattle.gb_types.specs.declared.version.Version.{Version as TextVersion}
-use Rattle.gb_frame.specs.declared.{limits.TheConstants.SHORTEST, fault.PacketFault.PacketFault, item.Item.Item}
+use Rattle.gb_frame.specs.declared.{fault.PacketFault.PacketFault, item.Item.Item}
 use Rattle.gb_frame.specs.declared.fault.PacketFault.TheVariants.{Short, Magic, Version, Node, Mask, Count, Length, Trailing, TooLong, Tag}
 use Rattle.gb_frame.specs.Spelling.{items_text, IsItem, tag_of}
-use Rattle.gb_frame.specs.Fields.{version_in, from_in, to_in, base_in, mask_in, frame_in, count_in, items_in, tagged_in, tag_in}
+use Rattle.gb_frame.specs.Fields.{version_in, from_in, to_in, base_in, mask_in, frame_in, count_in, flags_in, items_in, tagged_in, tag_in}
 use Rattle.gb_frame.specs.Reading.{version_read}
+use Rattle.gb_frame.specs.Room.{shortest_of}
 
 -- the number of a fault in the table
 abbrev pub fault_number : PacketFault → ℕ
@@ -30,16 +31,16 @@ pub record Stand (version : TextVersion) (n : ℕ) (bytes : List ℕ) (items : L
 
 -- the fault holds of the bytes, whether or not others hold; the limits are those of the version that the version byte stands for
 abbrev pub HasFault : List ℕ → List ℕ → PacketFault → Type 0
-HasFault key bytes Short = length bytes < SHORTEST
+HasFault key bytes Short = length bytes < shortest_of (version_read bytes)
 HasFault key bytes Magic = take 2 bytes ≢ codes "GB"
 HasFault key bytes Version = version_named (version_in bytes) ≡ None
 HasFault key bytes Node = ((limits_of (version_read bytes)).nodes ≤ from_in bytes) ⊎ ((limits_of (version_read bytes)).nodes ≤ to_in bytes) ⊎ (from_in bytes ≡ to_in bytes)
-HasFault key bytes Mask = (base_in bytes ≡ 0) ⊎ (mask_in bytes % 2 ≡ 1)
+HasFault key bytes Mask = (base_in bytes ≡ 0) ⊎ (mask_in bytes % 2 ≡ 1) ⊎ (((limits_of (version_read bytes)).has_ticks ≡ true) × (1 < flags_in bytes))
 HasFault key bytes Count = ((frame_in bytes ≡ 0) × (count_in bytes ≢ 0)) ⊎ ((frame_in bytes ≢ 0) × (count_in bytes ≡ 0))
-HasFault key bytes Length = (items : List Item) (rest : List ℕ) → ¬ Stand (version_read bytes) (count_in bytes) (items_in bytes) items rest
-HasFault key bytes Trailing = (items : List Item) × (rest : List ℕ) × (rest ≢ []) × Stand (version_read bytes) (count_in bytes) (items_in bytes) items rest
+HasFault key bytes Length = (items : List Item) (rest : List ℕ) → ¬ Stand (version_read bytes) (count_in bytes) (items_in (version_read bytes) bytes) items rest
+HasFault key bytes Trailing = (items : List Item) × (rest : List ℕ) × (rest ≢ []) × Stand (version_read bytes) (count_in bytes) (items_in (version_read bytes) bytes) items rest
 HasFault key bytes TooLong = (limits_of (version_read bytes)).packet < length bytes
-HasFault key bytes Tag = tag_in bytes ≢ tag_of key (tagged_in bytes)
+HasFault key bytes Tag = tag_in (version_read bytes) bytes ≢ tag_of (version_read bytes) key (tagged_in (version_read bytes) bytes)
 
 -- the fault holds, and each one before it in the table does not
 pub record IsFirstFault (key bytes : List ℕ) (fault : PacketFault) : Type 0 where

@@ -1,12 +1,13 @@
 -- Reading bytes as a packet, as a function on lists.
 use Rattle.std.specs.Prelude.{ℕ, zero, suc, ◌%◌, ◌-◌, Bool, ◌||◌, ◌&&◌, not, nat_lt, nat_eq, List, [], ◌∷◌, length, take, drop, is_none, is_some, nat_le, find, ◌==◌, Option, Some, None, unwrap_or, option_and_then, Result, Ok, Err, if◌then◌else◌, slice_index}
 use Rattle.std.specs.{Cmp.Lexicographic.pointwise, Int.w16, Int.w32}
-use Rattle.gb_types.specs.declared.{version.Version.Version as TextVersion, version.Version.TheVariants.One, version.Version.TheVariants.Two, version.Version.TheVariants.Three}
+use Rattle.gb_types.specs.declared.{version.Version.Version as TextVersion, version.Version.TheVariants.One, version.Version.TheVariants.Two, version.Version.TheVariants.Three, version.Version.TheVariants.Four}
 use Rattle.gb_types.specs.Common.{limits_of, version_named}
-use Rattle.gb_frame.specs.declared.{limits.TheConstants.SHORTEST, item.Item.Item, fault.PacketFault.PacketFault}
+use Rattle.gb_frame.specs.declared.{item.Item.Item, fault.PacketFault.PacketFault}
 use Rattle.gb_frame.specs.declared.fault.PacketFault.TheVariants.{Short, Magic, Version, Node, Mask, Count, Length, Trailing, TooLong, Tag}
-use Rattle.gb_frame.specs.Fields.{number_at, version_in, from_in, to_in, base_in, mask_in, frame_in, count_in, tagged_in, tag_in, items_in}
+use Rattle.gb_frame.specs.Fields.{number_at, version_in, from_in, to_in, base_in, mask_in, frame_in, count_in, tick_in, flags_in, tagged_in, tag_in, items_in}
 use Rattle.gb_frame.specs.Packet.{Content}
+use Rattle.gb_frame.specs.Room.{shortest_of}
 use Rattle.gb_frame.specs.Spelling.{tag_of}
 
 -- the generation of the item at the front, 0 if the items of the version name none
@@ -14,6 +15,7 @@ abbrev pub generation_at : TextVersion → List ℕ → ℕ
 generation_at One bytes = 0
 generation_at Two bytes = 0
 generation_at Three bytes = number_at w32 4 bytes
+generation_at Four bytes = number_at w32 4 bytes
 
 -- The item at the front, and the bytes after it; its payload has at most `limit` bytes. The last fields of the header are the origin, the sequence
 -- number and the payload's length.
@@ -43,7 +45,7 @@ version_read bytes = unwrap_or (version_named (version_in bytes)) One
 
 -- the items and the bytes behind them, if all counted items are there
 abbrev pub parsed : List ℕ → Option (List Item × List ℕ)
-parsed bytes = items_at (version_read bytes) (limits_of (version_read bytes)).payload (count_in bytes) (items_in bytes)
+parsed bytes = items_at (version_read bytes) (limits_of (version_read bytes)).payload (count_in bytes) (items_in (version_read bytes) bytes)
 
 -- the tests of the header
 abbrev pub is_magic : List ℕ → Bool
@@ -58,36 +60,40 @@ is_acknowledgement bytes = nat_lt 0 (base_in bytes) && mask_in bytes % 2 == 0
 abbrev pub is_counted : List ℕ → Bool
 is_counted bytes = if frame_in bytes == 0 then count_in bytes == 0 else nat_lt 0 (count_in bytes)
 
--- true if the tag is the one under the key
-abbrev pub is_tagged : List ℕ → List ℕ → Bool
-is_tagged key bytes = pointwise nat_eq (tag_in bytes) (tag_of key (tagged_in bytes))
+-- true if no flag is set but those that the version has
+abbrev pub is_flagged : TextVersion → List ℕ → Bool
+is_flagged version bytes = not (limits_of version).has_ticks || nat_lt (flags_in bytes) 2
+
+-- true if the tag is the one of the version under the key
+abbrev pub is_tagged : TextVersion → List ℕ → List ℕ → Bool
+is_tagged version key bytes = pointwise nat_eq (tag_in version bytes) (tag_of version key (tagged_in version bytes))
 
 -- the bytes are the text of a packet under the key, by the limits of the version that they name
 abbrev pub is_packet : List ℕ → List ℕ → Bool
 is_packet key bytes =
-    nat_le SHORTEST (length bytes)
+    nat_le (shortest_of (version_read bytes)) (length bytes)
     && (is_magic bytes
     && (is_some (version_named (version_in bytes))
     && (is_between_nodes (limits_of (version_read bytes)).nodes bytes
-    && (is_acknowledgement bytes
+    && ((is_acknowledgement bytes && is_flagged (version_read bytes) bytes)
     && (is_counted bytes
     && (is_some (parsed bytes)
     && (nat_eq (length (left_over (parsed bytes))) 0
     && (nat_le (length bytes) (limits_of (version_read bytes)).packet
-    && is_tagged key bytes))))))))
+    && is_tagged (version_read bytes) key bytes))))))))
 
 -- the test of each fault, by the limits of the version that was read
 abbrev pub test : List ℕ → List ℕ → PacketFault → Bool
-test key bytes Short = nat_lt (length bytes) SHORTEST
+test key bytes Short = nat_lt (length bytes) (shortest_of (version_read bytes))
 test key bytes Magic = not (is_magic bytes)
 test key bytes Version = is_none (version_named (version_in bytes))
 test key bytes Node = not (is_between_nodes (limits_of (version_read bytes)).nodes bytes)
-test key bytes Mask = not (is_acknowledgement bytes)
+test key bytes Mask = not (is_acknowledgement bytes && is_flagged (version_read bytes) bytes)
 test key bytes Count = not (is_counted bytes)
 test key bytes Length = is_none (parsed bytes)
 test key bytes Trailing = nat_lt 0 (length (left_over (parsed bytes)))
 test key bytes TooLong = nat_lt (limits_of (version_read bytes)).packet (length bytes)
-test key bytes Tag = not (is_tagged key bytes)
+test key bytes Tag = not (is_tagged (version_read bytes) key bytes)
 
 -- the faults in the order of the checks
 abbrev pub faults : List PacketFault
@@ -97,9 +103,16 @@ faults = Short ∷ Magic ∷ Version ∷ Node ∷ Mask ∷ Count ∷ Length ∷ 
 unfoldable pub fault_in : List ℕ → List ℕ → Option PacketFault
 fault_in key bytes = find (test key bytes) faults
 
+-- the sender's tick number and its flag, 0 and false if packets of the version have none
+abbrev pub tick_read : TextVersion → List ℕ → ℕ
+tick_read version bytes = if (limits_of version).has_ticks then tick_in bytes else 0
+
+abbrev pub unheard_read : TextVersion → List ℕ → Bool
+unheard_read version bytes = (limits_of version).has_ticks && flags_in bytes == 1
+
 -- the packet that bytes without a fault are
 abbrev pub content_in : List ℕ → Content
-content_in bytes = record { version = version_read bytes; from = from_in bytes; to = to_in bytes; base = base_in bytes; mask = mask_in bytes; frame = frame_in bytes; items = items_of (parsed bytes) }
+content_in bytes = record { version = version_read bytes; from = from_in bytes; to = to_in bytes; base = base_in bytes; mask = mask_in bytes; frame = frame_in bytes; tick = tick_read (version_read bytes) bytes; unheard = unheard_read (version_read bytes) bytes; items = items_of (parsed bytes) }
 
 -- the fault if there is one, else the packet
 abbrev pub unless : Option PacketFault → Content → Result Content PacketFault

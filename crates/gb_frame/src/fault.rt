@@ -6,7 +6,7 @@ use thiserror::Error;
 /// Why bytes are not a packet: the first of these that holds.
 #[derive(Clone, Copy, Debug, PartialEq, Eq, Error)]
 pub enum PacketFault {
-    /// Fewer bytes than the shortest packet has.
+    /// Fewer bytes than the shortest packet of the version that the third byte stands for has; of version 1 if it stands for none.
     #[error("short")]
     Short,
     /// The first two bytes are not `GB`.
@@ -18,7 +18,7 @@ pub enum PacketFault {
     /// The sender or the destination is beyond the greatest node number of the version, or they are the same node.
     #[error("node")]
     Node,
-    /// The acknowledgement's base is 0, or its mask has bit 0 set.
+    /// The acknowledgement's base is 0, or its mask has bit 0 set, or a flag is set that the version does not have.
     #[error("mask")]
     Mask,
     /// The frame number is 0 but there are items, or it is not 0 but there are none.
@@ -33,7 +33,7 @@ pub enum PacketFault {
     /// More bytes than the longest packet of the version has.
     #[error("too long")]
     TooLong,
-    /// The last 8 bytes are not the tag of the bytes before them.
+    /// The last bytes, 8 or 16 by the version, are not the tag of the bytes before them.
     #[error("tag")]
     Tag,
 }

@@ -1,24 +1,28 @@
 // The header of a packet: its fields, and the tests of them.
 ghost use Rattle.std.specs.Prelude.{◌≡◌, ◌≤◌, length};
-ghost use Rattle.gb_frame.specs.declared.limits.TheConstants.{HEADER, SHORTEST};
+ghost use Rattle.gb_types.specs.Common.{limits_of};
+ghost use Rattle.gb_frame.specs.declared.limits.TheConstants.{FIELDS as FIRST};
 ghost use Rattle.gb_frame.specs.Fields.{base_in, mask_in, frame_in, count_in, items_in};
-ghost use Rattle.gb_frame.specs.Reading.{version_read, is_magic, is_between_nodes, is_acknowledgement, is_counted};
+ghost use Rattle.gb_frame.specs.Room.{shortest_of};
+ghost use Rattle.gb_frame.specs.Reading.{version_read, is_magic, is_between_nodes, is_acknowledgement, is_flagged, is_counted, tick_read, unheard_read};
 
-use crate::limits::{HEADER, TAG};
+use crate::limits::FIELDS;
 use crate::number::{u16_at, u64_at};
 use gb_types::Version;
 
-/// Returns the version that the version byte of a packet's header stands for, or version 1 if it stands for none.
+/// Returns the version that the third byte stands for, or version 1 if it stands for none, or if there are fewer bytes.
 pub fn version_of(bytes: &[u8]) -> Version
-    requires { HEADER ≤ length bytes.now }
     ensures { result ≡ version_read bytes.now }
 {
+    if bytes.len() < 3 {
+        return Version::One;
+    }
     Version::from_byte(bytes[2]).unwrap_or(Version::One)
 }
 
 /// Returns the base of the acknowledgement in a packet's header: each frame with a lower number was received. It is not tested here.
 pub fn base_of(bytes: &[u8]) -> u64
-    requires { HEADER ≤ length bytes.now }
+    requires { FIRST ≤ length bytes.now }
     ensures { result ≡ base_in bytes.now }
 {
     u64_at(bytes, 5)
@@ -27,7 +31,7 @@ pub fn base_of(bytes: &[u8]) -> u64
 /// Returns the mask of the acknowledgement in a packet's header: bit i, of value 2 to the i, is 1 if frame base + i was received. It is
 /// not tested here.
 pub fn mask_of(bytes: &[u8]) -> u64
-    requires { HEADER ≤ length bytes.now }
+    requires { FIRST ≤ length bytes.now }
     ensures { result ≡ mask_in bytes.now }
 {
     u64_at(bytes, 13)
@@ -35,7 +39,7 @@ pub fn mask_of(bytes: &[u8]) -> u64
 
 /// Returns the number of the frame that a packet's header names, or 0 if the packet carries no frame.
 pub fn frame_of(bytes: &[u8]) -> u64
-    requires { HEADER ≤ length bytes.now }
+    requires { FIRST ≤ length bytes.now }
     ensures { result ≡ frame_in bytes.now }
 {
     u64_at(bytes, 21)
@@ -43,7 +47,7 @@ pub fn frame_of(bytes: &[u8]) -> u64
 
 /// Returns the number of items that a packet's header names. Whether they are there is not tested here.
 pub fn count_of(bytes: &[u8]) -> u16
-    requires { HEADER ≤ length bytes.now }
+    requires { FIRST ≤ length bytes.now }
     ensures { result ≡ count_in bytes.now }
 {
     u16_at(bytes, 29)
@@ -51,7 +55,7 @@ pub fn count_of(bytes: &[u8]) -> u16
 
 /// Returns true if the first two bytes of a packet's header are `GB`, and false otherwise.
 pub fn has_magic(bytes: &[u8]) -> bool
-    requires { HEADER ≤ length bytes.now }
+    requires { FIRST ≤ length bytes.now }
     ensures { result ≡ is_magic bytes.now }
 {
     bytes[0] == b'G' && bytes[1] == b'B'
@@ -60,7 +64,7 @@ pub fn has_magic(bytes: &[u8]) -> bool
 /// Returns true if the sender and the destination that a packet's header names are two different nodes below `nodes`, and false
 /// otherwise.
 pub fn has_nodes(nodes: u8, bytes: &[u8]) -> bool
-    requires { HEADER ≤ length bytes.now }
+    requires { FIRST ≤ length bytes.now }
     ensures { result ≡ is_between_nodes nodes bytes.now }
 {
     bytes[3] < nodes && bytes[4] < nodes && bytes[3] != bytes[4]
@@ -68,15 +72,45 @@ pub fn has_nodes(nodes: u8, bytes: &[u8]) -> bool
 
 /// Returns true if the acknowledgement in a packet's header has a base above 0 and a mask whose bit 0 is 0, and false otherwise.
 pub fn has_acknowledgement(bytes: &[u8]) -> bool
-    requires { HEADER ≤ length bytes.now }
+    requires { FIRST ≤ length bytes.now }
     ensures { result ≡ is_acknowledgement bytes.now }
 {
     base_of(bytes) > 0 && mask_of(bytes) % 2 == 0
 }
 
+/// Returns the tick number of its sender that a packet of this version has, or 0 if packets of the version have none.
+pub fn tick_of(version: Version, bytes: &[u8]) -> u64
+    requires { (limits_of version).header ≤ length bytes.now }
+    ensures { result ≡ tick_read version bytes.now }
+{
+    if version.limits().has_ticks {
+        u64_at(bytes, FIELDS)
+    } else {
+        0
+    }
+}
+
+/// Returns true if a packet of this version says that its destination is silent at its sender. Returns false if it does not say it, or
+/// if packets of the version have no flags.
+pub fn unheard_of(version: Version, bytes: &[u8]) -> bool
+    requires { (limits_of version).header ≤ length bytes.now }
+    ensures { result ≡ unheard_read version bytes.now }
+{
+    version.limits().has_ticks && bytes[FIELDS + 8] == 1
+}
+
+/// Returns true if no flag of a packet of this version is set but bit 0, or if packets of the version have no flags. Returns false
+/// otherwise.
+pub fn has_flags(version: Version, bytes: &[u8]) -> bool
+    requires { (limits_of version).header ≤ length bytes.now }
+    ensures { result ≡ is_flagged version bytes.now }
+{
+    !version.limits().has_ticks || bytes[FIELDS + 8] < 2
+}
+
 /// Returns true if a packet's header names a frame and at least one item, or neither. Returns false if it names only one of them.
 pub fn has_counted_frame(bytes: &[u8]) -> bool
-    requires { HEADER ≤ length bytes.now }
+    requires { FIRST ≤ length bytes.now }
     ensures { result ≡ is_counted bytes.now }
 {
     if frame_of(bytes) == 0 {
@@ -86,12 +120,13 @@ pub fn has_counted_frame(bytes: &[u8]) -> bool
     }
 }
 
-/// Returns the bytes between the header and the tag of a packet: the texts of its items. They are not copied.
-pub fn texts_of(bytes: &[u8]) -> &[u8]
-    requires { SHORTEST ≤ length bytes.now }
-    ensures { result.now ≡ items_in bytes.now }
+/// Returns the bytes between the header and the tag of a packet of this version: the texts of its items. They are not copied.
+pub fn texts_of(version: Version, bytes: &[u8]) -> &[u8]
+    requires { shortest_of version ≤ length bytes.now }
+    ensures { result.now ≡ items_in version bytes.now }
 {
-    let (tagged, _tag) = bytes.split_at(bytes.len() - TAG);
-    let (_header, texts) = tagged.split_at(HEADER);
+    let limits = version.limits();
+    let (tagged, _tag) = bytes.split_at(bytes.len() - limits.tag);
+    let (_header, texts) = tagged.split_at(limits.header);
     texts
 }

@@ -88,7 +88,7 @@ fn put_head(version: Version, item: ItemView<'_>, text: &mut Vec<u8>)
         Version::One | Version::Two => {
             append(text, &[t0, t1, g0, g1, item.origin, s0, s1, l0, l1]);
         }
-        Version::Three => {
+        Version::Three | Version::Four => {
             append(
                 text,
                 &[t0, t1, g0, g1, n0, n1, n2, n3, item.origin, s0, s1, l0, l1],
@@ -136,7 +136,7 @@ fn generation_of(version: Version, texts: &[u8]) -> u32
 {
     match version {
         Version::One | Version::Two => 0,
-        Version::Three => u32_at(texts, 4),
+        Version::Three | Version::Four => u32_at(texts, 4),
     }
 }
 

@@ -7,10 +7,11 @@ ghost use Rattle.gb_frame.specs.Faults.{IsFirstFault};
 
 use crate::fault::PacketFault;
 use crate::header::{
-    count_of, has_acknowledgement, has_counted_frame, has_magic, has_nodes, texts_of,
+    count_of, has_acknowledgement, has_counted_frame, has_flags, has_magic, has_nodes, texts_of,
+    version_of,
 };
 use crate::item::skip_items;
-use crate::limits::SHORTEST;
+use crate::limits::shortest;
 use crate::tag::has_tag;
 use crate::view::PacketView;
 use gb_cap::HmacKey;
@@ -21,7 +22,7 @@ use gb_types::Version;
 fn first_fault(bytes: &[u8], key: &HmacKey) -> Option<PacketFault>
     ensures { result ≡ fault_in key.now bytes.now }
 {
-    if bytes.len() < SHORTEST {
+    if bytes.len() < shortest(version_of(bytes)) {
         return Some(PacketFault::Short);
     }
     if !has_magic(bytes) {
@@ -34,13 +35,13 @@ fn first_fault(bytes: &[u8], key: &HmacKey) -> Option<PacketFault>
     if !has_nodes(limits.nodes, bytes) {
         return Some(PacketFault::Node);
     }
-    if !has_acknowledgement(bytes) {
+    if !has_acknowledgement(bytes) || !has_flags(version, bytes) {
         return Some(PacketFault::Mask);
     }
     if !has_counted_frame(bytes) {
         return Some(PacketFault::Count);
     }
-    let Some(rest) = skip_items(version, limits.payload, count_of(bytes), texts_of(bytes)) else {
+    let Some(rest) = skip_items(version, limits.payload, count_of(bytes), texts_of(version, bytes)) else {
         return Some(PacketFault::Length);
     };
     if !rest.is_empty() {
@@ -49,7 +50,7 @@ fn first_fault(bytes: &[u8], key: &HmacKey) -> Option<PacketFault>
     if bytes.len() > limits.packet {
         return Some(PacketFault::TooLong);
     }
-    if !has_tag(bytes, key) {
+    if !has_tag(version, bytes, key) {
         return Some(PacketFault::Tag);
     }
     None

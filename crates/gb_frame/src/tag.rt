@@ -1,29 +1,21 @@
 // The tag of a packet.
 ghost use Rattle.std.specs.Prelude.{◌≡◌, ◌≤◌, length};
-ghost use Rattle.gb_frame.specs.declared.limits.TheConstants.{TAG};
+ghost use Rattle.gb_types.specs.Common.{limits_of};
 ghost use Rattle.gb_frame.specs.Spelling.{tag_of};
 ghost use Rattle.gb_frame.specs.Reading.{is_tagged};
 
-use crate::limits::TAG;
 use gb_cap::HmacKey;
 use gb_cap::compare::count_differences;
+use gb_types::Version;
 
-/// Returns the tag of a packet whose bytes before the tag are `text`: the first 8 bytes of their HMAC-SHA-256 under `key`.
+/// Returns true if the last bytes are the tag of this version of the bytes before them under `key`, and false otherwise.
 #[tactic(auto, unfolding(crate::specs::Spelling::tag_of))]
-pub fn tag(text: &[u8], key: &HmacKey) -> [u8; TAG]
-    ensures { result ≡ tag_of key.now text.now }
+pub fn has_tag(version: Version, bytes: &[u8], key: &HmacKey) -> bool
+    requires { (limits_of version).tag ≤ length bytes.now }
+    ensures { result ≡ is_tagged version key.now bytes.now }
 {
+    let len = version.limits().tag;
+    let (text, end) = bytes.split_at(bytes.len() - len);
     let mac = key.hmac(text);
-    [
-        mac[0], mac[1], mac[2], mac[3], mac[4], mac[5], mac[6], mac[7],
-    ]
-}
-
-/// Returns true if the last 8 bytes are the tag of the bytes before them under `key`, and false otherwise.
-pub fn has_tag(bytes: &[u8], key: &HmacKey) -> bool
-    requires { TAG ≤ length bytes.now }
-    ensures { result ≡ is_tagged key.now bytes.now }
-{
-    let (text, end) = bytes.split_at(bytes.len() - TAG);
-    count_differences(end, &tag(text, key)) == 0
+    count_differences(end, &mac[..len]) == 0
 }

@@ -2,13 +2,15 @@
 ghost use Rattle.std.specs.Prelude.{◌≡◌, ◌≤◌, ◌<◌, List, [], length, Some};
 ghost use Rattle.std.specs.Iterator.{YieldsFirstBy, item_count};
 ghost use Rattle.gb_types.specs.declared.limits.TheConstants.{NODES};
-ghost use Rattle.gb_frame.specs.declared.limits.TheConstants.{SHORTEST};
 ghost use Rattle.gb_frame.specs.Packet.{item_of, packet_of};
 ghost use Rattle.gb_frame.specs.Fields.{from_in, to_in};
-ghost use Rattle.gb_frame.specs.Reading.{parsed, items_of, content_in};
+ghost use Rattle.gb_frame.specs.Reading.{parsed, items_of, content_in, version_read};
+ghost use Rattle.gb_frame.specs.Room.{shortest_of};
 ghost use Rattle.gb_frame.specs.Batch.{batch_in};
 
-use crate::header::{base_of, count_of, frame_of, mask_of, texts_of, version_of};
+use crate::header::{
+    base_of, count_of, frame_of, mask_of, texts_of, tick_of, unheard_of, version_of,
+};
 use crate::item::{ItemView, first_item};
 use crate::packet::Head;
 use gb_types::limits::PAYLOAD;
@@ -39,23 +41,26 @@ impl<'a> Model for PacketView<'a> {
 impl<'a> PacketView<'a> {
     /// Returns the packet that bytes without a fault are.
     pub(crate) fn of(bytes: &'a [u8]) -> PacketView<'a>
-        requires long { SHORTEST ≤ length bytes.now }
+        requires long { shortest_of (version_read bytes.now) ≤ length bytes.now }
         requires from { from_in bytes.now < NODES }
         requires to { to_in bytes.now < NODES }
         requires items { parsed bytes.now ≡ Some (items_of (parsed bytes.now), []) }
         ensures { result ≡ content_in bytes.now }
     {
+        let version = version_of(bytes);
         PacketView {
             head: Head {
-                version: version_of(bytes),
+                version,
                 from: NodeId { number: bytes[3] },
                 to: NodeId { number: bytes[4] },
                 base: base_of(bytes),
                 mask: mask_of(bytes),
                 frame: frame_of(bytes),
+                tick: tick_of(version, bytes),
+                unheard: unheard_of(version, bytes),
             },
             count: count_of(bytes),
-            texts: texts_of(bytes),
+            texts: texts_of(version, bytes),
         }
     }
 

@@ -1,22 +1,23 @@
 //! Writing packets as bytes.
 ghost use Rattle.std.specs.Prelude.{◌≡◌, ◌+◌, ◌≤◌, ◌++◌, List, length, drop, All, IfOk, vec_len, vec_capacity};
-ghost use Rattle.gb_frame.specs.declared.{limits.TheConstants.HEADER, limits.TheConstants.TAG, limits.TheConstants.SHORTEST, item.Item.Item};
+ghost use Rattle.gb_types.specs.Common.{limits_of};
+ghost use Rattle.gb_frame.specs.declared.{limits.TheConstants.FIELDS, item.Item.Item};
+ghost use Rattle.gb_frame.specs.Room.{shortest_of};
 ghost use Rattle.gb_frame.specs.Packet.{content, packet_of};
-ghost use Rattle.gb_frame.specs.Spelling.{header_text, tag_of, packet_text, AreTexts, HasGeneration, IsWithinLimits, FitsFields, IsPacket, IsText};
+ghost use Rattle.gb_frame.specs.Spelling.{header_text, tag_of, packet_text, AreTexts, HasGeneration, HasTicks, IsWithinLimits, FitsFields, IsPacket, IsText, fields_text, ticks_text};
 
 use crate::item::{append, put_items};
 use crate::packet::{Head, Packet, room_beside};
-use crate::tag::tag;
 use gb_cap::HmacKey;
-use gb_types::OutOfMemory;
+use gb_types::{OutOfMemory, Version};
 use std::alloc::Global;
 
-/// Appends the header of a packet with `count` items. Takes no memory.
-#[tactic(auto, unfolding(crate::specs::Spelling::header_text), using(std::proofs::lemmas::List::append_assoc))]
-fn put_header(head: Head, count: u16, text: &mut Vec<u8>)
-    requires room { vec_len text.old + HEADER ≤ vec_capacity text.old }
-    ensures written { (items : List Item) → length items ≡ count → text.new.items ≡ text.old.items ++ header_text (packet_of head items) }
-    ensures len { vec_len text.new ≡ vec_len text.old + HEADER }
+/// Appends the fields that the header of each version begins with, in a packet with `count` items. Takes no memory.
+#[tactic(auto, unfolding(crate::specs::Spelling::fields_text), using(std::proofs::lemmas::List::append_assoc))]
+fn put_fields(head: Head, count: u16, text: &mut Vec<u8>)
+    requires room { vec_len text.old + FIELDS ≤ vec_capacity text.old }
+    ensures written { (items : List Item) → length items ≡ count → text.new.items ≡ text.old.items ++ fields_text (packet_of head items) }
+    ensures len { vec_len text.new ≡ vec_len text.old + FIELDS }
     ensures capacity { vec_capacity text.old ≤ vec_capacity text.new }
     ensures fits { (items : List Item) → FitsFields (packet_of head items) }
 {
@@ -35,15 +36,45 @@ fn put_header(head: Head, count: u16, text: &mut Vec<u8>)
     );
 }
 
-/// Appends the tag of the bytes from index `start` on. Takes no memory.
-fn put_tag(start: usize, key: &HmacKey, text: &mut Vec<u8>)
-    requires start { start ≤ vec_len text.old }
-    requires room { vec_len text.old + TAG ≤ vec_capacity text.old }
-    ensures written { text.new.items ≡ text.old.items ++ tag_of key.now (drop start text.old.items) }
+/// Appends the sender's tick number and the flags, if packets of the version have them. Takes no memory.
+fn put_ticks(version: Version, tick: u64, unheard: bool, text: &mut Vec<u8>)
+    requires room { vec_len text.old + (limits_of version).header ≤ vec_capacity text.old + FIELDS }
+    ensures written { text.new.items ≡ text.old.items ++ ticks_text version tick unheard }
+    ensures len { vec_len text.new + FIELDS ≡ vec_len text.old + (limits_of version).header }
     ensures capacity { vec_capacity text.old ≤ vec_capacity text.new }
 {
-    let end = tag(&text[start..], key);
-    append(text, &end);
+    match version {
+        Version::One | Version::Two | Version::Three => {}
+        Version::Four => {
+            let [t0, t1, t2, t3, t4, t5, t6, t7] = tick.to_be_bytes();
+            append(text, &[t0, t1, t2, t3, t4, t5, t6, t7, u8::from(unheard)]);
+        }
+    }
+}
+
+/// Appends the header of a packet with `count` items. Takes no memory.
+#[tactic(auto, unfolding(crate::specs::Spelling::header_text), using(std::proofs::lemmas::List::append_assoc))]
+fn put_header(head: Head, count: u16, text: &mut Vec<u8>)
+    requires room { vec_len text.old + (limits_of head.version).header ≤ vec_capacity text.old }
+    ensures written { (items : List Item) → length items ≡ count → text.new.items ≡ text.old.items ++ header_text (packet_of head items) }
+    ensures len { vec_len text.new ≡ vec_len text.old + (limits_of head.version).header }
+    ensures capacity { vec_capacity text.old ≤ vec_capacity text.new }
+    ensures fits { (items : List Item) → FitsFields (packet_of head items) }
+{
+    put_fields(head, count, text);
+    put_ticks(head.version, head.tick, head.unheard, text);
+}
+
+/// Appends the tag of this version of the bytes from index `start` on. Takes no memory.
+#[tactic(auto, unfolding(crate::specs::Spelling::tag_of))]
+fn put_tag(version: Version, start: usize, key: &HmacKey, text: &mut Vec<u8>)
+    requires start { start ≤ vec_len text.old }
+    requires room { vec_len text.old + (limits_of version).tag ≤ vec_capacity text.old }
+    ensures written { text.new.items ≡ text.old.items ++ tag_of version key.now (drop start text.old.items) }
+    ensures capacity { vec_capacity text.old ≤ vec_capacity text.new }
+{
+    let mac = key.hmac(&text[start..]);
+    append(text, &mac[..version.limits().tag]);
 }
 
 /// Returns the bytes of a packet, in memory that it takes: header, items and the tag under `key`. The caller knows that the packet keeps
@@ -51,6 +82,7 @@ fn put_tag(start: usize, key: &HmacKey, text: &mut Vec<u8>)
 pub fn encode(alloc: Global, packet: &Packet, key: &HmacKey) -> Result<Vec<u8>, OutOfMemory>
     requires limits { IsWithinLimits (content packet.now) }
     requires generations { All (HasGeneration packet.now.version) (content packet.now).items }
+    requires ticks { HasTicks packet.now.version packet.now.tick packet.now.unheard }
     ensures { IfOk result (λ text. IsText key.now text.items (content packet.now)) }
 {
     let room = room_beside(packet.version, &packet.items).unwrap();
@@ -58,7 +90,7 @@ pub fn encode(alloc: Global, packet: &Packet, key: &HmacKey) -> Result<Vec<u8>, 
     let count = packet.items.len() as u16;
     put_header(packet.head(), count, &mut text);
     put_items(packet.version, &packet.items, &mut text);
-    put_tag(0, key, &mut text);
+    put_tag(packet.version, 0, key, &mut text);
     Ok(text)
 }
 
@@ -67,7 +99,8 @@ pub fn encode(alloc: Global, packet: &Packet, key: &HmacKey) -> Result<Vec<u8>, 
 /// for it.
 pub fn wrap(head: Head, count: u16, texts: &[u8], key: &HmacKey, packet: &mut Vec<u8>)
     requires packet { (items : List Item) × AreTexts head.version texts.now items × (length items ≡ count) × IsWithinLimits (packet_of head items) }
-    requires room { vec_len packet.old + SHORTEST + length texts.now ≤ vec_capacity packet.old }
+    requires ticks { HasTicks head.version head.tick head.unheard }
+    requires room { vec_len packet.old + shortest_of head.version + length texts.now ≤ vec_capacity packet.old }
     ensures written { (items : List Item) → AreTexts head.version texts.now items → packet.new.items ≡ packet.old.items ++ packet_text key.now (packet_of head items) }
     ensures packet { (items : List Item) → AreTexts head.version texts.now items → IsPacket (packet_of head items) }
     ensures capacity { vec_capacity packet.old ≤ vec_capacity packet.new }
@@ -75,5 +108,5 @@ pub fn wrap(head: Head, count: u16, texts: &[u8], key: &HmacKey, packet: &mut Ve
     let start = packet.len();
     put_header(head, count, packet);
     append(packet, texts);
-    put_tag(start, key, packet);
+    put_tag(head.version, start, key, packet);
 }

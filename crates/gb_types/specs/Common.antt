@@ -24,4 +24,4 @@ pub use Rattle.gb_types.specs.Places.{below, common, has_majority}
 pub use Rattle.gb_types.specs.Refusal.{refusal_name, refusal_number}
 pub use Rattle.gb_types.specs.Rising.{AreNodes}
 unfoldable pub use Rattle.gb_types.specs.Rising.{rising, rising_from}
-pub use Rattle.gb_types.specs.Version.{bounds_of, limits_are_within, limits_of, version_at, version_named}
+pub use Rattle.gb_types.specs.Version.{bounds_of, limits_are_within, limits_of, version_at, version_named, withdraws_at}

@@ -195,4 +195,11 @@ impl NodeSet {
     {
         self.bits |= 1 << node.index();
     }
+
+    /// Takes the node out of this set. If it is not in the set, nothing changes.
+    pub fn remove(&mut self, node: NodeId)
+        ensures { self.new ≡ set.remove self.old node.number }
+    {
+        self.bits &= !(1 << node.index());
+    }
 }

@@ -11,6 +11,9 @@ pub enum Version {
     Two,
     /// The limits of version 2. Each item names the generation of its group.
     Three,
+    /// Version 3 with the sender's tick number, a flag and a tag of 16 bytes. A node that sends it suspects the nodes that it does not
+    /// hear, and takes a suspicion back when it hears them again.
+    Four,
 }
 
 /// The limits of a version of the packet text.
@@ -24,13 +27,19 @@ pub struct VersionLimits {
     pub payload: usize,
     /// The length of the longest packet in bytes.
     pub packet: usize,
+    /// The bytes before the items: 31, and 9 more if the packet has a tick number and flags.
+    pub header: usize,
     /// The bytes of an item before its payload: 9, and 4 more if the item names its generation.
     pub item_header: usize,
+    /// The bytes of the tag: 8 or 16.
+    pub tag: usize,
+    /// Whether a packet has the number of ticks that its sender counted, and its sender's flag.
+    pub has_ticks: bool,
 }
 
 impl Version {
-    /// Returns the limits of this version of the packet text: its byte, how many nodes, payload bytes and packet bytes it allows, and
-    /// the bytes of an item before its payload.
+    /// Returns the limits of this version of the packet text: its byte, how many nodes, payload bytes and packet bytes it allows, the
+    /// bytes before the items, those of an item before its payload and those of the tag, and whether packets have a tick number.
     pub fn limits(self) -> VersionLimits
         ensures value { result ≡ limits_of self }
         ensures greatest { AreWithinGreatest result }
@@ -42,26 +51,45 @@ impl Version {
                 nodes: 16,
                 payload: 1_024,
                 packet: 8_192,
+                header: 31,
                 item_header: 9,
+                tag: 8,
+                has_ticks: false,
             },
             Version::Two => VersionLimits {
                 byte: 2,
                 nodes: 32,
                 payload: 4_096,
                 packet: 16_384,
+                header: 31,
                 item_header: 9,
+                tag: 8,
+                has_ticks: false,
             },
             Version::Three => VersionLimits {
                 byte: 3,
                 nodes: 32,
                 payload: 4_096,
                 packet: 16_384,
+                header: 31,
                 item_header: 13,
+                tag: 8,
+                has_ticks: false,
+            },
+            Version::Four => VersionLimits {
+                byte: 4,
+                nodes: 32,
+                payload: 4_096,
+                packet: 16_384,
+                header: 40,
+                item_header: 13,
+                tag: 16,
+                has_ticks: true,
             },
         }
     }
 
-    /// Returns the version of the packet text that a packet's version byte, 1 to 3, stands for. `None` for any other byte.
+    /// Returns the version of the packet text that a packet's version byte, 1 to 4, stands for. `None` for any other byte.
     pub fn from_byte(byte: u8) -> Option<Version>
         ensures { result ≡ version_named byte }
     {
@@ -69,6 +97,7 @@ impl Version {
             1 => Some(Version::One),
             2 => Some(Version::Two),
             3 => Some(Version::Three),
+            4 => Some(Version::Four),
             _ => None,
         }
     }
