@@ -1,3 +1,4 @@
 pub mod Silence
+pub mod Suspicion
 pub mod Watch
 pub mod Laws

@@ -1,21 +1,23 @@
 -- When a node has been silent for too long, over the calls on a detector, newest first
--- (failure detection by timeout, as in Cachin, Guerraoui, Rodrigues 2011, Algorithm 2.5, with ticks for its timer).
-use Rattle.std.specs.Prelude.{◌≡◌, ℕ, Bool, false, true, not, ◌||◌, nat_eq, nat_le, List, [], ◌∷◌, ◌++◌, count_by}
+-- (failure detection by timeout, as in Cachin, Guerraoui, Rodrigues 2011, Algorithm 2.5, with ticks for its timer; where a suspicion is taken back,
+-- Algorithm 2.7, whose delay is fixed here).
+use Rattle.std.specs.Prelude.{◌≡◌, ℕ, Bool, false, true, not, ◌&&◌, ◌||◌, nat_eq, nat_le, List, [], ◌∷◌, ◌++◌, count_by, Option, Some, None, if◌then◌else◌}
 use Rattle.std.specs.List.{take_while, list_any}
+use Rattle.gb_types.specs.declared.pulse.Pulse.{Pulse}
 
--- a call: a packet of a node was heard, or the time ticked
+-- a call: a packet of a node was heard, with the pulse that it had, or the time ticked
 pub data Call : Type 0 where
-  Heard : ℕ → Call
+  Heard : ℕ → Option Pulse → Call
   Tick : Call
 
 -- true if the call heard the node
 abbrev pub is_heard : ℕ → Call → Bool
-is_heard b (Heard c) = nat_eq c b
+is_heard b (Heard c pulse) = nat_eq c b
 is_heard b Tick = false
 
 -- true if the call was a tick
 abbrev pub is_tick : Call → Bool
-is_tick (Heard c) = false
+is_tick (Heard c pulse) = false
 is_tick Tick = true
 
 -- the calls since the node was last heard

@@ -5,7 +5,7 @@ use Rattle.std.specs.declared.{vec.Vec.Vec, alloc.Global.Global}
 use Rattle.gb_frame.specs.declared.{item.Item.Item, packet.Head.Head}
 use Rattle.gb_types.specs.Common.{limits_of}
 use Rattle.gb_types.specs.declared.version.Version.{Version}
-use Rattle.gb_frame.specs.Common.{batch_in, IsBatch, FitPacket}
+use Rattle.gb_frame.specs.Common.{batch_in, IsBatch, FitPacket, HasTicks}
 use Rattle.gb_link.specs.Common.{SendWindow, new_window}
 use Rattle.gb_table.specs.Common.{TableValue}
 
@@ -41,6 +41,7 @@ pub record IsHead (h : Head) : Type 0 where
   pub apart : h.from.number ≢ h.to.number
   pub base : 0 < h.base
   pub mask : h.mask % 2 ≡ 0
+  pub ticks : HasTicks h.version h.tick h.unheard
 
 -- each frame fits a packet of this version
 abbrev pub AreFitting : Version → List (ℕ × List Item) → Type 0

@@ -1,13 +1,13 @@
 -- The state of a node after each event, and its answer.
 use Rattle.std.specs.Prelude.{ℕ, ◌≡◌, ◌%◌, min, ◌⊎◌, ◌&&◌, not, Bool, true, List, [], ◌∷◌, length, filter, fold, Option, Some, None, IfSome, option_map, Result, Ok, Err, slice_index_or, slice_set, nat_eq, nat_lt, if◌then◌else◌}
 use Rattle.std.specs.FinSet as set
-use Rattle.gb_types.specs.Common.{message_of, rising}
+use Rattle.gb_types.specs.Common.{limits_of, message_of, rising}
 use Rattle.gb_types.specs.declared.{limits.TheConstants.NODES, node.NodeId.NodeId, refusal.Refusal.TheVariants.Stopped, refusal.Refusal.TheVariants.OutOfMemory, reply.Reply.Reply, reply.Reply.TheVariants.Refused, request.Action.Action, version.Version.Version}
 use Rattle.gb_frame.specs.declared.{fault.PacketFault.PacketFault, fault.PacketFault.TheVariants.Node, item.Item.Item}
-use Rattle.gb_frame.specs.Common.{room_of, Content, reading, packet_text, IsPacket, address_of, entry_of, rest_is_node}
+use Rattle.gb_frame.specs.Common.{room_of, Content, pulse_of, reading, packet_text, IsPacket, address_of, entry_of, rest_is_node}
 use Rattle.gb_link.specs.Common.{Received, base_of, mask_of, admission, taken, SendWindow, new_window, has_room, pushed, frame_again, freed, covers}
 use Rattle.gb_link.specs.declared.{receiver.Admission.Admission, receiver.Admission.TheVariants.First, receiver.Admission.TheVariants.Seen, receiver.Admission.TheVariants.Outside}
-use Rattle.gb_detect.specs.Watch.{due, after_heard, after_tick}
+use Rattle.gb_detect.specs.Watch.{due, after_heard, after_tick, is_mute, suspected}
 use Rattle.gb_table.specs.Common.{batch, longest_item, NothingWaits, Visit, items, TableValue, table_came, table_done, table_noticed, table_packed, TakesMemory, table_reply, table_did}
 use Rattle.gb_node.specs.NodeValue.{NodeValue}
 use Rattle.gb_node.specs.declared.{answer.NodeAnswer.NodeAnswer, answer.PacketAnswer.PacketAnswer, answer.Good.Good, answer.Frame.Frame, answer.Sent.Sent as SentValue, answer.Ticked.TheVariants.Noticed, answer.Ticked.TheVariants.Refused as TickRefused, answer.Halted.TheVariants.Done as HaltDone, answer.Halted.TheVariants.Refused as HaltRefused, event.NodeEvent.NodeEvent, answer.PacketAnswer.TheVariants.Good as TakenGood, answer.PacketAnswer.TheVariants.Fault, answer.PacketAnswer.TheVariants.Refused as TakenRefused, answer.Sent.TheVariants.Packet as SentPacket, answer.Sent.TheVariants.Nothing, answer.Sent.TheVariants.Refused as SentRefused}
@@ -30,15 +30,22 @@ receiver_from v b = slice_index_or v.receivers b set.empty
 abbrev pub is_another : NodeValue → NodeId → Bool
 is_another v b = nat_lt b.number v.table.nodes && not (nat_eq b.number v.table.me.number)
 
--- frames are sent to other nodes that were not noticed
+-- frames are sent to other nodes that are not suspected
 abbrev pub is_reached : NodeValue → NodeId → Bool
-is_reached v b = is_another v b && not (set.contains v.watch.noticed b.number)
+is_reached v b = is_another v b && not (set.contains (suspected v.watch) b.number)
 
 -- Sending.
 
+-- what the packets of a node to another say of its time: the number of its ticks, and whether the other is silent; 0 and false if its version does not say it
+abbrev pub tick_of : NodeValue → ℕ
+tick_of v = if (limits_of v.table.version).has_ticks then v.watch.ticks else 0
+
+abbrev pub unheard_of : NodeValue → NodeId → Bool
+unheard_of v b = (limits_of v.table.version).has_ticks && is_mute v.watch b.number
+
 -- the content of a packet to a node with this frame: it acknowledges what came from the node so far
 abbrev pub content_to : NodeValue → NodeId → ℕ → List Item → Content
-content_to v b frame items = record { version = v.table.version; from = v.table.me.number; to = b.number; base = base_of (receiver_from v b.number); mask = mask_of (receiver_from v b.number); frame = frame; items = items }
+content_to v b frame items = record { version = v.table.version; from = v.table.me.number; to = b.number; base = base_of (receiver_from v b.number); mask = mask_of (receiver_from v b.number); frame = frame; tick = tick_of v; unheard = unheard_of v b; items = items }
 
 -- the items of a batch for a node that may have `room` bytes
 abbrev pub batch_to : ℕ → TableValue → NodeId → List Item
@@ -163,7 +170,7 @@ took_frame c v = record v {
 
 -- a packet is taken: its sender is heard, then the acknowledgement counts, then the frame
 abbrev pub heard : Content → NodeValue → NodeValue
-heard c v = record v { watch = after_heard v.watch c.from }
+heard c v = record v { watch = after_heard v.watch c.from (pulse_of c) }
 
 abbrev pub node_took : Content → NodeValue → NodeValue
 node_took c v = took_frame c (took_ack c (heard c v))
@@ -199,9 +206,9 @@ pub record Turn : Type 0 where
   pub value : NodeValue
   pub answer : NodeAnswer
 
--- after a reply
+-- after a reply; a group that is made begins with the nodes that are suspected then
 abbrev pub node_did : Reply → Action → NodeValue → NodeValue
-node_did reply what v = record v { table = table_did v.watch.noticed reply what v.table }
+node_did reply what v = record v { table = table_did (suspected v.watch) reply what v.table }
 
 -- a running node
 abbrev pub running_turn : NodeValue → NodeEvent → Turn

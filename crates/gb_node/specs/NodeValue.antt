@@ -33,7 +33,7 @@ new_node p = record {
   room = p.room;
   windows = replicate NODES new_window;
   receivers = replicate NODES set.empty;
-  watch = start p.me.number p.nodes p.silence;
+  watch = start p.me.number p.nodes p.silence (limits_of p.version).has_ticks;
   stopped = false;
 }
 

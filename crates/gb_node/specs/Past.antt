@@ -3,7 +3,7 @@ use Rattle.std.specs.Prelude.{ℕ, ◌≡◌, ◌+◌, ◌&&◌, ◌||◌, Bool,
 use Rattle.std.specs.List.{list_any}
 use Rattle.gb_types.specs.declared.{reply.Reply.Reply, reply.Reply.TheVariants.Done, request.Action.Action, request.Action.TheVariants.AddTenant, request.Action.TheVariants.Group, spec.TenantRow.TenantRow}
 use Rattle.gb_frame.specs.declared.item.Item.{Item}
-use Rattle.gb_frame.specs.Common.{Content, is_packet, content_in}
+use Rattle.gb_frame.specs.Common.{Content, is_packet, content_in, pulse_of}
 use Rattle.gb_link.specs.Common.{covers}
 use Rattle.gb_detect.specs.Silence.{Call, Heard, Tick as Ticks}
 use Rattle.gb_node.specs.NodeValue.{NodeValue, new_node, IsNodePlan}
@@ -84,7 +84,7 @@ ticks event answer = []
 -- the calls of the detector, the newest first
 unfoldable pub watched : List ℕ → List Happened → List Call
 watched key [] = []
-watched key (h ∷ past) = ticks h.event h.answer ++ map (λ (c : Content). Heard c.from) (came key h.event h.answer) ++ watched key past
+watched key (h ∷ past) = ticks h.event h.answer ++ map (λ (c : Content). Heard c.from (pulse_of c)) (came key h.event h.answer) ++ watched key past
 
 -- the first of the two where the reply is that the request was done, otherwise the second
 abbrev pub if_done : {A : Type 0} → Reply → A → A → A

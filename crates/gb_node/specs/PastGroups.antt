@@ -2,14 +2,14 @@
 use Rattle.std.specs.Prelude.{ℕ, ◌&&◌, ◌||◌, not, List, [], ◌∷◌, ◌++◌, length, drop, filter, flat_map, fold, Option, Some, None, Bool, false, nat_eq, nat_le, nat_lt, option_map, if◌then◌else◌}
 use Rattle.std.specs.FinSet as set
 use Rattle.std.specs.{List.list_all, List.range_with_len, Ordering.nat_cmp}
-use Rattle.gb_types.specs.Common.{message_of, rising}
+use Rattle.gb_types.specs.Common.{limits_of, message_of, rising}
 use Rattle.gb_types.specs.declared.{address.Addr.Addr, entry.Entry.Entry, limits.TheConstants.NODES, message.MsgId.MsgId, node.NodeId.NodeId, reply.Reply.Reply, request.Action.Action, request.Action.TheVariants.AddTenant, request.Action.TheVariants.Group, request.GroupCommand.GroupCommand, spec.Spec.Spec, version.Version.Version}
 use Rattle.gb_types.specs.declared.reply.Reply.TheVariants.{Done, Said, Log, Refused}
 use Rattle.gb_types.specs.declared.request.GroupCommand.TheVariants.{Make, Open, Shut, Drop, Say}
 use Rattle.gb_frame.specs.declared.item.Item.{Item}
 use Rattle.gb_frame.specs.Common.{Content, entry_of, items_for}
 use Rattle.gb_link.specs.Common.{covers}
-use Rattle.gb_detect.specs.Watch.{start, replay}
+use Rattle.gb_detect.specs.Watch.{Watch, start, replay, suspected}
 use Rattle.gb_rules.specs.Common.{is_addr, Shown, is_other, is_too_long, said_in, bytes_in, log_of, puts_of, falls_after, has_noticed, stepped, dropped, or_added, passed, where_so, is_reached_by, one_more, one_less}
 use Rattle.gb_rules.specs.declared.{phase.Phase.Phase, usage.Usage.Usage, call.GroupCall.GroupCall, phase.Phase.TheVariants.Made, phase.Phase.TheVariants.Opened, phase.Phase.TheVariants.Shut as Closed, call.GroupCall.TheVariants.Own, call.GroupCall.TheVariants.Other, call.GroupCall.TheVariants.Crashed}
 use Rattle.gb_node.specs.NodeStep.{node_numbered}
@@ -18,9 +18,17 @@ use Rattle.gb_node.specs.declared.answer.NodeAnswer.TheVariants.{Reply as Replie
 use Rattle.gb_node.specs.declared.event.NodeEvent.TheVariants.{Request as Asked, Packet as Came, Pack, Tick}
 use Rattle.gb_node.specs.Past.{if_done, Happened, read, frames_to, numbered, is_acked, is_first, watched}
 
--- the nodes that are noticed
+-- the detector of a node after its past
+abbrev pub watch_after : NodePlan → List Happened → Watch
+watch_after plan past = replay (start plan.me.number plan.nodes plan.silence (limits_of plan.version).has_ticks) (watched plan.cluster_key past)
+
+-- the nodes that a tick has reported, and that have been suspected ever since
 abbrev pub noticed_after : NodePlan → List Happened → set.FinSet nat_cmp
-noticed_after plan past = (replay (start plan.me.number plan.nodes plan.silence) (watched plan.cluster_key past)).noticed
+noticed_after plan past = (watch_after plan past).noticed
+
+-- the nodes that are suspected
+abbrev pub suspected_after : NodePlan → List Happened → set.FinSet nat_cmp
+suspected_after plan past = suspected (watch_after plan past)
 
 -- the frames for a packet's sender that its acknowledgement newly covers, each with its number, in order
 abbrev pub freed_by : List ℕ → List Happened → Content → List (ℕ × List Item)
@@ -109,7 +117,7 @@ noticed_members spec me noticed = filter (λ b. is_other spec me b && noticed b)
 abbrev pub crashed_onto : List GroupCall → List ℕ → List GroupCall
 crashed_onto calls bs = fold (λ cs b. Crashed (node_numbered b) ∷ cs) calls bs
 
--- a group that was just made, at a node that has noticed these nodes
+-- a group that was just made, at a node that suspects these nodes
 abbrev pub told_first : Spec → NodeId → set.FinSet nat_cmp → Told
 told_first spec me noticed = record { spec = spec; phase = Made; calls = crashed_onto [] (noticed_members spec me.number (set.contains noticed)); waiting = λ b. []; acknowledged = λ seq b. false }
 
@@ -169,7 +177,7 @@ noticed_told me o b = stepped (if_other me (node_numbered b)) o
 
 -- what an event with its answer changes in a group
 abbrev pub told_after : NodePlan → Addr → List Happened → NodeEvent → NodeAnswer → Option (Option Told) → Option (Option Told)
-told_after plan g past (Asked request) (Replied reply) o = asked_told g plan.me (noticed_after plan past) reply request.what o
+told_after plan g past (Asked request) (Replied reply) o = asked_told g plan.me (suspected_after plan past) reply request.what o
 told_after plan g past (Came bytes) (Taken (TakenGood good)) o = fold (taken_told plan.version plan.me plan.cluster_key g past good.frame) o (read plan.cluster_key bytes)
 told_after plan g past (Pack b) (Sent (SentPacket text)) o = fold (packed_told g b) o (read plan.cluster_key text)
 told_after plan g past Tick (Ticked (Noticed found)) o = fold (noticed_told plan.me) o (rising found)

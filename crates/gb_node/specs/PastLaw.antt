@@ -1,6 +1,7 @@
 -- The state of a node is determined by its past.
 use Rattle.std.specs.Prelude.{ℕ, ◌≡◌, ◌+◌, not, List, length, filter}
 use Rattle.std.specs.FinSet as set
+use Rattle.gb_types.specs.Common.{limits_of}
 use Rattle.gb_types.specs.declared.{address.Addr.Addr, node.NodeId.NodeId}
 use Rattle.gb_detect.specs.Watch.{start, replay}
 use Rattle.gb_node.specs.NodeValue.{NodeValue}
@@ -21,7 +22,7 @@ pub record IsOfPastBesideGroups (plan : NodePlan) (past : List Happened) (v : No
   pub admin_key : v.table.admin_key ≡ plan.admin_key
   pub room : v.room ≡ plan.room
   pub stopped : v.stopped ≡ is_stopped past
-  pub watch : v.watch ≡ replay (start plan.me.number plan.nodes plan.silence) (watched plan.cluster_key past)
+  pub watch : v.watch ≡ replay (start plan.me.number plan.nodes plan.silence (limits_of plan.version).has_ticks) (watched plan.cluster_key past)
   pub tenants : v.table.tenants ≡ tenants_in past
   -- the link to each node: the next number, and the frames that were packed and not acknowledged since
   pub next : (b : NodeId) → (window_to v b.number).next ≡ length (frames_to plan.cluster_key b.number past) + 1

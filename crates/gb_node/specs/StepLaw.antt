@@ -11,7 +11,7 @@ pub use Rattle.gb_table.specs.Admission.{has_group_token}
 use Rattle.gb_node.specs.NodeValue.{NodeValue}
 use Rattle.gb_node.specs.NodeStep.{turn}
 use Rattle.gb_node.specs.Past.{Happened, ComesTo, read, is_first, is_taken, tenants_in, is_stopped}
-use Rattle.gb_node.specs.PastGroups.{noticed_after, shown_in, waiting_of, told_of, living_of}
+use Rattle.gb_node.specs.PastGroups.{noticed_after, suspected_after, shown_in, waiting_of, told_of, living_of}
 use Rattle.gb_node.specs.declared.{answer.Good.Good, answer.NodeAnswer.NodeAnswer, answer.PacketAnswer.TheVariants.Good as TakenGood, answer.Sent.TheVariants.Packet as SentPacket, answer.Ticked.TheVariants.Noticed, event.NodeEvent.NodeEvent, plan.NodePlan.NodePlan}
 use Rattle.gb_node.specs.declared.answer.NodeAnswer.TheVariants.{Reply as Replied, Taken, Sent, Ticked}
 use Rattle.gb_node.specs.declared.event.NodeEvent.TheVariants.{Request as Asked, Packet as Came, Pack, Tick}
@@ -69,7 +69,7 @@ pub record IsTakenIn (plan : NodePlan) (past : List Happened) (bytes : List ℕ)
   pub apart : content.from ≢ plan.me.number
   pub first : is_first good.frame ≡ true → (0 < content.frame) × (is_taken plan.cluster_key content.from content.frame past ≡ false)
 
--- a tick at a running node notices other nodes of the cluster that were not noticed before
+-- a tick at a running node reports other nodes of the cluster that no tick had reported since they were last not suspected
 pub record IsTicked (plan : NodePlan) (past : List Happened) (found : set.FinSet nat_cmp) : Type 0 where
   pub running : is_stopped past ≡ false
   pub inside : (b : ℕ) → set.contains found b ≡ true → (b < plan.nodes) × (b ≢ plan.me.number)
@@ -83,9 +83,10 @@ IsAnswered plan past (Came bytes) (Taken (TakenGood good)) = IsTakenIn plan past
 IsAnswered plan past Tick (Ticked (Noticed found)) = IsTicked plan past found
 IsAnswered plan past event answer = Unit {0}
 
--- every answer of every node is what its past says, and only other nodes of the cluster are noticed
+-- every answer of every node is what its past says, and only other nodes of the cluster are suspected
 pub record AnswersSay : Type 0 where
   pub each : (plan : NodePlan) (past : List Happened) (event : NodeEvent) (answer : NodeAnswer) (v : NodeValue) → ComesTo plan (record { event = event; answer = answer } ∷ past) v → IsAnswered plan past event answer
   -- a node that has the memory for it answers a request as its past says
   pub due : (plan : NodePlan) (past : List Happened) (v : NodeValue) (request : Request) → ComesTo plan past v → (turn v (Asked request)).answer ≡ Replied (past_answer plan past request)
   pub noticed : (plan : NodePlan) (past : List Happened) (v : NodeValue) (b : ℕ) → ComesTo plan past v → set.contains (noticed_after plan past) b ≡ true → (b < plan.nodes) × (b ≢ plan.me.number)
+  pub suspected : (plan : NodePlan) (past : List Happened) (v : NodeValue) (b : ℕ) → ComesTo plan past v → set.contains (suspected_after plan past) b ≡ true → (b < plan.nodes) × (b ≢ plan.me.number)

@@ -4,8 +4,8 @@ ghost use Rattle.std.specs.FinSet as set;
 ghost use Rattle.gb_types.specs.Common.{limits_of};
 ghost use Rattle.gb_types.specs.declared.limits.TheConstants.{NODES as MOST, SILENCE_MIN, SILENCE_MAX};
 ghost use Rattle.gb_rules.specs.declared.room.TheConstants.{ROOMS};
-ghost use Rattle.gb_frame.specs.Common.{batch_in, IsBatch, FitPacket, packet_of, items_text, packet_text, IsPacket, room_of};
-ghost use Rattle.gb_frame.specs.declared.{item.Item.Item as ItemValue, limits.TheConstants.SHORTEST};
+ghost use Rattle.gb_frame.specs.Common.{batch_in, HasTicks, IsBatch, FitPacket, packet_of, items_text, packet_text, IsPacket, room_of, shortest_of};
+ghost use Rattle.gb_frame.specs.declared.item.Item.{Item as ItemValue};
 ghost use Rattle.gb_link.specs.Common.{new_window, has_room, frame_again};
 ghost use Rattle.gb_table.specs.Common.{batch, NothingWaits, size, is_token, is_admitted};
 ghost use Rattle.gb_cap.specs.declared.token.Need.TheVariants.{Admin};
@@ -13,7 +13,7 @@ ghost use Rattle.gb_node.specs.Frames.{new_frames, items_of_frame, IsHead};
 ghost use Rattle.gb_node.specs.Listing.{Lists};
 ghost use Rattle.gb_node.specs.NodeValue.{new_node};
 ghost use Rattle.gb_node.specs.Reads.{is_read, packet_room, IsWithin};
-ghost use Rattle.gb_node.specs.NodeStep.{window_to, is_another, is_reached, content_to, batch_to, room_to, sent_batch, read_at, good_of, node_took, IsTurn, IsSpelt, IsForReason};
+ghost use Rattle.gb_node.specs.NodeStep.{window_to, is_another, is_reached, content_to, batch_to, room_to, sent_batch, read_at, good_of, node_took, tick_of, unheard_of, IsTurn, IsSpelt, IsForReason};
 
 use crate::answer::{Good, Halted, NodeAnswer, PacketAnswer, Sent, Ticked};
 use crate::event::NodeEvent;
@@ -26,7 +26,7 @@ use crate::window::Window;
 use gb_cap::Token;
 use gb_detect::Detector;
 use gb_frame::item::count_items;
-use gb_frame::limits::{SHORTEST, room};
+use gb_frame::limits::{room, shortest};
 use gb_frame::reading::{decode, decode_known};
 use gb_frame::{Head, PacketFault, PacketView};
 use gb_link::Receiver;
@@ -199,7 +199,12 @@ impl Node {
             ),
             windows: new_windows(alloc, plan.version),
             receivers: new_receivers(),
-            detector: Detector::new(plan.me, plan.nodes, plan.silence),
+            detector: Detector::new(
+                plan.me,
+                plan.nodes,
+                plan.silence,
+                plan.version.limits().has_ticks,
+            ),
             room: usize::from(plan.room),
             stopped: false,
         }
@@ -216,8 +221,8 @@ impl Node {
         if self.stopped {
             return Reply::Refused(Refusal::Stopped);
         }
-        let noticed = self.detector.noticed();
-        self.table.request(request, &noticed)
+        let suspected = self.detector.suspected();
+        self.table.request(request, &suspected)
     }
 
     /// Returns true if `token` is the administrator's token, whether the node has stopped or not.
@@ -247,11 +252,11 @@ impl Node {
         to.number < self.table.nodes() && to != self.table.me()
     }
 
-    /// Returns true if frames are sent to the node: it is another one of the cluster, and was not noticed.
+    /// Returns true if frames are sent to the node: it is another one of the cluster, and is not suspected.
     fn is_reached(&self, to: NodeId) -> bool
         ensures { result ≡ is_reached self.now to }
     {
-        self.is_another(to) && !self.detector.noticed().contains(to)
+        self.is_another(to) && !self.detector.suspected().contains(to)
     }
 
     /// Returns true if one more frame may be sent to the node.
@@ -259,6 +264,21 @@ impl Node {
         ensures { result ≡ has_room (window_to self.now to.number) }
     {
         self.windows[to.index()].room()
+    }
+
+    /// Returns what the packets to another node say of this node's time: the number of its ticks, and whether the other one is silent. 0
+    /// and false if packets of this version do not say it.
+    fn time(&self, version: Version, to: NodeId) -> (u64, bool)
+        requires { version ≡ self.now.table.version }
+        ensures tick { result.0 ≡ tick_of self.now }
+        ensures unheard { result.1 ≡ unheard_of self.now to }
+        ensures ticks { HasTicks version result.0 result.1 }
+    {
+        if !version.limits().has_ticks {
+            return (0, false);
+        }
+        let pulse = self.detector.pulse(to);
+        (pulse.tick, pulse.unheard)
     }
 
     /// Returns the head of a packet to another node, with this frame's number. It acknowledges what came from there so far.
@@ -270,13 +290,17 @@ impl Node {
         ensures content { (items : List ItemValue) → packet_of result items ≡ content_to self.now to frame items }
     {
         let (base, mask) = self.receivers[to.index()].ack();
+        let version = self.table.version();
+        let (tick, unheard) = self.time(version, to);
         Head {
-            version: self.table.version(),
+            version,
             from: self.table.me(),
             to,
             base,
             mask,
             frame,
+            tick,
+            unheard,
         }
     }
 
@@ -335,7 +359,7 @@ impl Node {
         requires frame { IsSome (frame_again (window_to self.now to.number) number) }
         requires count { length (items_of_frame (frame_again (window_to self.now to.number) number)) ≡ count }
         requires empty { packet.items ≡ [] }
-        requires room { SHORTEST + length (items_text self.now.table.version (items_of_frame (frame_again (window_to self.now to.number) number))) ≤ vec_capacity packet }
+        requires room { shortest_of self.now.table.version + length (items_text self.now.table.version (items_of_frame (frame_again (window_to self.now to.number) number))) ≤ vec_capacity packet }
         ensures text { result ≡ packet_text self.now.key (content_to self.now to number (items_of_frame (frame_again (window_to self.now to.number) number))) }
         ensures packet { IsPacket (content_to self.now to number (items_of_frame (frame_again (window_to self.now to.number) number))) }
     {
@@ -360,13 +384,13 @@ impl Node {
         ensures state { OnOk result (self.new ≡ sent_batch to (Some (batch_to next.most self.old.table to)) self.old) }
         ensures err { OnErr result (self.new ≡ self.old) }
     {
-        let packet = Vec::with_capacity(self.alloc, SHORTEST + next.bytes)?;
+        let packet = Vec::with_capacity(self.alloc, shortest(self.table.version()) + next.bytes)?;
         let number = self.push_batch(to, next)?;
         Ok(self.write_frame(to, number, next.count, packet))
     }
 
     /// Takes items that wait for the node `to` out of the groups' queues, as the next frame of the link to it, and returns the
-    /// packet to send. Returns `Nothing` if `to` is not another node of the cluster or is held for crashed, if the window of the
+    /// packet to send. Returns `Nothing` if `to` is not another node of the cluster or is suspected, if the window of the
     /// link has no room for a frame, or if nothing waits. Returns `Refused` with `Stopped` if the node has stopped, and with
     /// `OutOfMemory` if memory is refused. After `Nothing` and `Refused` nothing has changed.
     pub fn pack(&mut self, to: NodeId) -> Sent
@@ -399,13 +423,13 @@ impl Node {
         ensures text { IfOk result (λ p. p ≡ packet_text self.now.key (content_to self.now to number (batch_in self.now.table.version texts.now))) }
         ensures packet { OnOk result (IsPacket (content_to self.now to number (batch_in self.now.table.version texts.now))) }
     {
-        let packet = Vec::with_capacity(self.alloc, SHORTEST + texts.len())?;
+        let packet = Vec::with_capacity(self.alloc, shortest(self.table.version()) + texts.len())?;
         let count = count_items(self.table.version(), texts);
         Ok(frame_packet(self.head(to, number), count, texts, self.key.key(), packet))
     }
 
     /// Returns the packet that sends a frame to the node `to` again, if it is not acknowledged. `number` is the frame's number; 0
-    /// stands for the lowest such number. Returns `Nothing` if `to` is not another node of the cluster or is held for crashed, or
+    /// stands for the lowest such number. Returns `Nothing` if `to` is not another node of the cluster or is suspected, or
     /// if there is no such frame. Returns `Refused` with `Stopped` or `OutOfMemory`. Changes nothing.
     pub fn again(&self, to: NodeId, number: u64) -> Sent
         ensures turn { IsTurn self.now (NodeEvent.Again to number) (NodeAnswer.Sent result) self.now }
@@ -464,7 +488,7 @@ impl Node {
         let head = packet.head();
         let from = head.from;
         let at = from.index();
-        self.detector.heard(from);
+        self.detector.heard(from, head.pulse());
         let window = &mut self.windows[at];
         let done = take_ack(&mut self.table, window, from, head.base, head.mask);
         let receiver = &mut self.receivers[at];
@@ -537,9 +561,10 @@ impl Node {
         PacketAnswer::Good(self.take_packet(&packet))
     }
 
-    /// Makes one tick of the node's time pass. Returns `Noticed` with the nodes that are held for crashed from this tick on, since
-    /// no good packet came from them for too many ticks. Each group records them too, in rising order of their numbers. Returns
-    /// `Refused` with `Stopped` if the node has stopped; then nothing has changed. Takes no memory.
+    /// Makes one tick of the node's time pass. Returns `Noticed` with the nodes that are suspected from this tick on: no fresh packet
+    /// came from them for too many ticks, or the last one says that it does not hear this node. Each group that lives records them too,
+    /// for good, in rising order of their numbers. A node that sends version 4 suspects a node no more once it hears it again, and may
+    /// return it again later. Returns `Refused` with `Stopped` if the node has stopped; then nothing has changed. Takes no memory.
     pub fn tick(&mut self) -> Ticked
         ensures { IsTurn self.old NodeEvent.Tick (NodeAnswer.Ticked result) self.new }
     {

@@ -1,13 +1,12 @@
 //! The packets of a node, as bytes.
 ghost use Rattle.std.specs.Prelude.{◌≡◌, ◌+◌, ◌<◌, ◌≤◌, [], length, IfOk, OnOk, vec_capacity};
-ghost use Rattle.gb_frame.specs.Common.{batch_in, IsBatch, FitPacket, packet_of, packet_text, IsPacket};
-ghost use Rattle.gb_frame.specs.declared.limits.TheConstants.{SHORTEST};
+ghost use Rattle.gb_frame.specs.Common.{batch_in, IsBatch, FitPacket, packet_of, packet_text, shortest_of, IsPacket};
 ghost use Rattle.gb_node.specs.Frames.{IsHead};
 
 use crate::packet_text::PacketText;
 use gb_cap::HmacKey;
 use gb_frame::Head;
-use gb_frame::limits::SHORTEST;
+use gb_frame::limits::shortest;
 use gb_frame::writing::wrap;
 use gb_types::OutOfMemory;
 use std::alloc::Global;
@@ -27,7 +26,7 @@ pub fn frame_packet(
     requires fit { FitPacket head.version (batch_in head.version texts.now) }
     requires count { length (batch_in head.version texts.now) ≡ count }
     requires empty { packet.items ≡ [] }
-    requires room { SHORTEST + length texts.now ≤ vec_capacity packet }
+    requires room { shortest_of head.version + length texts.now ≤ vec_capacity packet }
     ensures text { result ≡ packet_text key.now (packet_of head (batch_in head.version texts.now)) }
     ensures packet { IsPacket (packet_of head (batch_in head.version texts.now)) }
 {
@@ -42,7 +41,7 @@ pub fn bare_packet(alloc: Global, head: Head, key: &HmacKey) -> Result<PacketTex
     ensures text { IfOk result (λ p. p ≡ packet_text key.now (packet_of head [])) }
     ensures packet { OnOk result (IsPacket (packet_of head [])) }
 {
-    let mut packet = Vec::with_capacity(alloc, SHORTEST)?;
+    let mut packet = Vec::with_capacity(alloc, shortest(head.version))?;
     wrap(head, 0, &[], key, &mut packet);
     Ok(PacketText::from(packet))
 }

@@ -1,7 +1,7 @@
 //! The key of a cluster's packets at a node, with the last packet without a frame for each other node.
-ghost use Rattle.std.specs.Prelude.{◌≡◌, ◌≤◌, [], length, replicate, IfOk, OnOk, IfSome, None};
+ghost use Rattle.std.specs.Prelude.{◌≡◌, ◌≤◌, [], length, take, replicate, IfOk, OnOk, IfSome, None};
 ghost use Rattle.gb_types.specs.declared.limits.TheConstants.{NODES as MOST};
-ghost use Rattle.gb_frame.specs.Common.{packet_of, packet_text, IsPacket};
+ghost use Rattle.gb_frame.specs.Common.{packet_of, packet_text, shortest_of, IsPacket};
 ghost use Rattle.gb_node.specs.Frames.{IsHead};
 ghost use Rattle.gb_node.specs.KeptAcks.{IsKept};
 
@@ -9,17 +9,17 @@ use crate::packet::bare_packet;
 use crate::packet_text::PacketText;
 use gb_cap::{HmacKey, Key};
 use gb_frame::Head;
-use gb_frame::limits::SHORTEST;
+use gb_frame::limits::{LONGEST_BARE, shortest};
 use gb_types::OutOfMemory;
 use gb_types::limits::NODES;
 use std::alloc::Global;
 use std::marker::Model;
 
-/// A packet without a frame, with its head.
+/// A packet without a frame, with its head. Its bytes are the first of `text`, as many as its version wants.
 #[derive(Clone, Copy, Drop)]
 struct Bare {
     head: Head,
-    text: [u8; SHORTEST],
+    text: [u8; LONGEST_BARE],
 }
 
 /// The key of the cluster's packets. For each node it keeps the last packet without a frame that went there. If nothing came
@@ -43,21 +43,23 @@ impl Model for PacketKey {
 
 /// Returns a packet that was sent, with its head.
 fn bare_of(head: Head, packet: &PacketText) -> Bare
-    requires { length packet.now ≡ SHORTEST }
+    requires { length packet.now ≡ shortest_of head.version }
     ensures head { result.head ≡ head }
-    ensures text { result.text ≡ packet.now }
+    ensures text { take (shortest_of head.version) result.text ≡ packet.now }
 {
-    let mut text = [0; SHORTEST];
-    text.copy_from_slice(packet.as_slice());
+    let mut text = [0; LONGEST_BARE];
+    let len = shortest(head.version);
+    text[..len].copy_from_slice(packet.as_slice());
     Bare { head, text }
 }
 
 /// Returns a copy of the bytes of a packet that was kept.
 fn copied(alloc: Global, bare: &Bare) -> Result<PacketText, OutOfMemory>
-    ensures { IfOk result (λ p. p ≡ bare.now.text) }
+    ensures { IfOk result (λ p. p ≡ take (shortest_of bare.now.head.version) bare.now.text) }
 {
-    let mut text = Vec::with_capacity(alloc, SHORTEST)?;
-    text.extend_from_slice(&bare.text)?;
+    let len = shortest(bare.head.version);
+    let mut text = Vec::with_capacity(alloc, len)?;
+    text.extend_from_slice(&bare.text[..len])?;
     Ok(PacketText::from(text))
 }
 

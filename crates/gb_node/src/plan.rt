@@ -10,7 +10,7 @@ pub struct NodePlan {
     pub nodes: u8,
     /// The version of the packet text that the node sends. It reads every version.
     pub version: Version,
-    /// After how many ticks without a good packet a node is noticed: 2 to 1,000.
+    /// After how many ticks without a fresh packet a node is noticed: 2 to 1,000.
     pub silence: u16,
     /// How many rooms its tenants may reserve in all: 1,024 at most.
     pub places: u16,
