@@ -190,7 +190,7 @@ alone bounds addr steps = fold (after bounds addr) nobody steps
 abbrev pub alone_from : Bounds → Addr → Group → List GroupStep → Group
 alone_from bounds addr group steps = fold (after bounds addr) group steps
 
--- What may happen next: items that wait are taken, a carried item comes once, an item that came is acknowledged once, and a node is noticed once at another.
+-- What may happen next: items that wait are taken, a carried item comes once, and an item that came is acknowledged once. A node may be noticed at another again and again.
 -- None of these happens at a stopped node. Commands, tenants, stops, and makes and drops of other generations may happen always.
 abbrev pub MayHappen : NodeId → GroupEvent → Group → Type 0
 MayHappen me (Took b count) group = ((group me.number).stopped ≡ false) × (0 < count) × ((group me.number).taken b.number + count ≤ length ((group me.number).put b.number))
@@ -199,7 +199,7 @@ MayHappen me (Came from place) group =
 MayHappen me (Acknowledged b place count) group =
     ((group me.number).stopped ≡ false) × (0 < count)
     × ((p : ℕ) → place ≤ p → p < place + count → (is_marked p ((group b.number).come me.number) ≡ true) × (is_marked p ((group me.number).done b.number) ≡ false))
-MayHappen me (Notice q) group = ((group me.number).stopped ≡ false) × (is_marked q.number (group me.number).noticed ≡ false)
+MayHappen me (Notice q) group = (group me.number).stopped ≡ false
 MayHappen me event group = Unit {0}
 
 abbrev pub IsLegalFrom : Bounds → Addr → Group → List GroupStep → Type 0

@@ -1,10 +1,12 @@
 -- What holds of every group alone, and so of each group in a cluster. A law speaks of every legal list of events. Each beginning of a legal list is
 -- legal too, so what a law says of the whole list it says at every moment: a message was accepted before it stands in any log.
-use Rattle.std.specs.Prelude.{ℕ, ◌-◌, ◌≡◌, ◌≤◌, ◌<◌, List, [], ◌∷◌, ◌++◌, All, count_by, map, Option, Some, None, slice_get, nat_eq, if◌then◌else◌}
+use Rattle.std.specs.Prelude.{ℕ, true, ◌-◌, ◌≡◌, ◌≤◌, ◌<◌, List, [], ◌∷◌, ◌++◌, All, count_by, map, Option, Some, None, slice_get, nat_eq, if◌then◌else◌}
 use Rattle.gb_types.specs.Common.{message_of, same}
-use Rattle.gb_types.specs.declared.{entry.Entry.Entry, kind.Order.TheVariants.Fifo, message.MsgId.MsgId, plan.Bounds.Bounds, reply.Reply.Reply, reply.Reply.TheVariants.Said, spec.Spec.Spec, address.Addr.Addr}
+use Rattle.gb_types.specs.declared.{entry.Entry.Entry, kind.Order.TheVariants.Fifo, message.MsgId.MsgId, node.NodeId.NodeId, plan.Bounds.Bounds, reply.Reply.Reply, reply.Reply.TheVariants.Said, spec.Spec.Spec, address.Addr.Addr}
 use Rattle.gb_fifo.specs.Order.{RunsFromOne}
-use Rattle.gb_alone.specs.Alone.{Group, Member, reply_to, after, nobody, alone, log_at, held_spec, IsLegal}
+use Rattle.gb_layer.specs.Common.{was_noticed}
+use Rattle.gb_rules.specs.Common.{calls_of}
+use Rattle.gb_alone.specs.Alone.{Group, Member, reply_to, after, nobody, alone, log_at, held_spec, node_noticed, usage_of, IsLegal}
 use Rattle.gb_alone.specs.declared.{event.GroupEvent.GroupEvent, event.GroupEvent.TheVariants.Say as AskSay, event.GroupStep.GroupStep}
 
 -- a message that was accepted, with the number that its origin answered
@@ -66,3 +68,18 @@ KeepsOrder (Some spec) log = spec.kind.order ≡ Fifo → RunsFromOne (map messa
 -- in each legal list of steps the log of each node keeps the order of the kind with which the group was made there
 abbrev pub IsInOrder : Type 0
 IsInOrder = (bounds : Bounds) (addr : Addr) (steps : List GroupStep) → IsLegal bounds addr steps → (b : ℕ) → KeepsOrder (alone bounds addr steps b).spec (log_of_member b (alone bounds addr steps b))
+
+-- Notices.
+
+-- a member that was told of this notice before shows the same of the group after it: its log, the items that it put out, and how much of its limits it has used
+pub record IsSeenAsBefore (spec : Spec) (me : ℕ) (old new : Member) : Type 0 where
+  pub log : log_of_member me new ≡ log_of_member me old
+  pub put : (b : ℕ) → new.put b ≡ old.put b
+  pub usage : usage_of spec me new.told new.put new.done ≡ usage_of spec me old.told old.put old.done
+  pub replies : new.replies ≡ old.replies
+
+-- a second notice of the same node changes nothing that is seen of a group
+abbrev pub SecondNoticesChangeNothing : Type 0
+SecondNoticesChangeNothing = (bounds : Bounds) (addr : Addr) (steps : List GroupStep) → IsLegal bounds addr steps → (me q : NodeId) (spec : Spec) → (alone bounds addr steps me.number).spec ≡ Some spec
+    → was_noticed (calls_of (alone bounds addr steps me.number).told) q.number ≡ true
+    → IsSeenAsBefore spec me.number (alone bounds addr steps me.number) (node_noticed me.number q (alone bounds addr steps me.number))

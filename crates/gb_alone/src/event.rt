@@ -29,7 +29,7 @@ pub enum GroupEvent {
     Came { from: NodeId, place: u64 },
     /// The node `by` acknowledges `count` items that were put out to it, from the item with this place on.
     Done { by: NodeId, place: u64, count: u64 },
-    /// The node is noticed.
+    /// The node is noticed. It may be noticed again.
     Notice(NodeId),
     /// This node has stopped.
     Stop,

@@ -7,7 +7,8 @@ use Rattle.gb_types.specs.declared.request.GroupCommand.TheVariants.{Make, Open,
 use Rattle.gb_frame.specs.declared.item.Item.{Item}
 use Rattle.gb_frame.specs.Common.{Content, entry_of, items_for}
 use Rattle.gb_link.specs.Common.{covers}
-use Rattle.gb_detect.specs.Silence.{is_noticed}
+use Rattle.gb_detect.specs.Suspicion.{is_suspected, is_reported}
+use Rattle.gb_types.specs.Common.{withdraws_at}
 use Rattle.gb_rules.specs.Common.{is_addr, is_other, is_other_generation, reserve_of}
 use Rattle.gb_alone.specs.declared.{event.GroupEvent.GroupEvent, event.GroupStep.GroupStep}
 use Rattle.gb_alone.specs.declared.event.GroupEvent.TheVariants.{Tenant, Make as AskMake, Open as AskOpen, Shut as AskShut, Drop as AskDrop, Say as AskSay, Fetch as AskFetch, OtherMade, OtherDropped, Took, Came, Done as Acknowledged, Notice, Stop as Ends}
@@ -75,15 +76,19 @@ unfoldable pub made_with : Addr → List Happened → Option Spec
 made_with g [] = None
 made_with g (h ∷ past) = option_or (made_by g h.event h.answer) (made_with g past)
 
--- a node is noticed at the node a after this past: it is another node of the cluster, and at some moment so far it was silent there for too long
+-- a node is suspected at the node a after this past: it is another node of the cluster, and the detector at a suspects it by what was heard there
+abbrev pub is_suspected_at : Plan → NodeId → List Happened → ℕ → Bool
+is_suspected_at plan a past b = (nat_lt b plan.nodes && not (nat_eq b a.number)) && is_suspected (withdraws_at plan.versions a.number) plan.silence b (watched plan.cluster_key past)
+
+-- a node is noticed at the node a after this past: a tick there reported it, and it has been suspected ever since
 abbrev pub is_noticed_at : Plan → NodeId → List Happened → ℕ → Bool
-is_noticed_at plan a past b = (nat_lt b plan.nodes && not (nat_eq b a.number)) && is_noticed plan.silence b (watched plan.cluster_key past)
+is_noticed_at plan a past b = (nat_lt b plan.nodes && not (nat_eq b a.number)) && is_reported (withdraws_at plan.versions a.number) plan.silence b (watched plan.cluster_key past)
 
 -- the group's notices of other members that pass the test, in rising order of their numbers
 abbrev pub notices : NodeId → Spec → (ℕ → Bool) → List GroupStep
 notices a spec new = map (λ b. record { node = a; event = Notice (node_numbered b) }) (filter (λ b. is_other spec a.number b && new b) (range_with_len 0 NODES))
 
--- a group that was made learns of each other member among these nodes that it is noticed
+-- a group that was made takes a notice of each other member among these nodes
 abbrev pub ticked : NodeId → (ℕ → Bool) → Option Spec → List GroupStep
 ticked a found made = option_map_or (λ spec. notices a spec found) made []
 
@@ -120,13 +125,13 @@ with_stop a met [] = []
 with_stop a met (c ∷ commands) = if met then c ∷ commands else record { node = a; event = Ends } ∷ c ∷ commands
 
 -- At a node that has stopped, a request of the group adds only its command. At a running node, a request that makes the group
--- also adds the notices of the members that are noticed there, and one that makes or drops another generation of its room adds that.
+-- also adds the notices of the members that are suspected there, and one that makes or drops another generation of its room adds that.
 abbrev pub asked : NodeId → Addr → (ℕ → Bool) → List Happened → Request → Reply → List GroupStep
-asked a g noticed past request reply =
+asked a g suspected past request reply =
     if is_stopped past then (if is_own_request a g past request then with_stop a (is_met a g past) (command_for a request.what) else [])
     else tenant_given g a reply request.what
     ++ other_given g a reply request.what
-    ++ (if is_own_request a g past request then command_for a request.what ++ ticked a noticed (made_by g (Asked request) (Replied reply)) else [])
+    ++ (if is_own_request a g past request then command_for a request.what ++ ticked a suspected (made_by g (Asked request) (Replied reply)) else [])
 
 -- Links.
 
@@ -170,7 +175,7 @@ arrived plan g run a c = acknowledges plan g (past_at a run) a c ++ (if is_new_f
 
 -- the steps that an event at a node, with its answer, adds to the projection after this run
 abbrev pub gives : Plan → Addr → List NodeStep → NodeId → NodeEvent → NodeAnswer → List GroupStep
-gives plan g run a (Asked request) (Replied reply) = asked a g (is_noticed_at plan a (past_at a run)) (past_at a run) request reply
+gives plan g run a (Asked request) (Replied reply) = asked a g (is_suspected_at plan a (past_at a run)) (past_at a run) request reply
 gives plan g run a (Pack b) (Sent (SentPacket text)) =
     let count = length (group_items_of g (map (λ (c : Content). c.items) (read plan.cluster_key text))) in if_any a count (Took b count)
 gives plan g run a (Brought bytes) (Taken (TakenGood good)) = flat_map (arrived plan g run a) (read plan.cluster_key bytes)

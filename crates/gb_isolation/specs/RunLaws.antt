@@ -2,19 +2,22 @@
 use Rattle.std.specs.Prelude.{ℕ, ◌+◌, ◌≡◌, ◌≢◌, ◌<◌, ◌||◌, ◌&&◌, not, Bool, true, false, All, List, [], ◌∷◌, ◌++◌, Option, Some, slice_get, if◌then◌else◌}
 use Rattle.std.specs.FinSet as set
 use Rattle.std.specs.Ordering.{nat_cmp}
-use Rattle.gb_types.specs.Common.{bounds_of, version_at}
+use Rattle.gb_types.specs.Common.{bounds_of, version_at, withdraws_at}
 use Rattle.gb_types.specs.declared.{address.Addr.Addr, entry.Entry.Entry, message.MsgId.MsgId, node.NodeId.NodeId, refusal.Refusal.Refusal, refusal.Refusal.TheVariants.Denied, refusal.Refusal.TheVariants.Stopped, refusal.Refusal.TheVariants.OutOfMemory, reply.Reply.Reply, reply.Reply.TheVariants.Said, reply.Reply.TheVariants.Refused, request.Request.Request, request.Action.Action, request.Action.TheVariants.Group as AtGroup, spec.Spec.Spec, version.Version.Version, plan.Plan.Plan, request.GroupCommand.TheVariants.Open, request.GroupCommand.TheVariants.Shut, request.GroupCommand.TheVariants.Drop, request.GroupCommand.TheVariants.Say, request.GroupCommand.TheVariants.Fetch}
 use Rattle.gb_frame.specs.declared.item.Item.{Item}
-use Rattle.gb_rules.specs.Common.{is_addr, is_member, has}
+use Rattle.gb_frame.specs.Common.{Content, pulse_of}
+use Rattle.gb_detect.specs.{Silence.Heard, Silence.is_silent, Suspicion.fresh_calls, Suspicion.is_stale}
+use Rattle.gb_layer.specs.Common.{was_noticed}
+use Rattle.gb_rules.specs.Common.{calls_of, is_addr, is_member, is_other, has}
 use Rattle.gb_alone.specs.Common.{running_reply, Accepted, IsAccepted, KeepsIntegrity, KeepsOrder}
 use Rattle.gb_alone.specs.declared.{event.GroupEvent.TheVariants.Fetch as AskFetch, event.GroupStep.GroupStep}
 use Rattle.gb_duties.specs.{Agreement.IsRunning, Agreement.AreEnough, Agreement.KeepsAgreement, Duties.HasHad, Duties.KeepsDuties, Duties.delivered_at}
-use Rattle.gb_node.specs.Common.{waiting_at, node_numbered, if_done, Happened, frames_to, is_stopped, is_taken, is_admitted_by}
-use Rattle.gb_node.specs.declared.{answer.NodeAnswer.NodeAnswer, answer.NodeAnswer.TheVariants.Reply as Replied, answer.NodeAnswer.TheVariants.Ticked, answer.Ticked.TheVariants.Noticed, event.NodeEvent.NodeEvent, event.NodeEvent.TheVariants.Request as Asked, event.NodeEvent.TheVariants.Tick, plan.NodePlan.NodePlan}
-use Rattle.gb_cluster.specs.Common.{ClusterValue, node_plan, node_at, NodeStep, ComesTo, past_at}
+use Rattle.gb_node.specs.Common.{waiting_at, node_numbered, if_done, came, read, watched, Happened, frames_to, is_stopped, is_taken, is_admitted_by}
+use Rattle.gb_node.specs.declared.{answer.NodeAnswer.NodeAnswer, answer.NodeAnswer.TheVariants.Reply as Replied, answer.NodeAnswer.TheVariants.Sent, answer.NodeAnswer.TheVariants.Ticked, answer.Sent.TheVariants.Packet as SentPacket, answer.Ticked.TheVariants.Noticed, event.NodeEvent.NodeEvent, event.NodeEvent.TheVariants.Request as Asked, event.NodeEvent.TheVariants.Tick, plan.NodePlan.NodePlan}
+use Rattle.gb_cluster.specs.Common.{ClusterValue, node_plan, node_at, NodeStep, ComesTo, past_at, receiver_of}
 use Rattle.gb_isolation.specs.Decides.{steps_at}
 use Rattle.gb_isolation.specs.Isolation.{seen_in, alone_in}
-use Rattle.gb_isolation.specs.Project.{project, group_items, is_noticed_at, is_own_request, made_with, is_fed, fed_run}
+use Rattle.gb_isolation.specs.Project.{project, group_items, is_noticed_at, is_suspected_at, made_by, is_own_request, made_with, is_fed, fed_run}
 
 -- What was accepted.
 
@@ -84,13 +87,20 @@ unfoldable pub is_dropped : Addr → List Happened → Bool
 is_dropped g [] = false
 is_dropped g (h ∷ past) = is_dropped_by g h.event h.answer || is_dropped g past
 
--- a node is noticed at the node a in the run
+-- a node is noticed at the node a in the run, and suspected
 abbrev pub is_noticed_in : Plan → List NodeStep → NodeId → ℕ → Bool
 is_noticed_in plan run a = is_noticed_at plan a (past_at a run)
 
--- the duties of the node b in the run, for these messages: notices and items put out are read from the run, what another node has had is read from the projection
+abbrev pub is_suspected_in : Plan → List NodeStep → NodeId → ℕ → Bool
+is_suspected_in plan run a = is_suspected_at plan a (past_at a run)
+
+-- the group at the node a was notified of a node, once or more often, as the projection of the run has it
+abbrev pub is_notified_in : Plan → List NodeStep → Addr → NodeId → ℕ → Bool
+is_notified_in plan run g a q = was_noticed (calls_of (alone_in plan g run a.number).told) q
+
+-- the duties of the node b in the run, for these messages: items put out are read from the run, of whom the group was notified and what another node has had from the projection
 abbrev pub KeepsRunDuties : Plan → List NodeStep → ClusterValue → Addr → NodeId → Spec → (MsgId → Bool) → Type 0
-KeepsRunDuties plan run v g b spec messages = KeepsDuties spec b.number (is_noticed_in plan run b) (λ c. (seen_in plan run v g b (node_numbered c)).put) (HasHad (alone_in plan g run)) messages
+KeepsRunDuties plan run v g b spec messages = KeepsDuties spec b.number (is_notified_in plan run g b) (λ c. (seen_in plan run v g b (node_numbered c)).put) (HasHad (alone_in plan g run)) messages
 
 -- each node that made the group, and did not drop it, has done its duties for each message that its module delivered, and so for each message in the log seen there
 pub record RunDuties (plan : Plan) (run : List NodeStep) (v : ClusterValue) (g : Addr) : Type 0 where
@@ -128,9 +138,9 @@ pub record IsSettledIn (plan : Plan) (run : List NodeStep) (v : ClusterValue) (g
   pub carried : (a b : ℕ) → IsRunning runs spec a → IsRunning runs spec b → a ≢ b → waiting_at (node_at v (node_numbered a)) g b ≡ []
   pub came : (a b : ℕ) → IsRunning runs spec a → IsRunning runs spec b → a ≢ b → (n : ℕ) (frame : List Item) → slice_get (frames_to plan.cluster_key b (past_at (node_numbered a) run)) n ≡ Some frame → group_items g frame ≢ []
       → is_taken plan.cluster_key a (n + 1) (past_at (node_numbered b) run) ≡ true
-  -- each running member has noticed each stopped member, and no member has noticed a running one
-  pub noticed : (a b : ℕ) → IsRunning runs spec a → is_member spec b ≡ true → runs b ≡ false → is_noticed_in plan run (node_numbered a) b ≡ true
-  pub unnoticed : (a b : ℕ) → is_member spec a ≡ true → IsRunning runs spec b → is_noticed_in plan run (node_numbered a) b ≡ false
+  -- the group was notified of each stopped member at each running member, and of no running one at any member
+  pub notified : (a b : ℕ) → IsRunning runs spec a → is_member spec b ≡ true → runs b ≡ false → is_notified_in plan run g (node_numbered a) b ≡ true
+  pub unnotified : (a b : ℕ) → is_member spec a ≡ true → IsRunning runs spec b → is_notified_in plan run g (node_numbered a) b ≡ false
 
 -- if the group is settled, the logs seen at its members agree, whichever nodes are taken as those that run, provided that enough of them run
 abbrev pub RunAgreement : Plan → List NodeStep → ClusterValue → Addr → Type 0
@@ -200,6 +210,30 @@ AnswersNewNotices plan earlier d = d.event ≡ Tick → is_stopped (past_at d.no
 
 abbrev pub TicksAnswerNewNotices : Type 0
 TicksAnswerNewNotices = (plan : Plan) (earlier : List NodeStep) (d : NodeStep) (v : ClusterValue) → ComesTo plan (d ∷ earlier) v → AnswersNewNotices plan earlier d
+
+-- Suspicions at nodes that send packets of version 4.
+
+-- A request that makes a group adds a notice of exactly the other members that are suspected at its node then: a node that is not suspected is in no notice of it.
+abbrev pub NotifiesOfSuspected : Plan → List NodeStep → NodeStep → Type 0
+NotifiesOfSuspected plan earlier d = (g : Addr) (spec : Spec) → made_by g d.event d.answer ≡ Some spec
+    → (q : NodeId) → is_notified_in plan (d ∷ earlier) g d.node q.number ≡ (is_other spec d.node.number q.number && is_suspected_in plan earlier d.node q.number)
+
+abbrev pub MakesNotifyOfSuspected : Type 0
+MakesNotifyOfSuspected = (plan : Plan) (earlier : List NodeStep) (d : NodeStep) (v : ClusterValue) → ComesTo plan (d ∷ earlier) v → NotifiesOfSuspected plan earlier d
+
+-- Suspicion becomes mutual: a packet of a node at which its destination is silent says so, and if it is fresh there, the sender is suspected there from it on.
+abbrev pub MakesSuspect : Plan → List NodeStep → NodeStep → Type 0
+MakesSuspect plan earlier d = (c : Content) → came plan.cluster_key d.event d.answer ≡ c ∷ [] → c.unheard ≡ true → withdraws_at plan.versions d.node.number ≡ true
+    → is_stale (Heard c.from (pulse_of c)) (watched plan.cluster_key (past_at d.node earlier)) ≡ false
+    → is_suspected_in plan (d ∷ earlier) d.node c.from ≡ true
+
+abbrev pub SaysItsSilence : Plan → List NodeStep → NodeStep → Type 0
+SaysItsSilence plan earlier d = (b : NodeId) → receiver_of d.event ≡ Some b → (text : List ℕ) (c : Content) → d.answer ≡ Sent (SentPacket text) → read plan.cluster_key text ≡ c ∷ []
+    → withdraws_at plan.versions d.node.number ≡ true → c.unheard ≡ is_silent plan.silence b.number (fresh_calls (watched plan.cluster_key (past_at d.node earlier)))
+
+pub record SuspicionIsMutual : Type 0 where
+  pub said : (plan : Plan) (earlier : List NodeStep) (d : NodeStep) (v : ClusterValue) → ComesTo plan (d ∷ earlier) v → SaysItsSilence plan earlier d
+  pub taken : (plan : Plan) (earlier : List NodeStep) (d : NodeStep) (v : ClusterValue) → ComesTo plan (d ∷ earlier) v → MakesSuspect plan earlier d
 
 -- A request that is refused, for whatever reason, changes nothing at any node and sends nothing.
 abbrev pub ChangesNothing : Plan → List NodeStep → NodeStep → Type 0

@@ -1,7 +1,7 @@
 //! What holds of each group in every run of a cluster.
 ghost use Rattle.gb_isolation.specs.Decides.{EachNodeDecides};
 ghost use Rattle.gb_isolation.specs.Isolation.{AmpleRunsFeedAll, EveryGroupIsIsolated, GroupsAreIsolated};
-ghost use Rattle.gb_isolation.specs.RunLaws.{GroupsDoTheirDuties, GroupsKeepIntegrity, GroupsKeepOrder, LogsMayBeFetched, OnlySomeTakeMemory, RefusalsChangeNothing, RefusalsMayBeLeftOut, RunsAgree, RunsAgreeNodeByNode, SettledGroupsAgree, StrangersAreDenied, TicksAnswerNewNotices};
+ghost use Rattle.gb_isolation.specs.RunLaws.{GroupsDoTheirDuties, GroupsKeepIntegrity, GroupsKeepOrder, LogsMayBeFetched, MakesNotifyOfSuspected, OnlySomeTakeMemory, RefusalsChangeNothing, RefusalsMayBeLeftOut, RunsAgree, RunsAgreeNodeByNode, SettledGroupsAgree, StrangersAreDenied, SuspicionIsMutual, TicksAnswerNewNotices};
 
 use gb_alone::laws::{integrity, order};
 use gb_cluster::laws::{links_hold, nothing_is_outside};
@@ -176,5 +176,25 @@ pub fn strangers_are_denied()
 pub fn only_some_take_memory()
     ensures { OnlySomeTakeMemory }
 {
+    answers_say();
+}
+
+/// A law of every run: a group that is made begins with a notice of exactly the other members that its node suspects then. So a member
+/// that was suspected and heard again is in no notice of it. The function does nothing when it runs; its contract is the law.
+pub fn makes_notify_of_suspected()
+    ensures { MakesNotifyOfSuspected }
+{
+    groups_are_isolated();
+    pasts_say();
+    answers_say();
+}
+
+/// A law of every run, of nodes that send packets of version 4: each packet says whether its destination is silent at its sender, and a
+/// node suspects the sender of a fresh packet that says so. So if two nodes are parted in one direction only, both suspect each other.
+/// The function does nothing when it runs; its contract is the law.
+pub fn suspicion_is_mutual()
+    ensures { SuspicionIsMutual }
+{
+    pasts_say();
     answers_say();
 }

@@ -1,6 +1,6 @@
 -- The rooms of groups. A room is a tenant's number for a group; the groups that are made under it are its generations, one after another.
 use Rattle.std.specs.Prelude.{ℕ, ◌+◌, ◌-◌, ◌&&◌, not, Bool, true, nat_eq, nat_le, if◌then◌else◌}
-use Rattle.gb_types.specs.declared.{address.Addr.Addr, version.Version.Version, version.Version.TheVariants.One, version.Version.TheVariants.Two, version.Version.TheVariants.Three}
+use Rattle.gb_types.specs.declared.{address.Addr.Addr, version.Version.Version, version.Version.TheVariants.One, version.Version.TheVariants.Two, version.Version.TheVariants.Three, version.Version.TheVariants.Four}
 use Rattle.gb_rules.specs.Address.{is_addr}
 
 -- the address of the room's first generation, which stands for the room
@@ -26,8 +26,9 @@ one_more g addr n = if is_other_generation g addr then n + 1 else n
 abbrev pub one_less : Addr → Addr → ℕ → ℕ
 one_less g addr n = if is_other_generation g addr then n - 1 else n
 
--- packets of the version name the generation of a group: the first in every version, later ones in version 3
+-- packets of the version name the generation of a group: the first in every version, later ones from version 3 on
 abbrev pub can_name : Version → Addr → Bool
 can_name One addr = nat_eq addr.generation 0
 can_name Two addr = nat_eq addr.generation 0
 can_name Three addr = true
+can_name Four addr = true

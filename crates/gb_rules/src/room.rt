@@ -49,8 +49,8 @@ pub fn is_other_generation(addr: Addr, other: Addr) -> bool
     is_same_room(addr, other) && !is_same(addr, other)
 }
 
-/// Returns true if packets of this version can name the generation of the group. Every version can name generation 0; version 3 can
-/// name all.
+/// Returns true if packets of this version can name the generation of the group. Every version can name generation 0; versions 3
+/// and 4 can name all.
 pub fn can_name(version: Version, addr: Addr) -> bool
     ensures { result ≡ can_name version addr }
 {
@@ -58,5 +58,6 @@ pub fn can_name(version: Version, addr: Addr) -> bool
         Version::One => addr.generation == 0,
         Version::Two => addr.generation == 0,
         Version::Three => true,
+        Version::Four => true,
     }
 }
