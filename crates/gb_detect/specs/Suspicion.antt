@@ -1,9 +1,14 @@
 -- Which nodes are suspected at a node that takes a suspicion back, over the calls on its detector, newest first
 -- (an eventually perfect failure detector, as in Cachin, Guerraoui, Rodrigues 2011, Module 2.8).
-use Rattle.std.specs.Prelude.{ℕ, Bool, false, true, ◌&&◌, ◌||◌, nat_eq, nat_le, List, [], ◌∷◌, Option, Some, None, if◌then◌else◌}
+use Rattle.std.specs.Prelude.{ℕ, Bool, false, true, ◌&&◌, ◌||◌, nat_eq, nat_lt, nat_le, List, [], ◌∷◌, Option, Some, None, if◌then◌else◌}
 use Rattle.std.specs.List.{list_any}
 use Rattle.gb_types.specs.declared.pulse.Pulse.{Pulse}
 use Rattle.gb_detect.specs.Silence.{Call, Heard, Tick, is_tick, is_silent, is_noticed}
+
+-- the tick number is above another, if there is one
+abbrev pub is_above : Option ℕ → ℕ → Bool
+is_above None tick = true
+is_above (Some newest) tick = nat_lt newest tick
 
 -- the call heard a packet of the node with this tick number or a greater one
 abbrev pub reaches : ℕ → ℕ → Call → Bool
@@ -16,6 +21,13 @@ abbrev pub is_stale : Call → List Call → Bool
 is_stale (Heard c (Some pulse)) earlier = list_any (reaches c pulse.tick) earlier
 is_stale (Heard c None) earlier = false
 is_stale Tick earlier = false
+
+-- the greatest tick number that came from the node, if one came
+unfoldable pub newest_of : ℕ → List Call → Option ℕ
+newest_of b [] = None
+newest_of b (Heard c (Some pulse) ∷ calls) = if nat_eq c b && is_above (newest_of b calls) pulse.tick then Some pulse.tick else newest_of b calls
+newest_of b (Heard c None ∷ calls) = newest_of b calls
+newest_of b (Tick ∷ calls) = newest_of b calls
 
 -- the calls without the stale packets: the ticks and the fresh packets
 unfoldable pub fresh_calls : List Call → List Call

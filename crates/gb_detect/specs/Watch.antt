@@ -6,7 +6,7 @@ use Rattle.std.specs.FinSet as set
 use Rattle.gb_types.specs.Common.{below}
 use Rattle.gb_types.specs.declared.{limits.TheConstants.NODES, limits.TheConstants.SILENCE_MIN, pulse.Pulse.Pulse}
 use Rattle.gb_detect.specs.Silence.{Call, Heard, Tick}
-use Rattle.gb_detect.specs.Suspicion.{says_unheard, is_suspected, is_reported}
+use Rattle.gb_detect.specs.Suspicion.{is_above, says_unheard, is_suspected, is_reported}
 
 -- a detector at the node `me` of `nodes` nodes, which notices a node after `silence` ticks
 pub record Watch : Type 0 where
@@ -54,11 +54,6 @@ is_due d b = not (nat_eq b d.me) && (not (set.contains d.noticed b) && (nat_le d
 -- the nodes that a tick would notice
 abbrev pub due : Watch → set.FinSet nat_cmp
 due d = nodes_where d.nodes (is_due d)
-
--- the tick number is above the greatest that came before, if one came
-abbrev pub is_above : Option ℕ → ℕ → Bool
-is_above None tick = true
-is_above (Some newest) tick = nat_lt newest tick
 
 -- a packet of the node with this pulse is fresh
 abbrev pub is_fresh : Watch → ℕ → Option Pulse → Bool

@@ -1,6 +1,6 @@
 //! What the bytes of a packet say, before it is known that they are one.
 use gb_frame::ItemViews;
-use gb_frame::limits::{HEADER, TAG};
+use gb_frame::limits::shortest;
 use gb_types::{Addr, Version};
 
 /// What a packet acknowledges: every frame below `base`, and `base + i` where bit i of the mask is set.
@@ -30,14 +30,18 @@ pub fn hint_of(bytes: &[u8]) -> Hint {
 /// memory are left out, and false is returned then. They decide only who is asked again, and when.
 pub fn put_addresses(bytes: &[u8], addresses: &mut Vec<Addr>) -> bool {
     addresses.clear();
-    if bytes.len() < HEADER + TAG {
+    if bytes.len() < 3 {
         return true;
     }
     let Some(version) = Version::from_byte(bytes[2]) else {
         return true;
     };
+    if bytes.len() < shortest(version) {
+        return true;
+    }
     let mut is_whole = true;
-    let texts = &bytes[HEADER..bytes.len() - TAG];
+    let limits = version.limits();
+    let texts = &bytes[limits.header..bytes.len() - limits.tag];
     for item in ItemViews::of_texts(version, texts) {
         let address = Addr {
             tenant: item.tenant,

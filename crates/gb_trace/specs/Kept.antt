@@ -1,10 +1,14 @@
 -- What the programs that read a run keep of it, so that they do not ask its past anew at each event.
-use Rattle.std.specs.Prelude.{ℕ, ◌≡◌, ◌+◌, ◌<◌, ◌≤◌, ◌||◌, Bool, true, false, List, [], length, map, sum, take, nat_eq, nat_le, Option, None, slice_index_or}
+use Rattle.std.specs.Prelude.{ℕ, ◌≡◌, ◌+◌, ◌<◌, ◌≤◌, ◌&&◌, ◌||◌, not, nat_lt, if◌then◌else◌, Some, Bool, true, false, List, [], length, map, sum, take, nat_eq, nat_le, Option, None, slice_index_or}
 use Rattle.std.specs.{HashSet.contains, HashSet.IsEmpty, List.count_by}
 use Rattle.gb_types.specs.declared.{address.Addr.Addr, limits.TheConstants.NODES, node.NodeId.NodeId, plan.Plan.Plan, spec.TenantRow.TenantRow}
-use Rattle.gb_frame.specs.Common.{Content}
+use Rattle.gb_types.specs.Common.{withdraws_at}
+use Rattle.gb_types.specs.declared.pulse.Pulse.{Pulse}
+use Rattle.gb_frame.specs.Common.{Content, pulse_of}
 use Rattle.gb_link.specs.Common.{covers}
-use Rattle.gb_detect.specs.Silence.{since_heard, is_noticed, is_tick}
+use Rattle.gb_detect.specs.Silence.{Call, since_heard, is_noticed, is_tick}
+use Rattle.gb_detect.specs.Suspicion.{fresh_calls, is_above, is_flagged, newest_of, says_unheard}
+use Rattle.gb_detect.specs.Watch.{with_newest}
 use Rattle.gb_rules.specs.Common.{row_of}
 use Rattle.gb_node.specs.Common.{Happened, frames_to, is_acked, is_stopped, tenants_in, watched}
 use Rattle.gb_cluster.specs.Common.{NodeStep, past_at}
@@ -57,28 +61,55 @@ pub record IsBare (link : Link) : Type 0 where
   pub came : IsEmpty link.came
   pub unheard : link.unheard ≡ 0
   pub silent : link.silent ≡ false
+  pub newest : link.newest ≡ None
+  pub flagged : link.flagged ≡ false
 
 -- each link of a node is so, and there is one for each node
 pub record AreBare (links : List Link) : Type 0 where
   pub many : length links ≡ NODES
   pub each : (n : ℕ) (d : Link) → n < NODES → IsBare (slice_index_or links n d)
 
+-- a packet with this pulse is fresh
+abbrev pub is_fresh_by : Option ℕ → Option Pulse → Bool
+is_fresh_by newest None = true
+is_fresh_by newest (Some pulse) = is_above newest pulse.tick
+
+abbrev pub is_fresh_at : Link → Option Pulse → Bool
+is_fresh_at link pulse = is_fresh_by link.newest pulse
+
+-- a packet with this pulse changes what is known of time so: where suspicions are taken back a packet that is not fresh changes nothing
+pub record Hears (withdraws : Bool) (pulse : Option Pulse) (old new : Link) : Type 0 where
+  pub frames : new.frames ≡ old.frames
+  pub came : new.came ≡ old.came
+  pub silent : new.silent ≡ old.silent
+  pub unheard : new.unheard ≡ (if not withdraws || is_fresh_at old pulse then 0 else old.unheard)
+  pub newest : withdraws ≡ true → new.newest ≡ (if is_fresh_at old pulse then with_newest pulse old.newest else old.newest)
+  pub flagged : withdraws ≡ true → new.flagged ≡ (if is_fresh_at old pulse then says_unheard pulse else old.flagged)
+
+-- the node of the link is suspected
+abbrev pub is_suspected_by : Link → ℕ → Bool → Bool
+is_suspected_by link silence withdraws = if withdraws then nat_le silence link.unheard || link.flagged else link.silent
+
 -- a packet of the other node changes the link so
-pub record Takes (c : Content) (old new : Link) : Type 0 where
+pub record Takes (withdraws : Bool) (c : Content) (old new : Link) : Type 0 where
   pub counts : new.frames.counts.items ≡ old.frames.counts.items
   pub places : new.frames.places.items ≡ old.frames.places.items
   pub total : new.frames.total ≡ old.frames.total
   pub acked : AreCovered c.base c.mask old.frames.acked.items new.frames.acked.items
   pub front : IsFront new.frames.acked.items new.frames.front
   pub came : (n : ℕ) → contains nat_eq new.came n ≡ (nat_eq c.frame n || contains nat_eq old.came n)
-  pub unheard : new.unheard ≡ 0
+  pub unheard : new.unheard ≡ (if not withdraws || is_fresh_at old (pulse_of c) then 0 else old.unheard)
   pub silent : new.silent ≡ old.silent
+  pub newest : withdraws ≡ true → new.newest ≡ (if is_fresh_at old (pulse_of c) then with_newest (pulse_of c) old.newest else old.newest)
+  pub flagged : withdraws ≡ true → new.flagged ≡ (if is_fresh_at old (pulse_of c) then says_unheard (pulse_of c) else old.flagged)
 
 -- a tick changes the link so
 pub record Ticks (silence : ℕ) (old new : Link) : Type 0 where
   pub frames : new.frames ≡ old.frames
   pub came : new.came ≡ old.came
   pub unheard : new.unheard ≡ old.unheard + 1
+  pub newest : new.newest ≡ old.newest
+  pub flagged : new.flagged ≡ old.flagged
   pub silent : new.silent ≡ (nat_le silence (old.unheard + 1) || old.silent)
 
 -- a tick changes each of these links so
@@ -86,17 +117,23 @@ pub record TickAll (silence : ℕ) (old new : List Link) : Type 0 where
   pub many : length new ≡ length old
   pub each : (n : ℕ) (d : Link) → n < length old → Ticks silence (slice_index_or old n d) (slice_index_or new n d)
 
--- the link to the node with the number b
-pub record KeepsLink (plan : Plan) (g : Addr) (b : ℕ) (past : List Happened) (link : Link) : Type 0 where
+-- the calls that count at the node a: the ticks and, where suspicions are taken back, the fresh packets alone
+abbrev pub counted_at : Plan → NodeId → List Happened → List Call
+counted_at plan a past = if withdraws_at plan.versions a.number then fresh_calls (watched plan.cluster_key past) else watched plan.cluster_key past
+
+-- the link of the node a to the node with the number b
+pub record KeepsLink (plan : Plan) (g : Addr) (a : NodeId) (b : ℕ) (past : List Happened) (link : Link) : Type 0 where
   pub frames : KeepsFrames plan g b past link.frames
   pub came : (n : ℕ) → contains nat_eq link.came n ≡ has_come plan.cluster_key b n past
-  pub unheard : link.unheard ≡ count_by is_tick (since_heard b (watched plan.cluster_key past))
+  pub unheard : link.unheard ≡ count_by is_tick (since_heard b (counted_at plan a past))
   pub silent : link.silent ≡ is_noticed plan.silence b (watched plan.cluster_key past)
+  pub newest : withdraws_at plan.versions a.number ≡ true → link.newest ≡ newest_of b (watched plan.cluster_key past)
+  pub flagged : withdraws_at plan.versions a.number ≡ true → link.flagged ≡ is_flagged b (fresh_calls (watched plan.cluster_key past))
 
 -- the links of a node
-pub record KeepsLinks (plan : Plan) (g : Addr) (past : List Happened) (links : List Link) : Type 0 where
+pub record KeepsLinks (plan : Plan) (g : Addr) (a : NodeId) (past : List Happened) (links : List Link) : Type 0 where
   pub many : length links ≡ NODES
-  pub each : (n : ℕ) (d : Link) → n < NODES → KeepsLink plan g n past (slice_index_or links n d)
+  pub each : (n : ℕ) (d : Link) → n < NODES → KeepsLink plan g a n past (slice_index_or links n d)
 
 -- Nodes.
 
@@ -119,7 +156,7 @@ pub record KeepsNode (plan : Plan) (g : Addr) (a : NodeId) (past : List Happened
   pub stopped : node.stopped ≡ is_stopped past
   pub met : node.met ≡ is_met a g past
   pub made : node.made ≡ made_with g past
-  pub links : KeepsLinks plan g past node.links.items
+  pub links : KeepsLinks plan g a past node.links.items
 
 -- and so at each node, after the run
 pub record Keeps (plan : Plan) (g : Addr) (run : List NodeStep) (nodes : List NodeKept) : Type 0 where

@@ -2,7 +2,7 @@
 ghost use Rattle.std.specs.Prelude.{◌≡◌, ◌++◌, [], ◌∷◌, IfOk, OnOk, if◌then◌else◌};
 ghost use Rattle.std.specs.Option.{option_to_list};
 ghost use Rattle.gb_alone.specs.declared.event.GroupEvent.TheVariants.{Stop as Ends};
-ghost use Rattle.gb_isolation.specs.Project.{event_of, command_for, made_by, is_own_request as is_own, is_noticed_at, ticked, tenant_given, other_given, with_stop, asked};
+ghost use Rattle.gb_isolation.specs.Project.{event_of, command_for, made_by, is_own_request as is_own, is_suspected_at, ticked, tenant_given, other_given, with_stop, asked};
 ghost use Rattle.gb_node.specs.declared.{answer.NodeAnswer.TheVariants.Reply as Replied, event.NodeEvent.TheVariants.Request as Asked};
 ghost use Rattle.gb_trace.specs.NodeSteps.{past_in};
 ghost use Rattle.gb_trace.specs.Kept.{KeepsLinks, KeepsNode};
@@ -10,7 +10,7 @@ ghost use Rattle.gb_trace.specs.Kept.{KeepsLinks, KeepsNode};
 use crate::kept::NodeKept;
 use crate::links::Link;
 use crate::moment::Moment;
-use crate::noticed::add_noticed;
+use crate::noticed::add_suspected;
 use crate::past::{is_own_request, made};
 use crate::steps::{add, at};
 use gb_alone::{GroupEvent, GroupStep};
@@ -47,7 +47,7 @@ fn command(alloc: Global, a: NodeId, what: &Action) -> Result<Option<GroupStep>,
 }
 
 /// Adds the group's steps from a request of the group, with its reply, at the moment's node, which is running. If the request makes
-/// the group, these include the notices of the members that are noticed there. `links` is what is kept of the node's links.
+/// the group, these include the notices of the members that are suspected there. `links` is what is kept of the node's links.
 fn of_own(
     alloc: Global,
     moment: Moment<'_>,
@@ -56,13 +56,13 @@ fn of_own(
     reply: &Reply,
     steps: &mut Vec<GroupStep>,
 ) -> Result<(), OutOfMemory>
-    requires { KeepsLinks moment.plan.now moment.addr (past_in moment.node moment.before.now) links.now }
-    ensures { let m = moment.entry in OnOk result (steps.new.items ≡ steps.old.items ++ (command_for m.node request.now.what ++ ticked m.node (is_noticed_at m.plan.now m.node (past_in m.node m.before.now)) (made_by m.addr (Asked request.now) (Replied reply.now)))) }
+    requires { KeepsLinks moment.plan.now moment.addr moment.node (past_in moment.node moment.before.now) links.now }
+    ensures { let m = moment.entry in OnOk result (steps.new.items ≡ steps.old.items ++ (command_for m.node request.now.what ++ ticked m.node (is_suspected_at m.plan.now m.node (past_in m.node m.before.now)) (made_by m.addr (Asked request.now) (Replied reply.now)))) }
 {
     add(command(alloc, moment.node, &request.what)?, steps)?;
     match made(moment.addr, request, reply) {
         None => Ok(()),
-        Some(spec) => add_noticed(moment, spec, links, steps),
+        Some(spec) => add_suspected(moment, spec, links, steps),
     }
 }
 
@@ -111,7 +111,7 @@ fn of_running(
     steps: &mut Vec<GroupStep>,
 ) -> Result<(), OutOfMemory>
     requires { KeepsNode moment.plan.now moment.addr moment.node (past_in moment.node moment.before.now) node.now }
-    ensures { let m = moment.entry in OnOk result (steps.new.items ≡ steps.old.items ++ (tenant_given m.addr m.node reply.now request.now.what ++ (other_given m.addr m.node reply.now request.now.what ++ (if is_own m.node m.addr (past_in m.node m.before.now) request.now then command_for m.node request.now.what ++ ticked m.node (is_noticed_at m.plan.now m.node (past_in m.node m.before.now)) (made_by m.addr (Asked request.now) (Replied reply.now)) else [])))) }
+    ensures { let m = moment.entry in OnOk result (steps.new.items ≡ steps.old.items ++ (tenant_given m.addr m.node reply.now request.now.what ++ (other_given m.addr m.node reply.now request.now.what ++ (if is_own m.node m.addr (past_in m.node m.before.now) request.now then command_for m.node request.now.what ++ ticked m.node (is_suspected_at m.plan.now m.node (past_in m.node m.before.now)) (made_by m.addr (Asked request.now) (Replied reply.now)) else [])))) }
 {
     let a = moment.node;
     add(tenant(moment.addr, a, &request.what, reply), steps)?;
@@ -160,7 +160,7 @@ pub(crate) fn of_request(
     steps: &mut Vec<GroupStep>,
 ) -> Result<(), OutOfMemory>
     requires { KeepsNode moment.plan.now moment.addr moment.node (past_in moment.node moment.before.now) node.now }
-    ensures { let m = moment.entry in OnOk result (steps.new.items ≡ steps.old.items ++ asked m.node m.addr (is_noticed_at m.plan.now m.node (past_in m.node m.before.now)) (past_in m.node m.before.now) request.now reply.now) }
+    ensures { let m = moment.entry in OnOk result (steps.new.items ≡ steps.old.items ++ asked m.node m.addr (is_suspected_at m.plan.now m.node (past_in m.node m.before.now)) (past_in m.node m.before.now) request.now reply.now) }
 {
     if !node.stopped {
         return of_running(alloc, moment, node, request, reply, steps);

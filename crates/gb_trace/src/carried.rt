@@ -152,7 +152,7 @@ fn of_acknowledgement(
     packet: &PacketView<'_>,
     steps: &mut Vec<GroupStep>,
 ) -> Result<(), OutOfMemory>
-    requires { KeepsLinks moment.plan.now moment.addr (past_in moment.node moment.before.now) links.now }
+    requires { KeepsLinks moment.plan.now moment.addr moment.node (past_in moment.node moment.before.now) links.now }
     ensures { let m = moment.entry in OnOk result (steps.new.items ≡ steps.old.items ++ acknowledges m.plan.now m.addr (past_in m.node m.before.now) m.node packet.now) }
 {
     let link = link_at(moment, links, sender(packet));
@@ -185,7 +185,7 @@ fn of_frame(
 /// Returns true if the packet, which comes at the moment, has a frame, and no frame with its number came from its sender before.
 /// `links` is what is kept of the links of the moment's node.
 fn has_new_frame(moment: Moment<'_>, links: &[Link], packet: &PacketView<'_>) -> bool
-    requires { KeepsLinks moment.plan.now moment.addr (past_in moment.node moment.before.now) links.now }
+    requires { KeepsLinks moment.plan.now moment.addr moment.node (past_in moment.node moment.before.now) links.now }
     ensures { let m = moment.entry in result ≡ is_new_frame m.plan.now.cluster_key (past_in m.node m.before.now) packet.now }
 {
     let frame = packet.head().frame;

@@ -3,17 +3,17 @@ ghost use Rattle.std.specs.Prelude.{◌≡◌, ◌≤◌, [], ◌∷◌, IfOk, O
 ghost use Rattle.gb_types.specs.declared.limits.TheConstants.{SILENCE_MIN as LEAST};
 ghost use Rattle.gb_node.specs.Past as past;
 ghost use Rattle.gb_trace.specs.NodeSteps.{past_in};
-ghost use Rattle.gb_trace.specs.Kept.{AreBare, IsBare, IsFront, KeepsLink, KeepsLinks, Takes, Ticks, TickAll};
+ghost use Rattle.gb_trace.specs.Kept.{AreBare, Hears, IsBare, IsFront, KeepsLink, KeepsLinks, Takes, Ticks, TickAll, is_fresh_at};
 
 use crate::frames::Frames;
 use crate::moment::Moment;
 use crate::reading::{came, count_in, packed, sender, target};
-use crate::silence::{is_silent, ticks};
+use crate::silence::{is_silent, ticks, withdraws};
 use gb_cap::HmacKey;
 use gb_frame::PacketView;
 use gb_node::NodeStep;
 use gb_types::limits::NODES;
-use gb_types::{NodeId, OutOfMemory};
+use gb_types::{NodeId, OutOfMemory, Pulse};
 use std::alloc::Global;
 use std::collections::HashSet;
 
@@ -24,10 +24,14 @@ pub(crate) struct Link {
     pub frames: Frames,
     /// The numbers of the frames that came from it, and 0 if a packet without a frame came.
     pub came: HashSet<u64>,
-    /// For how many ticks in a row it was not heard.
+    /// For how many ticks in a row it was not heard. Where suspicions are taken back, only fresh packets count.
     pub unheard: u64,
     /// True if it was silent for too long at some moment.
     pub silent: bool,
+    /// The greatest tick number that came from it, if one came.
+    pub newest: Option<u64>,
+    /// True if its last fresh packet said that this node is silent there.
+    pub flagged: bool,
 }
 
 impl Link {
@@ -40,18 +44,45 @@ impl Link {
             came: HashSet::new(alloc),
             unheard: 0,
             silent: false,
+            newest: None,
+            flagged: false,
         }
     }
 
-    /// Takes in a packet that came from the other node.
-    fn take(&mut self, packet: &PacketView<'_>) -> Result<(), OutOfMemory>
+    /// Returns true if a packet with this pulse is fresh: it has no tick number, or one above all that came.
+    fn is_fresh(&self, pulse: Option<Pulse>) -> bool
+        ensures { result ≡ is_fresh_at self.now pulse }
+    {
+        match (pulse, self.newest) {
+            (Some(pulse), Some(newest)) => newest < pulse.tick,
+            _ => true,
+        }
+    }
+
+    /// Takes in what a packet that came from the other node says of time. `withdraws` says whether suspicions are taken back.
+    fn hear(&mut self, pulse: Option<Pulse>, withdraws: bool)
+        ensures { Hears withdraws pulse self.old self.new }
+    {
+        if withdraws && !self.is_fresh(pulse) {
+            return;
+        }
+        self.unheard = 0;
+        self.flagged = false;
+        if let Some(pulse) = pulse {
+            self.newest = Some(pulse.tick);
+            self.flagged = pulse.unheard;
+        }
+    }
+
+    /// Takes in a packet that came from the other node. `withdraws` says whether suspicions are taken back.
+    fn take(&mut self, packet: &PacketView<'_>, withdraws: bool) -> Result<(), OutOfMemory>
         requires { IsFront self.old.frames.acked.items self.old.frames.front }
-        ensures { OnOk result (Takes packet.now self.old self.new) }
+        ensures { OnOk result (Takes withdraws packet.now self.old self.new) }
     {
         let head = packet.head();
         self.came.insert(head.frame)?;
         self.frames.acknowledge(head.base, head.mask);
-        self.unheard = 0;
+        self.hear(head.pulse(), withdraws);
         Ok(())
     }
 
@@ -101,8 +132,8 @@ fn keep_packed(
     requires key { key.now ≡ moment.plan.now.cluster_key }
     requires untaken { past.came key.now node_step.now.event node_step.now.answer ≡ [] }
     requires unticked { past.ticks node_step.now.event node_step.now.answer ≡ [] }
-    requires kept { KeepsLinks moment.plan.now moment.addr (past_in moment.node moment.before.now) links.old.items }
-    ensures { let m = moment.entry in OnOk result (KeepsLinks m.plan.now m.addr (record { event = node_step.now.event; answer = node_step.now.answer } ∷ past_in m.node m.before.now) links.new.items) }
+    requires kept { KeepsLinks moment.plan.now moment.addr moment.node (past_in moment.node moment.before.now) links.old.items }
+    ensures { let m = moment.entry in OnOk result (KeepsLinks m.plan.now m.addr m.node (record { event = node_step.now.event; answer = node_step.now.answer } ∷ past_in m.node m.before.now) links.new.items) }
 {
     let Some(to) = target(node_step) else {
         return Ok(());
@@ -125,11 +156,11 @@ pub(crate) fn keep_links(
 ) -> Result<(), OutOfMemory>
     requires least { LEAST ≤ moment.plan.now.silence }
     requires key { key.now ≡ moment.plan.now.cluster_key }
-    requires kept { KeepsLinks moment.plan.now moment.addr (past_in moment.node moment.before.now) links.old.items }
-    ensures { let m = moment.entry in OnOk result (KeepsLinks m.plan.now m.addr (record { event = node_step.now.event; answer = node_step.now.answer } ∷ past_in m.node m.before.now) links.new.items) }
+    requires kept { KeepsLinks moment.plan.now moment.addr moment.node (past_in moment.node moment.before.now) links.old.items }
+    ensures { let m = moment.entry in OnOk result (KeepsLinks m.plan.now m.addr m.node (record { event = node_step.now.event; answer = node_step.now.answer } ∷ past_in m.node m.before.now) links.new.items) }
 {
     if let Some(packet) = came(key, node_step) {
-        return links[sender(&packet).index()].take(&packet);
+        return links[sender(&packet).index()].take(&packet, withdraws(moment));
     }
     if ticks(node_step) {
         return tick_all(moment.plan.silence, links);
@@ -139,8 +170,8 @@ pub(crate) fn keep_links(
 
 /// Returns what is kept of the link to the node `b`. `links` is what is kept of the links of the moment's node.
 pub(crate) fn link_at<'a>(moment: Moment<'_>, links: &'a [Link], b: NodeId) -> &'a Link
-    requires { KeepsLinks moment.plan.now moment.addr (past_in moment.node moment.before.now) links.now }
-    ensures { let m = moment.entry in KeepsLink m.plan.now m.addr b.number (past_in m.node m.before.now) result.now }
+    requires { KeepsLinks moment.plan.now moment.addr moment.node (past_in moment.node moment.before.now) links.now }
+    ensures { let m = moment.entry in KeepsLink m.plan.now m.addr m.node b.number (past_in m.node m.before.now) result.now }
 {
     &links[b.index()]
 }

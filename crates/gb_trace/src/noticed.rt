@@ -4,13 +4,13 @@ ghost use Rattle.std.specs.FinSet as set;
 ghost use Rattle.std.specs.Option.{option_copied};
 ghost use Rattle.gb_rules.specs.Common.{is_other};
 ghost use Rattle.gb_alone.specs.declared.event.GroupEvent.TheVariants.{Notice};
-ghost use Rattle.gb_isolation.specs.Project.{is_noticed_at, notices, ticked};
+ghost use Rattle.gb_isolation.specs.Project.{is_suspected_at, notices, ticked};
 ghost use Rattle.gb_trace.specs.NodeSteps.{past_in};
 ghost use Rattle.gb_trace.specs.Kept.{KeepsLinks};
 
 use crate::links::Link;
 use crate::moment::Moment;
-use crate::silence::was_noticed;
+use crate::silence::was_suspected;
 use crate::steps::at;
 use gb_alone::{GroupEvent, GroupStep};
 use gb_types::limits::NODES;
@@ -32,19 +32,19 @@ fn add_notice(
     Ok(())
 }
 
-/// Adds the notices of the members that are noticed at the moment's node. `links` is what is kept of the links of that node.
-pub(crate) fn add_noticed(
+/// Adds the notices of the members that are suspected at the moment's node. `links` is what is kept of the links of that node.
+pub(crate) fn add_suspected(
     moment: Moment<'_>,
     spec: &Spec,
     links: &[Link],
     steps: &mut Vec<GroupStep>,
 ) -> Result<(), OutOfMemory>
-    requires { KeepsLinks moment.plan.now moment.addr (past_in moment.node moment.before.now) links.now }
-    ensures { let m = moment.entry in OnOk result (steps.new.items ≡ steps.old.items ++ notices m.node spec.now (is_noticed_at m.plan.now m.node (past_in m.node m.before.now))) }
+    requires { KeepsLinks moment.plan.now moment.addr moment.node (past_in moment.node moment.before.now) links.now }
+    ensures { let m = moment.entry in OnOk result (steps.new.items ≡ steps.old.items ++ notices m.node spec.now (is_suspected_at m.plan.now m.node (past_in m.node m.before.now))) }
 {
     for b in 0..NODES {
         let other = NodeId::new(b as u8);
-        let new = was_noticed(moment, links, other);
+        let new = was_suspected(moment, links, other);
         add_notice(moment.node, spec, other, new, steps)?;
     }
     Ok(())

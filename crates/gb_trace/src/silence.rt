@@ -2,9 +2,10 @@
 ghost use Rattle.std.specs.Prelude.{◌≡◌, ◌||◌, [], ◌∷◌, nat_le, if◌then◌else◌};
 ghost use Rattle.gb_detect.specs.Silence.{Tick};
 ghost use Rattle.gb_node.specs.Past.{ticks as ticked_by};
-ghost use Rattle.gb_isolation.specs.Project.{is_noticed_at};
+ghost use Rattle.gb_types.specs.Common.{withdraws_at};
+ghost use Rattle.gb_isolation.specs.Project.{is_suspected_at};
 ghost use Rattle.gb_trace.specs.NodeSteps.{past_in};
-ghost use Rattle.gb_trace.specs.Kept.{KeepsLinks};
+ghost use Rattle.gb_trace.specs.Kept.{KeepsLinks, is_suspected_by};
 
 use crate::links::{Link, link_at};
 use crate::moment::Moment;
@@ -31,11 +32,31 @@ pub(crate) fn is_silent(unheard: u64, silence: u16, before: bool) -> bool
     unheard >= u64::from(silence) || before
 }
 
-/// Returns true if the node `b` is noticed at the moment's node. `links` is what is kept of the links of that node.
-pub(crate) fn was_noticed(moment: Moment<'_>, links: &[Link], b: NodeId) -> bool
-    requires { KeepsLinks moment.plan.now moment.addr (past_in moment.node moment.before.now) links.now }
-    ensures { let m = moment.entry in result ≡ is_noticed_at m.plan.now m.node (past_in m.node m.before.now) b.number }
+/// Returns true if the moment's node sends packets that have its tick number, and so takes suspicions back.
+pub(crate) fn withdraws(moment: Moment<'_>) -> bool
+    ensures { let m = moment.entry in result ≡ withdraws_at m.plan.now.versions m.node.number }
+{
+    moment.plan.versions[moment.node.index()].limits().has_ticks
+}
+
+/// Returns true if the link's node is suspected, where suspicions are taken back or not.
+fn is_suspected(link: &Link, silence: u16, withdraws: bool) -> bool
+    ensures { result ≡ is_suspected_by link.now silence withdraws }
+{
+    if withdraws {
+        link.unheard >= u64::from(silence) || link.flagged
+    } else {
+        link.silent
+    }
+}
+
+/// Returns true if the node `b` is suspected at the moment's node. `links` is what is kept of the links of that node.
+pub(crate) fn was_suspected(moment: Moment<'_>, links: &[Link], b: NodeId) -> bool
+    requires { KeepsLinks moment.plan.now moment.addr moment.node (past_in moment.node moment.before.now) links.now }
+    ensures { let m = moment.entry in result ≡ is_suspected_at m.plan.now m.node (past_in m.node m.before.now) b.number }
 {
     let link = link_at(moment, links, b);
-    b.number < moment.plan.nodes && b.number != moment.node.number && link.silent
+    b.number < moment.plan.nodes
+        && b.number != moment.node.number
+        && is_suspected(link, moment.plan.silence, withdraws(moment))
 }
