@@ -19,41 +19,51 @@ import sys
 
 KEY = bytes([0x11] * 32)
 HEAD = ">2sBBBQQQH"  # magic, version, sender, destination, base, mask, frame number, count of items
+TICKS = ">QB"  # the sender's tick number and flags, in version 4 alone
 ITEM = ">HHBHH"  # tenant, group, origin, sequence number, length
 GENERATION_ITEM = ">HHIBHH"  # tenant, group, generation, origin, sequence number, length
-ITEMS = {1: ITEM, 2: ITEM, 3: GENERATION_ITEM}
-TAG = 8
+ITEMS = {1: ITEM, 2: ITEM, 3: GENERATION_ITEM, 4: GENERATION_ITEM}
+TAGS = {1: 8, 2: 8, 3: 8, 4: 16}
+FIELDS = struct.calcsize(HEAD)
+HEADS = {version: FIELDS + (struct.calcsize(TICKS) if version == 4 else 0) for version in TAGS}  # the bytes before the items
 
 Limits = collections.namedtuple("Limits", "nodes payload packet")
-LIMITS = {1: Limits(16, 1_024, 8_192), 2: Limits(32, 4_096, 16_384), 3: Limits(32, 4_096, 16_384)}
+LIMITS = {1: Limits(16, 1_024, 8_192), 2: Limits(32, 4_096, 16_384), 3: Limits(32, 4_096, 16_384), 4: Limits(32, 4_096, 16_384)}
 
 FAULTS = "Short Magic Version Node Mask Count Length Trailing TooLong Tag".split()
 
-# The generations are one for each payload; the form is the struct of an item's header.
-Packet = collections.namedtuple("Packet", "version sender destination base mask frame payloads generations form")
+# The generations are one for each payload; the form is the struct of an item's header. The ticks are the sender's tick number and flags.
+Packet = collections.namedtuple("Packet", "version sender destination base mask frame payloads generations form ticks", defaults=[None])
 
 
-def tag(text):
-    return hmac.new(KEY, text, hashlib.sha256).digest()[:TAG]
+def tag(version, text):
+    return hmac.new(KEY, text, hashlib.sha256).digest()[:TAGS.get(version, 8)]
+
+
+def ticks_text(version, ticks):
+    """The tick number and the flags of a packet, if its version has them."""
+    return struct.pack(TICKS, *(ticks or (0, 0))) if version == 4 else b""
 
 
 def written(packet):
     """The text of a packet. Its items are messages 1, 2, .. of its sender in each of their generations of group 1 of tenant 7."""
     text = struct.pack(HEAD, b"GB", *packet[:6], len(packet.payloads))
+    text += b"" if packet.ticks == () else ticks_text(packet.version, packet.ticks)
     said = collections.Counter()
     for generation, payload in zip(packet.generations, packet.payloads):
         said[generation] += 1
         named = (7, 1, generation) if packet.form == GENERATION_ITEM else (7, 1)
         text += struct.pack(packet.form, *named, packet.sender, said[generation], len(payload)) + payload
-    return text + tag(text)
+    return text + tag(packet.version, text)
 
 
 def fault(text):
     """The number of the first fault of some bytes. 0 where they are a packet."""
-    head, end = struct.calcsize(HEAD), len(text) - TAG
-    if len(text) < head + TAG:
+    named = text[2] if len(text) > 2 and text[2] in LIMITS else 1
+    head, end = HEADS[named], len(text) - TAGS[named]
+    if len(text) < head + TAGS[named]:
         return 1
-    magic, version, sender, destination, base, mask, frame, count = struct.unpack(HEAD, text[:head])
+    magic, version, sender, destination, base, mask, frame, count = struct.unpack(HEAD, text[:FIELDS])
     if magic != b"GB":
         return 2
     if version not in LIMITS:
@@ -62,6 +72,8 @@ def fault(text):
     if sender >= limits.nodes or destination >= limits.nodes or sender == destination:
         return 4
     if base == 0 or mask & 1 == 1:
+        return 5
+    if version == 4 and struct.unpack(TICKS, text[FIELDS:head])[1] > 1:
         return 5
     if (frame == 0) != (count == 0):
         return 6
@@ -78,7 +90,7 @@ def fault(text):
         return 8
     if len(text) > limits.packet:
         return 9
-    return 0 if text[end:] == tag(text[:end]) else 10
+    return 0 if text[end:] == tag(version, text[:end]) else 10
 
 
 def answer(number):
@@ -90,13 +102,13 @@ def payloads(lengths):
     return [bytes([0x61 + place]) * length for place, length in enumerate(lengths)]
 
 
-def message(version, sender=0, destination=1, lengths=(1,), generations=None, form=None):
+def message(version, sender=0, destination=1, lengths=(1,), generations=None, form=None, ticks=None):
     form = form or ITEMS.get(version, ITEM)
-    return Packet(version, sender, destination, 1, 0, 1, payloads(lengths), generations or len(lengths) * [0], form)
+    return Packet(version, sender, destination, 1, 0, 1, payloads(lengths), generations or len(lengths) * [0], form, ticks)
 
 
-def acknowledgement(version):
-    return Packet(version, 1, 0, 1, 2, 0, [], [], ITEM)
+def acknowledgement(version, ticks=None):
+    return Packet(version, 1, 0, 1, 2, 0, [], [], ITEM, ticks)
 
 
 # What each packet is, the packet, and its fault.
@@ -110,8 +122,14 @@ SHORT = [
     ("version 2, message 1 of node 32 to node 0", message(2, 32, 0), 4),
     ("message 1 of node 0 to node 1, with version byte 0", message(0), 3),
     ("the same with version byte 3", message(3, form=ITEM), 7),
-    ("the same with version byte 4", message(4), 3),
+    ("the same with version byte 4", message(4, form=ITEM, ticks=()), 7),
+    ("the same with version byte 5", message(5), 3),
     ("version 3, message 1 of node 0 in generation 0 and message 1 in generation 1", message(3, 0, 1, [1, 1], [0, 1]), 0),
+    ("version 4, the same, from a node that counted 258 ticks and hears node 1", message(4, 0, 1, [1, 1], [0, 1], ticks=(258, 0)), 0),
+    ("version 4, node 1 acknowledges frame 2 to node 0; it counted no tick", acknowledgement(4), 0),
+    ("the same after 2^64 - 1 ticks, at a node where node 0 is silent", acknowledgement(4, (2 ** 64 - 1, 1)), 0),
+    ("the same with bit 1 of the flags set", acknowledgement(4, (2 ** 64 - 1, 2)), 5),
+    ("the same with bit 7 of the flags set", acknowledgement(4, (2 ** 64 - 1, 128)), 5),
 ]
 
 # Packets with long payloads, and their faults.
@@ -128,6 +146,10 @@ LONG = [
     (message(3, 31, 0, [4_097]), 7),
     (message(3, 31, 0, 3 * [4_096] + [4_005]), 0),
     (message(3, 31, 0, 3 * [4_096] + [4_006]), 9),
+    (message(4, 31, 0, [4_096], ticks=(1, 0)), 0),
+    (message(4, 31, 0, [4_097], ticks=(1, 0)), 7),
+    (message(4, 31, 0, 3 * [4_096] + [3_988], ticks=(1, 0)), 0),
+    (message(4, 31, 0, 3 * [4_096] + [3_989], ticks=(1, 0)), 9),
 ]
 
 
@@ -144,12 +166,12 @@ def lists():
         short += [f"- {what}: {answer(number)}", f"  `{written(packet).hex()}`"]
     for packet, number in LONG:
         text = written(packet)
-        before = text[: struct.calcsize(HEAD) + struct.calcsize(packet.form)]
+        before = text[: HEADS[packet.version] + struct.calcsize(packet.form)]
         long += [
             f"- version {packet.version}, from node {packet.sender} to node {packet.destination}, payloads of {lengths_told(packet)} bytes, "
             f"{len(text):,} bytes in all: {answer(number)}",
             f"  `{before.hex()}`",
-            f"  tag `{text[-TAG:].hex()}`, SHA-256 `{hashlib.sha256(text).hexdigest()}`"]
+            f"  tag `{text[-TAGS[packet.version]:].hex()}`, SHA-256 `{hashlib.sha256(text).hexdigest()}`"]
     return short, long
 
 
