@@ -2,7 +2,7 @@
 """Random schedules of rooms, answered by gb_sim and by bench/rooms_reference.py and compared line by line: rooms.py [SCHEDULES [SEED]]
 
 There are 300 schedules from seed 1 on, if not given otherwise, one for each seed: few tenants and groups, generations 0 to 6 and now and then
-large ones, versions 1, 2 and 3 mixed, small budgets, drops, items that come late, packets with little room, crash notices, noise, bad lines.
+large ones, versions 1 to 4 mixed, small budgets, drops, items that come late, packets with little room, crash notices, noise, bad lines.
 Behind most arrivals the logs there are fetched, so that a packing with other items than the reference's shows.
 
 SIM names a built gb_sim. Without it `rt try` builds one in crates/gb_sim, unproved, for all schedules at once. Printed are how many schedules
@@ -25,14 +25,14 @@ KEPT = os.path.join(TOP, 'bench', 'out', 'rooms')
 LAST = 2 ** 32 - 1
 LARGE = [7, 255, 256, 65_535, 65_536, 2 ** 31 - 1, 2 ** 31, LAST - 1, LAST]
 # Payloads that fill packets of each version to the last byte, or pass it by one.
-LONG = [913, 914, 1_000, 1_023, 1_024, 1_025, 4_005, 4_006, 4_021, 4_022, 4_095, 4_096, 4_097]
+LONG = [913, 914, 1_000, 1_023, 1_024, 1_025, 3_988, 3_989, 4_005, 4_006, 4_021, 4_022, 4_095, 4_096, 4_097]
 
 BAD = ['open 0 7 1.0', 'open 0 7 1.01', 'open 0 7 1.', 'open 0 7 .1', 'open 0 7 1.1.1', f'open 0 7 1.{LAST + 1}', 'open 0 7 65536', 'open 0 7 01.1',
        'open 0 7 1.-1', 'open 0 7 1.+1', 'open 0 7  1', ' open 0 7 1', 'open 0 7 1 ', 'drop 0 7 1,1', 'drop 0 7 1:1', 'shut 99 7 1', 'forge 0 7 1 1',
        f'say 0 7 1 61 {LAST + 1}', 'say 0 7 1 61 01', 'say 0 7 1 61 -1', 'say 0 7 1 61 1 1', 'say 0 7 1 61 ', 'say 0 7 1 6', 'say 0 7 1 - -', 'say 0 7 1',
        'make 0 7 1.1 beb 0,0 1 1 1', 'make 0 7 1.1 beb 1,0 1 1 1', 'make 0 7 1.1 beb 0,32 1 1 1', 'make 0 7 1.1 bib 0 1 1 1', 'make 0 7 1.1 beb 0 1 1',
        'cluster 2 3', 'cluster2 2 3 3,3', 'fetch 0 7 1.00 0 16', 'tenant 0 7 4.1 8 4096 4', 'pack 0', 'arrive -1', 'noise 0 6', 'hello']
-BAD_STARTS = ['cluster 17 3', 'cluster 2 1', 'cluster2 2 3 3', 'cluster2 2 3 3,4', 'cluster2 2 3 3,3 0', 'cluster2 2 3 3,3 16346',
+BAD_STARTS = ['cluster 17 3', 'cluster 2 1', 'cluster2 2 3 3', 'cluster2 2 3 3,5', 'cluster2 2 3 3,3 0', 'cluster2 2 3 3,3 16346',
               f'cluster2 17 3 {",".join(16 * ["3"])},1', 'cluster2 33 3 ' + ','.join(33 * ['3']), 'open 0 7 1']
 
 
@@ -68,7 +68,7 @@ class Maker:
         count = draw.choices([1, 2, 3, 4, 32], [2, 10, 8, 3, 0.2])[0]
         least = 2 if count > 16 else 1
         way = draw.choices(['new', 'mixed', 'old'], [11, 7, 2])[0]
-        choices = {'new': [3], 'mixed': range(least, 4), 'old': range(least, 3)}[way]
+        choices = {'new': [3, 4], 'mixed': range(least, 5), 'old': range(least, 3)}[way]
         versions = [draw.choice(choices) for _ in range(count)]
         room = draw.choices(['', f' {draw.randint(1, 90)}', f' {draw.randint(20, 50)}', f' {draw.randint(1, 16_345)}'], [3, 6, 9, 2])[0]
         silence = draw.choice([2, 3]) if self.has_crashes else draw.choice([5, 9, 1_000])
@@ -159,7 +159,7 @@ class Maker:
         address = Address(*room, min(greatest + step, LAST))
         share = draw.choice([1, 1, 0.7])
         for node in draw.sample(self.nodes, len(self.nodes)):
-            if self.chance(share) and (address.generation == 0 or node.version == 3 or self.chance(0.15)):
+            if self.chance(share) and (address.generation == 0 or node.version >= 3 or self.chance(0.15)):
                 self.make(node, address)
 
     def some_make(self):

@@ -32,13 +32,14 @@ WORDS = {'tenant': [6], 'make': [8], 'open': [3], 'shut': [3], 'drop': [3], 'say
          'ack': [2], 'arrive': [1], 'noise': [2], 'tick': [1], 'stop': [1]}
 LINE, LINES = 65_536, 1_000_000  # bytes of a line, lines of a schedule
 
-HEAD, TAG = struct.calcsize(vectors.HEAD), vectors.TAG
+FIELDS = struct.calcsize(vectors.HEAD)
 
 Address = collections.namedtuple('Address', 'tenant group generation')
 Row = collections.namedtuple('Row', 'groups msgs size window')
 Spec = collections.namedtuple('Spec', 'module is_fifo members msgs size window')
 Item = collections.namedtuple('Item', 'address message payload')  # a message is its origin and its number
-Packet = collections.namedtuple('Packet', 'version sender destination base mask frame items')
+Packet = collections.namedtuple('Packet', 'version sender destination base mask frame items ticks')  # ticks: (tick number, flag), or None
+Fresh = collections.namedtuple('Fresh', 'sender flag')  # a packet that counts as a sign of life
 
 
 class Refused(Exception):
@@ -60,11 +61,11 @@ def item_size(version, payload):
 
 def text_of(packet):
     """The bytes of a packet."""
-    text = struct.pack(vectors.HEAD, b'GB', *packet[:6], len(packet.items))
+    text = struct.pack(vectors.HEAD, b'GB', *packet[:6], len(packet.items)) + vectors.ticks_text(packet.version, packet.ticks)
     for address, message, payload in packet.items:
-        named = address if packet.version == 3 else address[:2]
+        named = address if packet.version >= 3 else address[:2]
         text += struct.pack(vectors.ITEMS[packet.version], *named, *message, len(payload)) + payload
-    return text + vectors.tag(text)
+    return text + vectors.tag(packet.version, text)
 
 
 class Group:
@@ -199,18 +200,95 @@ class Link:
                 if number < base or number - base < WINDOW and mask >> (number - base) & 1]
 
 
+class Watch:
+    """What a node knows of time: its ticks, and the packets that came between them, from the first on. Everything else is read from these."""
+
+    def __init__(self, node):
+        self.node, self.silence = node, node.silence
+        self.calls = []  # 'tick', or a fresh packet
+        self.came = []  # (sender, tick number) of all packets that have one
+        self.history = []  # after each call: whether it was a tick, and who was suspected then
+
+    def withdraws(self):
+        """Whether suspicions are taken back: the node sends version 4."""
+        return self.node.version >= 4
+
+    def others(self):
+        return self.node.links
+
+    def is_fresh(self, sender, ticks):
+        return not self.withdraws() or ticks is None or all(other != sender or number < ticks[0] for other, number in self.came)
+
+    def hear(self, packet):
+        sender, ticks = packet.sender, packet.ticks
+        if self.is_fresh(sender, ticks):
+            self.calls.append(Fresh(sender, ticks is not None and ticks[1] == 1))
+            self.note(False)
+        if ticks is not None:
+            self.came.append((sender, ticks[0]))
+
+    def note(self, is_tick):
+        self.history.append((is_tick, self.suspected_now()))
+
+    def is_silent(self, other):
+        """In the last ticks, as many as the silence, no fresh packet came from the node."""
+        ticks = 0
+        for call in reversed(self.calls):
+            if call == 'tick':
+                ticks += 1
+            elif call.sender == other:
+                break
+        return ticks >= self.silence
+
+    def is_flagged(self, other):
+        """The last fresh packet from the node says that it does not hear this one."""
+        return next((call.flag for call in reversed(self.calls) if call != 'tick' and call.sender == other), False)
+
+    def suspected_now(self):
+        if not self.withdraws():
+            before = self.history[-1][1] if self.history else set()
+            return before | {other for other in self.others() if self.is_silent(other)}
+        return {other for other in self.others() if self.is_silent(other) or self.is_flagged(other)}
+
+    def suspected(self):
+        return self.history[-1][1] if self.history else set()
+
+    def is_reported(self, other):
+        """A tick found the node suspected, and it has been suspected ever since."""
+        for is_tick, suspected in reversed(self.history):
+            if other not in suspected:
+                return False
+            if is_tick:
+                return True
+        return False
+
+    def tick(self):
+        """The nodes that are suspected from this tick on, and that no tick reported since they were last not suspected."""
+        before = {other for other in self.others() if self.is_reported(other)}
+        self.calls.append('tick')
+        self.note(True)
+        return sorted(self.suspected() - before)
+
+    def flag_to(self, to):
+        return self.is_silent(to)
+
+    def ticks_to(self, to):
+        """The tick number and the flag of a packet to a node, if this node's version has them."""
+        return (self.calls.count('tick'), int(self.flag_to(to))) if self.withdraws() else None
+
+
 class Node:
     def __init__(self, me, nodes, silence, version, room):
         self.me, self.nodes, self.silence, self.version = me, nodes, silence, version
         limits = vectors.LIMITS[version]
         self.longest = limits.payload
-        self.room = min(room, limits.packet - HEAD - TAG)
+        self.room = min(room, limits.packet - vectors.HEADS[version] - vectors.TAGS[version])
         self.is_stopped = False
         self.rows = {}
         self.rooms = {}  # by tenant and number, in the order of their first makes
         self.links = {node: Link() for node in range(nodes) if node != me}
         self.cursors = collections.Counter()
-        self.noticed, self.ticks = set(), collections.Counter()
+        self.watch = Watch(self)
 
     # Requests
 
@@ -249,8 +327,17 @@ class Node:
         room.greatest = address.generation
         group = Group(self.me, address, spec)
         room.places[room.places.index(None)] = group
-        for node in sorted(self.noticed):
+        for node in sorted(self.begins_with()):
             group.notice(node)
+
+    @property
+    def noticed(self):
+        """The nodes that are suspected here."""
+        return self.watch.suspected()
+
+    def begins_with(self):
+        """The nodes of which a group is notified when it is made."""
+        return self.noticed
 
     def open(self, address):
         group = self.found(address)
@@ -309,7 +396,7 @@ class Node:
 
     def sent(self, to, frame, items):
         link = self.links[to]
-        return Packet(self.version, self.me, to, link.base(), link.mask(), frame, items)
+        return Packet(self.version, self.me, to, link.base(), link.mask(), frame, items, self.watch.ticks_to(to))
 
     def pack(self, to):
         if to == self.me or to in self.noticed or not self.links[to].has_room():
@@ -333,7 +420,7 @@ class Node:
     def arrives(self, packet):
         """What came with a packet's frame, the number of its items, and the number of frames that are done by it."""
         sender, frame = packet.sender, packet.frame
-        self.ticks[sender] = 0
+        self.watch.hear(packet)
         link = self.links[sender]
         done = link.covered(packet.base, packet.mask)
         for number in done:
@@ -354,10 +441,7 @@ class Node:
 
     def tick(self):
         """The nodes that are newly noticed."""
-        for node in self.links:
-            self.ticks[node] += 1
-        new = [node for node in self.links if node not in self.noticed and self.ticks[node] >= self.silence]
-        self.noticed.update(new)
+        new = self.watch.tick()
         for node in new:
             for group in self.places():
                 if group:
@@ -448,7 +532,7 @@ class Cluster:
     def noise(self, node, text):
         fault = vectors.fault(text)
         if fault == 0:
-            _, _, sender, destination, *_ = struct.unpack(vectors.HEAD, text[:HEAD])
+            _, _, sender, destination, *_ = struct.unpack(vectors.HEAD, text[:FIELDS])
             if destination == node.me and sender < len(self.nodes):
                 return 'not noise'
             fault = 4
@@ -502,7 +586,7 @@ def started(head, words):
     if head == 'cluster' and len(words) == 2:
         nodes, versions, room = number(words[0], 16, 1), None, []
     elif head == 'cluster2' and len(words) in (3, 4):
-        nodes, versions = number(words[0], 32, 1), numbers(words[2], 3, 1)
+        nodes, versions = number(words[0], 32, 1), numbers(words[2], 4, 1)
         room = [number(word, 16_345, 1) for word in words[3:]]
     else:
         raise BadLine
