@@ -58,7 +58,7 @@ IsSame field one other = (text : List ℕ) × (text_at field one ≡ Some text) 
 
 -- the version of packets that a document says, by its byte
 abbrev pub IsVersion : Members → Version → Type 0
-IsVersion document version = (byte : ℕ) × IsNumber (get_member (codes "version") document) 3 byte × (version_named byte ≡ Some version)
+IsVersion document version = (byte : ℕ) × IsNumber (get_member (codes "version") document) 4 byte × (version_named byte ≡ Some version)
 
 -- no two items have the same text in a field
 abbrev pub Differ : PlaceField → Items → Type 0

@@ -144,7 +144,7 @@ pub fn room_at(table: &Table) -> Result<u16, FileFault>
     }
 }
 
-/// Returns the version of packets that each node sends: what a cluster file names, or 3 if it names none. `Err` with `NoNumber` if it is
+/// Returns the version of packets that each node sends: what a cluster file names, or 4 if it names none. `Err` with `NoNumber` if it is
 /// no version.
 pub fn version_at(table: &Table) -> Result<Version, FileFault>
     ensures ok { IfOk result (λ version. IsVersion (table_view table.now) version) }
@@ -155,7 +155,7 @@ pub fn version_at(table: &Table) -> Result<Version, FileFault>
             Some(version) => Ok(version),
             None => Err(FileFault::NoNumber(Field::Version)),
         },
-        Ok(None) => Ok(Version::Three),
+        Ok(None) => Ok(Version::Four),
         Err(fault) => Err(fault),
     }
 }

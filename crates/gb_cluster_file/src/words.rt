@@ -73,7 +73,7 @@ fn unknown_place_text(alloc: Global, text: &str, node: usize) -> Result<String, 
 // Returns the words for a field that takes another value.
 fn number_text(alloc: Global, field: Field) -> Result<String, AllocError> {
     match field {
-        Field::Version => format!(in alloc; "version: 1, 2 or 3 is wanted"),
+        Field::Version => format!(in alloc; "version: a number from 1 to 4 is wanted"),
         _ => {
             let (name, least, most) = (field.name(), field.least(), field.most());
             format!(in alloc; "{name}: a number from {least} to {most} is wanted")

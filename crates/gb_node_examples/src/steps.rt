@@ -77,6 +77,8 @@ pub enum Told {
     SentTwo(usize),
     /// The same of version 3.
     SentThree(usize),
+    /// The same of version 4.
+    SentFour(usize),
     /// A packet of these bytes is sent.
     SentBytes(&'static [u8]),
     Nothing,
@@ -191,6 +193,7 @@ fn is_sent(sent: &Sent, wanted: &Told) -> bool {
         (Sent::Packet(packet), Told::Sent(wanted)) => is_packet(packet, 1, *wanted),
         (Sent::Packet(packet), Told::SentTwo(wanted)) => is_packet(packet, 2, *wanted),
         (Sent::Packet(packet), Told::SentThree(wanted)) => is_packet(packet, 3, *wanted),
+        (Sent::Packet(packet), Told::SentFour(wanted)) => is_packet(packet, 4, *wanted),
         (Sent::Packet(packet), Told::SentBytes(wanted)) => packet.as_slice() == *wanted,
         (Sent::Nothing, Told::Nothing) => true,
         (Sent::Refused(why), Told::NotSent(wanted)) => *why == *wanted,

@@ -1,7 +1,7 @@
 //! The crash detector, tick by tick.
 use gb_detect::Detector;
 use gb_types::limits::NODES;
-use gb_types::{NodeId, NodeSet};
+use gb_types::{NodeId, NodeSet, Pulse};
 use std::process::Abort;
 
 /// The node with this number, below 32.
@@ -22,21 +22,42 @@ fn has(set: &NodeSet, numbers: &[u8]) -> bool {
 /// A call of a detector, and the nodes that it must give.
 enum Step {
     Heard(u8),
+    /// A packet with this tick number, and whether it says that this node is silent there.
+    Said(u8, u64, bool),
     Tick(&'static [u8]),
     Due(&'static [u8]),
     Noticed(&'static [u8]),
+    Suspected(&'static [u8]),
+    /// What the packets to a node say: the number of ticks, and whether it is silent.
+    Pulse(u8, u64, bool),
 }
 
 /// Makes the call, and says whether it gives what it must.
 fn holds(detector: &mut Detector, step: &Step) -> bool {
     match step {
         Step::Heard(number) => {
-            detector.heard(node(*number));
+            detector.heard(node(*number), None);
+            true
+        }
+        Step::Said(number, tick, unheard) => {
+            let pulse = Pulse {
+                tick: *tick,
+                unheard: *unheard,
+            };
+            detector.heard(node(*number), Some(pulse));
             true
         }
         Step::Tick(numbers) => has(&detector.tick(), numbers),
         Step::Due(numbers) => has(&detector.due(), numbers),
         Step::Noticed(numbers) => has(&detector.noticed(), numbers),
+        Step::Suspected(numbers) => has(&detector.suspected(), numbers),
+        Step::Pulse(number, tick, unheard) => {
+            let pulse = Pulse {
+                tick: *tick,
+                unheard: *unheard,
+            };
+            detector.pulse(node(*number)) == pulse
+        }
     }
 }
 
@@ -54,7 +75,7 @@ const PACKET_IN_FRONT: &[Step] = &[Step::Heard(1), Step::Tick(&[]), Step::Tick(&
 
 #[test]
 fn a_packet_in_front_of_the_ticks_does_not_help(rt: HostRuntime) {
-    let mut detector = Detector::new(NodeId { number: 0 }, 2, 2);
+    let mut detector = Detector::new(NodeId { number: 0 }, 2, 2, false);
     compare(&rt, &mut detector, 1, PACKET_IN_FRONT);
 }
 
@@ -70,7 +91,7 @@ const SILENCE_AGAIN: &[Step] = &[
 
 #[test]
 fn a_packet_between_ticks_starts_the_silence_again(rt: HostRuntime) {
-    let mut detector = Detector::new(NodeId { number: 0 }, 2, 2);
+    let mut detector = Detector::new(NodeId { number: 0 }, 2, 2, false);
     compare(&rt, &mut detector, 5, TICK_AND_PACKET);
     compare(&rt, &mut detector, 1, SILENCE_AGAIN);
 }
@@ -88,7 +109,7 @@ const SEVERAL_NOTICES: &[Step] = &[
 
 #[test]
 fn several_notices_in_one_tick_stay(rt: HostRuntime) {
-    let mut detector = Detector::new(NodeId { number: 2 }, 5, 2);
+    let mut detector = Detector::new(NodeId { number: 2 }, 5, 2, false);
     compare(&rt, &mut detector, 1, SEVERAL_NOTICES);
 }
 
@@ -104,7 +125,7 @@ const LAST_TICK: &[Step] = &[Step::Due(OTHERS), Step::Tick(OTHERS), Step::Due(&[
 
 #[test]
 fn a_silence_of_a_thousand_ticks(rt: HostRuntime) {
-    let mut detector = Detector::new(NodeId { number: 31 }, 32, 1_000);
+    let mut detector = Detector::new(NodeId { number: 31 }, 32, 1_000, false);
     compare(&rt, &mut detector, 999, SILENT_TICK);
     compare(&rt, &mut detector, 1, LAST_TICK);
 }
@@ -126,6 +147,85 @@ const LAST_NODE_IS_HEARD: &[Step] = &[
 
 #[test]
 fn the_last_node_is_noticed_by_itself(rt: HostRuntime) {
-    let mut detector = Detector::new(NodeId { number: 0 }, 32, 2);
+    let mut detector = Detector::new(NodeId { number: 0 }, 32, 2, false);
     compare(&rt, &mut detector, 1, LAST_NODE_IS_HEARD);
+}
+
+/// A node is suspected, heard, and suspected again; a stale packet is no sign of life.
+const HEARD_AGAIN: &[Step] = &[
+    Step::Said(1, 7, false),
+    Step::Pulse(1, 0, false),
+    Step::Tick(&[]),
+    Step::Said(1, 7, false),
+    Step::Said(1, 6, true),
+    Step::Suspected(&[]),
+    Step::Tick(&[1]),
+    Step::Pulse(1, 2, true),
+    Step::Suspected(&[1]),
+    Step::Said(1, 7, false),
+    Step::Suspected(&[1]),
+    Step::Tick(&[]),
+    Step::Said(1, 8, false),
+    Step::Suspected(&[]),
+    Step::Noticed(&[]),
+    Step::Pulse(1, 3, false),
+    Step::Tick(&[]),
+    Step::Tick(&[1]),
+    Step::Heard(1),
+    Step::Suspected(&[]),
+];
+
+#[test]
+fn a_node_that_is_heard_again_is_suspected_no_more(rt: HostRuntime) {
+    let mut detector = Detector::new(NodeId { number: 0 }, 2, 2, true);
+    compare(&rt, &mut detector, 1, HEARD_AGAIN);
+}
+
+/// A node that says that it does not hear this one is suspected at once, and reported by the next tick. Its packets end its silence.
+const FLAGGED: &[Step] = &[
+    Step::Tick(&[]),
+    Step::Said(1, 0, true),
+    Step::Suspected(&[1]),
+    Step::Noticed(&[]),
+    Step::Due(&[1]),
+    Step::Pulse(1, 1, false),
+    Step::Tick(&[1]),
+    Step::Noticed(&[1]),
+    Step::Said(1, 1, true),
+    Step::Tick(&[]),
+    Step::Suspected(&[1]),
+    Step::Said(1, 2, false),
+    Step::Suspected(&[]),
+    Step::Said(1, 3, true),
+    Step::Tick(&[1]),
+    Step::Said(0, 9, true),
+    Step::Said(3, 9, true),
+    Step::Suspected(&[1]),
+];
+
+#[test]
+fn a_flag_makes_a_suspicion(rt: HostRuntime) {
+    let mut detector = Detector::new(NodeId { number: 0 }, 2, 2, true);
+    compare(&rt, &mut detector, 1, FLAGGED);
+}
+
+/// Where suspicions are for good neither tick numbers nor flags count.
+const FOR_GOOD: &[Step] = &[
+    Step::Tick(&[]),
+    Step::Said(1, 5, true),
+    Step::Suspected(&[]),
+    Step::Tick(&[]),
+    Step::Said(1, 5, true),
+    Step::Tick(&[]),
+    Step::Tick(&[1]),
+    Step::Said(1, 6, false),
+    Step::Suspected(&[1]),
+    Step::Noticed(&[1]),
+    Step::Pulse(1, 4, false),
+];
+
+#[test]
+fn a_suspicion_for_good(rt: HostRuntime) {
+    let mut detector = Detector::new(NodeId { number: 0 }, 2, 2, false);
+    compare(&rt, &mut detector, 1, FOR_GOOD);
 }

@@ -1,6 +1,6 @@
 //! Packets: what is written and read, each fault, and each limit at its last allowed and first refused value.
 ghost use Rattle.std.specs.Prelude.{All, IsTrue};
-ghost use Rattle.gb_frame.specs.Common.{item_of, HasGeneration};
+ghost use Rattle.gb_frame.specs.Common.{item_of, HasGeneration, HasTicks};
 
 use gb_cap::HmacKey;
 use gb_frame::item::{count_items, first_item, put_item};
@@ -8,7 +8,7 @@ use gb_frame::limits::room;
 use gb_frame::reading::decode;
 use gb_frame::writing::{encode, wrap};
 use gb_frame::{Head, Item, ItemView, Packet, PacketFault, PacketView};
-use gb_types::{NodeId, OutOfMemory, Payload, Version};
+use gb_types::{NodeId, OutOfMemory, Payload, Pulse, Version};
 use std::alloc::Global;
 use std::process::Abort;
 use std::test::Fail;
@@ -32,6 +32,20 @@ const FAR: &str =
 /// The packet of version 3 of node 0 to node 1 with two items of one group, of generations 0 and 1, with its tag.
 const GENERATIONS: &str =
     "4742030001000000000000000100000000000000000000000000000001000200070001000000000000010001610007000100000001000001000162f55173670c2d4225";
+
+/// The same of version 4, from a node that counted 258 ticks.
+const TICKS: &str =
+    "4742040001000000000000000100000000000000000000000000000001000200000000000001020000070001000000000000010001610007000100000001000001000162eb12c3a73f740bf9586b062e7d0c400e";
+
+/// An acknowledgement of version 4 of node 1 to node 0, which is silent there, after 2^64 - 1 ticks.
+const UNHEARD: &str =
+    "47420401000000000000000001000000000000000200000000000000000000ffffffffffffffff01b1fb384632b86f9d5bb95c3199f339a8";
+
+/// The same with bit 1 and with bit 7 of the flags set.
+const FLAGGED: [&str; 2] = [
+    "47420401000000000000000001000000000000000200000000000000000000ffffffffffffffff020058d45566ce400c97c69bfabc78fe8b",
+    "47420401000000000000000001000000000000000200000000000000000000ffffffffffffffff80a5f1a983e8232030c7bbb25f1fb91f26",
+];
 
 /// A version of the text and its limits: its byte, its last node, the number beyond it (0 stands for no such number), its longest
 /// payload, the payloads of a packet of the greatest length, that length, and how many of its bytes are for items.
@@ -77,6 +91,16 @@ const LONGEST: &[Longest] = &[
         packet: 16_384,
         room: 16_345,
     },
+    Longest {
+        version: Version::Four,
+        byte: 4,
+        node: 31,
+        beyond: 0,
+        payload: 4_096,
+        payloads: [4_096, 0, 4_096, 0, 4_096, 0, 0, 3_936],
+        packet: 16_384,
+        room: 16_328,
+    },
 ];
 
 fn key() -> HmacKey {
@@ -121,6 +145,8 @@ fn packet(alloc: Global, version: Version, payloads: &[u16]) -> Result<Packet, O
         base: 1,
         mask: 0,
         frame: 1,
+        tick: 0,
+        unheard: false,
         items,
     })
 }
@@ -131,7 +157,17 @@ fn can_tell(version: Version, item: ItemView<'_>) -> bool
 {
     match version {
         Version::One | Version::Two => item.generation == 0,
-        Version::Three => true,
+        Version::Three | Version::Four => true,
+    }
+}
+
+/// Whether the version can tell a tick number and a flag.
+fn can_tell_time(version: Version, tick: u64, unheard: bool) -> bool
+    ensures { IsTrue result → HasTicks version tick unheard }
+{
+    match version {
+        Version::Four => true,
+        _ => tick == 0 && !unheard,
     }
 }
 
@@ -149,13 +185,16 @@ fn are_told(version: Version, items: &[Item]) -> bool
 
 /// The packet's text, if it can be written.
 fn written(alloc: Global, packet: &Packet) -> Result<Option<Vec<u8>>, OutOfMemory> {
-    if !packet.is_within_limits() || !are_told(packet.version, &packet.items) {
+    if !packet.is_within_limits()
+        || !are_told(packet.version, &packet.items)
+        || !can_tell_time(packet.version, packet.tick, packet.unheard)
+    {
         return Ok(None);
     }
     Ok(Some(encode(alloc, packet, &key())?))
 }
 
-/// A text like `BODY`, of the version with this byte, with items of these payloads, and eight zero bytes in place of the
+/// A text like `BODY`, of the version with this byte, with items of these payloads, tick number 0, no flag, and zero bytes in place of the
 /// tag.
 fn shaped(alloc: Global, version: u8, payloads: &[u16]) -> Result<Vec<u8>, Fail> {
     let mut text = bytes(alloc, BODY)?;
@@ -166,10 +205,13 @@ fn shaped(alloc: Global, version: u8, payloads: &[u16]) -> Result<Vec<u8>, Fail>
     if let Some(count) = text.last_mut() {
         *count = payloads.len().min(255) as u8;
     }
+    if version == 4 {
+        text.extend_from_slice(&[0; 9])?;
+    }
     for payload in payloads {
         let len = payload.to_be_bytes();
         text.extend_from_slice(&[0, 7, 0, 1])?;
-        if version == 3 {
+        if version >= 3 {
             text.extend_from_slice(&[0; 4])?;
         }
         text.extend_from_slice(&[0, 0, 1, len[0], len[1]])?;
@@ -177,7 +219,10 @@ fn shaped(alloc: Global, version: u8, payloads: &[u16]) -> Result<Vec<u8>, Fail>
             text.push(0x61)?;
         }
     }
-    text.extend_from_slice(&[0; 8])?;
+    let tag = if version == 4 { 16 } else { 8 };
+    for _ in 0..tag {
+        text.push(0)?;
+    }
     Ok(text)
 }
 
@@ -240,6 +285,8 @@ fn acknowledgement(rt: HostRuntime) -> Result<(), Fail> {
         base: 1,
         mask: 2,
         frame: 0,
+        tick: 0,
+        unheard: false,
         items: Vec::new(rt.alloc()),
     };
     compare(&rt, rt.alloc(), &packet, ACKNOWLEDGEMENT)
@@ -254,6 +301,8 @@ fn told_head() -> Head {
         base: 1,
         mask: 0,
         frame: 1,
+        tick: 0,
+        unheard: false,
     }
 }
 
@@ -291,6 +340,8 @@ fn a_frame_is_wrapped(rt: HostRuntime) -> Result<(), Fail> {
         base: 1,
         mask: 0,
         frame: 1,
+        tick: 0,
+        unheard: false,
     };
     let mut text = Vec::with_capacity(alloc, 49)?;
     wrap(head, count, &frame, &key(), &mut text);
@@ -387,6 +438,61 @@ fn items_of_version_three_name_their_generation(rt: HostRuntime) -> Result<(), F
     Ok(())
 }
 
+/// The packet of `TICKS` is written and read again, and so is its tick number.
+#[test]
+fn packets_of_version_four_have_ticks(rt: HostRuntime) -> Result<(), Fail> {
+    let mut packet = packet_of_generations(rt.alloc())?;
+    packet.version = Version::Four;
+    packet.tick = 258;
+    compare(&rt, rt.alloc(), &packet, TICKS)?;
+    let text = bytes(rt.alloc(), TICKS)?;
+    let Ok(read) = decode(&text, &key()) else {
+        return Err(Fail::from("the text is a packet's"));
+    };
+    let pulse = read.head().pulse();
+    let wanted = Some(Pulse {
+        tick: 258,
+        unheard: false,
+    });
+    assert!(rt; pulse == wanted && are_of_generations(&read));
+    Ok(())
+}
+
+/// The greatest tick number and the flag are read. A packet with another flag is refused, and one that is cut short.
+#[test]
+fn flags_of_version_four(rt: HostRuntime) -> Result<(), Fail> {
+    let text = bytes(rt.alloc(), UNHEARD)?;
+    let Ok(read) = decode(&text, &key()) else {
+        return Err(Fail::from("the text is a packet's"));
+    };
+    let head = read.head();
+    assert!(rt; head.tick == u64::MAX && head.unheard && head.mask == 2);
+    for digits in &FLAGGED {
+        let text = bytes(rt.alloc(), digits)?;
+        let found = fault_of(&text);
+        assert!(rt; found == Some(PacketFault::Mask));
+    }
+    for len in 3..56 {
+        let found = fault_of(&text[..len]);
+        assert!(rt; found == Some(PacketFault::Short));
+    }
+    Ok(())
+}
+
+/// A tick number has no text in versions 1 to 3.
+#[test]
+fn older_versions_have_no_ticks(rt: HostRuntime) -> Result<(), Fail> {
+    for version in [Version::One, Version::Two, Version::Three] {
+        let mut packet = packet(rt.alloc(), version, &[1])?;
+        packet.tick = 1;
+        let text = written(rt.alloc(), &packet)?;
+        assert!(rt; text.is_none());
+        let pulse = packet.head().pulse();
+        assert!(rt; pulse.is_none());
+    }
+    Ok(())
+}
+
 /// An item of generation 1 has no text in versions 1 and 2.
 #[test]
 fn versions_one_and_two_name_no_generation(rt: HostRuntime) -> Result<(), Fail> {
@@ -439,7 +545,8 @@ const FAULTS: &[Changed] = &[
     (1, 2, 0x00, PacketFault::Version),
     (1, 2, 0x02, PacketFault::Tag),
     (1, 2, 0x03, PacketFault::Length),
-    (1, 2, 0x04, PacketFault::Version),
+    (1, 2, 0x04, PacketFault::Short),
+    (1, 2, 0x05, PacketFault::Version),
     (1, 4, 0x00, PacketFault::Node),
     (1, 4, 15, PacketFault::Tag),
     (1, 4, 16, PacketFault::Node),
@@ -462,6 +569,15 @@ const FAULTS: &[Changed] = &[
     (3, 4, 32, PacketFault::Node),
     (3, 35, 0xff, PacketFault::Tag),
     (3, 42, 0x10, PacketFault::Length),
+    (4, 4, 31, PacketFault::Tag),
+    (4, 4, 32, PacketFault::Node),
+    (4, 31, 0xff, PacketFault::Tag),
+    (4, 38, 0xff, PacketFault::Tag),
+    (4, 39, 0x01, PacketFault::Tag),
+    (4, 39, 0x02, PacketFault::Mask),
+    (4, 39, 0x80, PacketFault::Mask),
+    (4, 44, 0xff, PacketFault::Tag),
+    (4, 51, 0x10, PacketFault::Length),
 ];
 
 /// Whether the changed text has this fault.
@@ -542,7 +658,7 @@ fn has_limit(alloc: Global, case: &Longest, payload: u16, within: bool) -> Resul
     Ok(found == within && read == Some(fault))
 }
 
-/// The longest payload is 1,024 bytes in version 1, and 4,096 in versions 2 and 3.
+/// The longest payload is 1,024 bytes in version 1, and 4,096 in the later versions.
 #[test]
 fn longest_payload(rt: HostRuntime) -> Result<(), Fail> {
     for case in LONGEST {

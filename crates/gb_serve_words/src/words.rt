@@ -20,13 +20,13 @@ use std::alloc::{AllocError, Global};
 pub const SILENCE: u16 = 50;
 
 /// The byte of the version of packets if the words give none.
-pub const VERSION: u8 = 3;
+pub const VERSION: u8 = 4;
 
 /// The milliseconds between two ticks if the words give none.
 pub const TICK: u16 = 64;
 
 // Definitions cite these values.
-const _: () = prove!(SILENCE == 50 && VERSION == 3);
+const _: () = prove!(SILENCE == 50 && VERSION == 4);
 
 const _: () = prove!(TICK == 64);
 

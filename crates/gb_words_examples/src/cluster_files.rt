@@ -77,9 +77,9 @@ fn a_whole_file(rt: HostRuntime) -> Result<(), Fail> {
 
 // Lines at the top of a file: run, tick, silence, the version's byte and the room that it says.
 static NUMBERS: [(&str, u64, u16, u16, u8, u16); 12] = [
-    ("run = 1", 1, 64, 469, 3, 1_400),
-    ("run = 1\nroom = 256", 1, 64, 469, 3, 256),
-    ("run = 1\nroom = 16_345", 1, 64, 469, 3, 16_345),
+    ("run = 1", 1, 64, 469, 4, 1_400),
+    ("run = 1\nroom = 256", 1, 64, 469, 4, 256),
+    ("run = 1\nroom = 16_345", 1, 64, 469, 4, 16_345),
     (
         "run = 9223372036854775807\ntick = 60_000\nsilence = 1000\nversion = 3",
         9_223_372_036_854_775_807,
@@ -97,12 +97,12 @@ static NUMBERS: [(&str, u64, u16, u16, u8, u16); 12] = [
         1_400,
     ),
     ("run = 2\ntick = 1\nversion = 2", 2, 1, 1_000, 2, 1_400),
-    ("run = 2\ntick = 30", 2, 30, 1_000, 3, 1_400),
-    ("run = 2\ntick = 31", 2, 31, 968, 3, 1_400),
-    ("run = 2\ntick = 100", 2, 100, 300, 3, 1_400),
-    ("run = 2\ntick = 14_999", 2, 14_999, 3, 3, 1_400),
-    ("run = 2\ntick = 15_000", 2, 15_000, 2, 3, 1_400),
-    ("run = 2\ntick = 60_000", 2, 60_000, 2, 3, 1_400),
+    ("run = 2\ntick = 30", 2, 30, 1_000, 4, 1_400),
+    ("run = 2\ntick = 31", 2, 31, 968, 4, 1_400),
+    ("run = 2\ntick = 100", 2, 100, 300, 4, 1_400),
+    ("run = 2\ntick = 14_999", 2, 14_999, 3, 4, 1_400),
+    ("run = 2\ntick = 15_000", 2, 15_000, 2, 4, 1_400),
+    ("run = 2\ntick = 60_000", 2, 60_000, 2, 4, 1_400),
 ];
 
 #[test]
@@ -165,10 +165,10 @@ static TOPS: [(&str, &str); 18] = [
         "run = 1\nroom = 16346",
         "room: a number from 256 to 16345 is wanted",
     ),
-    ("run = 1\nversion = 0", "version: 1, 2 or 3 is wanted"),
-    ("run = 1\nversion = 4", "version: 1, 2 or 3 is wanted"),
-    ("run = 1\nversion = 257", "version: 1, 2 or 3 is wanted"),
-    ("run = 1\nversion = true", "version: 1, 2 or 3 is wanted"),
+    ("run = 1\nversion = 0", "version: a number from 1 to 4 is wanted"),
+    ("run = 1\nversion = 5", "version: a number from 1 to 4 is wanted"),
+    ("run = 1\nversion = 257", "version: a number from 1 to 4 is wanted"),
+    ("run = 1\nversion = true", "version: a number from 1 to 4 is wanted"),
     ("run = 1\nticks = 64", "unknown field ticks"),
     ("run = 1\n[nodes]", "unknown field nodes"),
     ("run = 1\n[[run]]", "line 2: duplicate key"),
@@ -302,12 +302,13 @@ fn the_longest_name(rt: HostRuntime) -> Result<(), Fail> {
 }
 
 // Versions and numbers of nodes, and why they are refused.
-static SIZES: [(u8, usize, &str); 5] = [
+static SIZES: [(u8, usize, &str); 6] = [
     (1, 16, ""),
     (1, 17, "node: packets of version 1 can name 16 nodes"),
     (2, 32, ""),
     (3, 32, ""),
-    (3, 33, "node: packets of version 3 can name 32 nodes"),
+    (4, 32, ""),
+    (4, 33, "node: packets of version 4 can name 32 nodes"),
 ];
 
 #[test]

@@ -41,7 +41,7 @@ static PLANS: [(&str, u8, Version, u16, u16, u16, bool); 14] = [
     (
         "gb_serve --nodes 1 --base-port 1024",
         1,
-        Version::Three,
+        Version::Four,
         1_024,
         50,
         0,
@@ -50,7 +50,7 @@ static PLANS: [(&str, u8, Version, u16, u16, u16, bool); 14] = [
     (
         "gb_serve --nodes 16 --base-port 65000",
         16,
-        Version::Three,
+        Version::Four,
         65_000,
         50,
         0,
@@ -59,7 +59,7 @@ static PLANS: [(&str, u8, Version, u16, u16, u16, bool); 14] = [
     (
         "gb_serve --nodes 17 --base-port 42000",
         17,
-        Version::Three,
+        Version::Four,
         42_000,
         50,
         0,
@@ -68,7 +68,7 @@ static PLANS: [(&str, u8, Version, u16, u16, u16, bool); 14] = [
     (
         "gb_serve --nodes 32 --base-port 42000",
         32,
-        Version::Three,
+        Version::Four,
         42_000,
         50,
         0,
@@ -77,7 +77,7 @@ static PLANS: [(&str, u8, Version, u16, u16, u16, bool); 14] = [
     (
         "gb_serve --base-port=42000 --nodes=2",
         2,
-        Version::Three,
+        Version::Four,
         42_000,
         50,
         0,
@@ -86,7 +86,7 @@ static PLANS: [(&str, u8, Version, u16, u16, u16, bool); 14] = [
     (
         "gb_serve --nodes 2 --base-port 42000 --silence 2 --sessions 1",
         2,
-        Version::Three,
+        Version::Four,
         42_000,
         2,
         1,
@@ -95,7 +95,7 @@ static PLANS: [(&str, u8, Version, u16, u16, u16, bool); 14] = [
     (
         "gb_serve --nodes 2 --base-port 42000 --silence 1000 --sessions 1000",
         2,
-        Version::Three,
+        Version::Four,
         42_000,
         1_000,
         1_000,
@@ -104,7 +104,7 @@ static PLANS: [(&str, u8, Version, u16, u16, u16, bool); 14] = [
     (
         "gb_serve --tape --nodes 2 --base-port 42000",
         2,
-        Version::Three,
+        Version::Four,
         42_000,
         50,
         0,
@@ -113,7 +113,7 @@ static PLANS: [(&str, u8, Version, u16, u16, u16, bool); 14] = [
     (
         "gb_serve --nodes +3 --base-port 042000",
         3,
-        Version::Three,
+        Version::Four,
         42_000,
         50,
         0,
@@ -244,7 +244,7 @@ fn words_say_how_loops_behave(rt: HostRuntime) {
     for (line, tick, idle, connections, session_requests) in &BEHAVIOURS {
         let want = ServePlan {
             nodes: 1,
-            version: Version::Three,
+            version: Version::Four,
             base_port: 1_024,
             silence: 50,
             sessions: 0,
@@ -466,7 +466,7 @@ static REFUSED: [&str; 89] = [
     "gb_serve --nodes 33 --base-port 42000 --version 2",
     "gb_serve --nodes 2 --base-port 42000 --version 0",
     "gb_serve --nodes 33 --base-port 42000 --version 3",
-    "gb_serve --nodes 2 --base-port 42000 --version 4",
+    "gb_serve --nodes 2 --base-port 42000 --version 5",
     "gb_serve --nodes 2 --base-port 42000 --version 257",
     "gb_serve --nodes 2 --base-port 42000 --version two",
     "gb_serve --nodes 2 --base-port 42000 --version -1",
