@@ -168,8 +168,12 @@ version_bounds n some =
                 elim (cases_eq n 3) [
                   | inl three ↦ (omega arith, omega arith)
                   | inr not_three ↦
-                      let none : is_some (version_named n) ≡ false = rw (ne_eqb n 1 not_one, ne_eqb n 2 not_two, ne_eqb n 3 not_three) in
-                      absurd (false≢true (sym none ∙ some))
+                      elim (cases_eq n 4) [
+                        | inl four ↦ (omega arith, omega arith)
+                        | inr not_four ↦
+                            let none : is_some (version_named n) ≡ false = rw (ne_eqb n 1 not_one, ne_eqb n 2 not_two, ne_eqb n 3 not_three, ne_eqb n 4 not_four) in
+                            absurd (false≢true (sym none ∙ some))
+                      ]
                 ]
           ]
     ]

@@ -106,6 +106,7 @@ is_named : (version : Version) → can_name version address ≡ true
 is_named texts.One = refl
 is_named texts.Two = refl
 is_named texts.Three = refl
+is_named texts.Four = refl
 
 node_opens : (kind : Kind) (g : Group) (a : NodeId) → set.contains members a.number ≡ true → g a.number ≡ nobody a.number → alone_from bounds address g (opened_at kind a) ≡ with_at g a.number (ready kind)
 unfolding said_in calls_of known

@@ -2,12 +2,13 @@
 use Rattle.gb_types.specs.Common.{◌≡◌, ◌≢◌, ℕ, zero, suc, ◌+◌, ◌<◌, ◌≤◌, Bool, true, false, cond, List, [], ◌∷◌, length, take, codes, eqb, Option, Some, None, refl, sym, ap, subst, ◌∙◌, arith, inl, inr, find, not, ◌&&◌, ◌==◌, ◌%◌, ◌↔◌, nat_lt, if◌then◌else◌, is_none, unwrap_or, eqb-true, ltb-false, nat_tests, nil_from_length, limits_of, version_named, eqb_tells}
 use Rattle.gb_types.specs.declared.{version.Version.Version as TextVersion, version.Version.TheVariants.One}
 use Rattle.gb_types.proofs.BoolLemmas.{and_sides}
-use Rattle.gb_frame.specs.declared.{limits.TheConstants.SHORTEST, item.Item.Item, fault.PacketFault.PacketFault}
+use Rattle.gb_frame.specs.declared.{item.Item.Item, fault.PacketFault.PacketFault}
 use Rattle.gb_frame.specs.Spelling.{tag_of}
 use Rattle.gb_frame.specs.declared.fault.PacketFault.TheVariants.{Short, Magic, Version, Node, Mask, Count, Length, Trailing, TooLong, Tag}
 use Rattle.gb_frame.specs.Faults.{fault_number}
 use Rattle.gb_frame.specs.Fields.{version_in, from_in, to_in, base_in, mask_in, frame_in, count_in, tag_in, tagged_in}
-use Rattle.gb_frame.specs.Reading.{faults, version_read, is_magic, parsed, left_over, items_of}
+use Rattle.gb_frame.specs.Reading.{faults, version_read, is_flagged, is_magic, parsed, left_over, items_of}
+use Rattle.gb_frame.specs.Room.{shortest_of}
 
 -- ---- the order of the table
 
@@ -117,7 +118,7 @@ below_eleven Tag = (omega arith, omega arith)
 
 -- what bytes without a fault are
 pub record IsGood (key bytes : List ℕ) : Type 0 where
-  pub long : SHORTEST ≤ length bytes
+  pub long : shortest_of (version_read bytes) ≤ length bytes
   pub magic : take 2 bytes ≡ codes "GB"
   pub version : version_named (version_in bytes) ≡ Some (version_read bytes)
   pub from : from_in bytes < (limits_of (version_read bytes)).nodes
@@ -125,10 +126,11 @@ pub record IsGood (key bytes : List ℕ) : Type 0 where
   pub apart : from_in bytes ≢ to_in bytes
   pub base : 0 < base_in bytes
   pub mask : mask_in bytes % 2 ≡ 0
+  pub flags : is_flagged (version_read bytes) bytes ≡ true
   pub frame : (frame_in bytes ≡ 0) ↔ (count_in bytes ≡ 0)
   pub parsed : parsed bytes ≡ Some (items_of (parsed bytes), [])
   pub short : length bytes ≤ (limits_of (version_read bytes)).packet
-  pub tag : tag_in bytes ≡ tag_of key (tagged_in bytes)
+  pub tag : tag_in (version_read bytes) bytes ≡ tag_of (version_read bytes) key (tagged_in (version_read bytes) bytes)
 
 pub magic_there : (bytes : List ℕ) → is_magic bytes ≡ true → take 2 bytes ≡ codes "GB"
 magic_there [] e = absurd cc

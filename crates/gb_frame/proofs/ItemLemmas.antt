@@ -1,7 +1,7 @@
 -- The bytes that are read as items are their text, and their text is read as those items.
 use Rattle.gb_types.specs.Common.{◌≡◌, ℕ, zero, suc, ◌+◌, ◌-◌, ◌^◌, ◌≤◌, Bool, true, false, ◌||◌, cond, ltb, List, [], ◌∷◌, ◌++◌, length, get_or, take, drop, All, Option, Some, None, refl, sym, ap, subst, ◌∙◌, append_assoc, arith, option_and_then, w16, w32, to_be_bytes, drop-cons, ltb-false, le-ltb, take_at, drop_at, take-append-drop, length-append, length-take, length-drop, All-nil, All-cons, All-head, All-tail, limits_of, limits_are_within}
 use Rattle.std.proofs.lemmas.List.Concat.{flat_map-cons}
-use Rattle.gb_types.specs.declared.{limits.TheConstants.PAYLOAD, version.Version.Version, version.Version.TheVariants.One, version.Version.TheVariants.Two, version.Version.TheVariants.Three}
+use Rattle.gb_types.specs.declared.{limits.TheConstants.PAYLOAD, version.Version.Version, version.Version.TheVariants.One, version.Version.TheVariants.Two, version.Version.TheVariants.Three, version.Version.TheVariants.Four}
 use Rattle.gb_types.proofs.{VersionLemmas.header_least, BoolLemmas.or_sides, ReadLemmas.some_same}
 use Rattle.gb_frame.specs.declared.item.Item.{Item}
 use Rattle.gb_frame.specs.Spelling.{generation_text, item_head, item_text, items_text, HasGeneration, IsBytes, IsItem}
@@ -30,6 +30,7 @@ generation_told : (version : Version) (i : Item) (bytes : List ℕ) → IsBytes 
 generation_told One i bytes fits is = is
 generation_told Two i bytes fits is = is
 generation_told Three i bytes fits is = let below = number_below w32 (2 ^ 32) wide32 4 bytes fits in omega (arith, below, is)
+generation_told Four i bytes fits is = let below = number_below w32 (2 ^ 32) wide32 4 bytes fits in omega (arith, below, is)
 
 -- the generation's bytes, cut off
 generation_cut : (version : Version) (bytes : List ℕ) → IsBytes bytes → (limits_of version).item_header ≤ length bytes
@@ -37,6 +38,7 @@ generation_cut : (version : Version) (bytes : List ℕ) → IsBytes bytes → (l
 generation_cut One bytes fits long = refl
 generation_cut Two bytes fits long = refl
 generation_cut Three bytes fits long = cut w32 (2 ^ 32) wide32 4 bytes fits (omega (arith, long))
+generation_cut Four bytes fits long = cut w32 (2 ^ 32) wide32 4 bytes fits (omega (arith, long))
 
 -- the last fields of a header that ends at a place: the origin, the sequence number and the payload's length
 last_cut : (header : ℕ) (bytes : List ℕ) → IsBytes bytes → 9 ≤ header → header ≤ length bytes
@@ -130,6 +132,7 @@ head_again : (version : Version) (i : Item) (rest : List ℕ) → HasGeneration 
 head_again One i rest first = record { long = refl; generation = sym first; origin = refl; seq = refl; len = refl }
 head_again Two i rest first = record { long = refl; generation = sym first; origin = refl; seq = refl; len = refl }
 head_again Three i rest fits = record { long = refl; generation = number_again w32 (2 ^ 32) wide32 4 (item_head Three i ++ rest) i.generation fits refl; origin = refl; seq = refl; len = refl }
+head_again Four i rest fits = record { long = refl; generation = number_again w32 (2 ^ 32) wide32 4 (item_head Four i ++ rest) i.generation fits refl; origin = refl; seq = refl; len = refl }
 
 -- what is read off an item's header with its payload behind it
 item_read : (version : Version) (limit : ℕ) (i : Item) (rest : List ℕ) → IsItem version i → length i.payload ≤ limit → item_at version limit (item_head version i ++ (i.payload ++ rest)) ≡ Some (i, rest)
@@ -164,6 +167,7 @@ unfolding item_at
 none_at_end One limit = refl
 none_at_end Two limit = refl
 none_at_end Three limit = refl
+none_at_end Four limit = refl
 
 pub items_take : (version : Version) (n : ℕ) (bytes : List ℕ) (x : List Item × List ℕ) → IsBytes bytes → items_at version (limits_of version).payload n bytes ≡ Some x → Stand version n bytes x.0 x.1
 unfolding items_at

@@ -4,6 +4,7 @@ pub mod WalkLemmas
 pub mod ItemTextLemmas
 pub mod NumberLemmas
 pub mod ItemLemmas
+pub mod TickLemmas
 pub mod TextLemmas
 pub mod FaultLemmas
 pub mod ReadingLemmas

@@ -1,9 +1,10 @@
 -- Bytes are a packet if and only if they have no fault.
 use Rattle.gb_types.specs.Common.{◌≡◌, ℕ, Bool, true, false, List, length, Option, Some, None, refl, ap, ◌∙◌, arith, not, ◌&&◌, nat_eq, nat_le, nat_lt, is_none, is_some, if◌then◌else◌, nat_tests, limits_of, version_named}
-use Rattle.gb_frame.specs.declared.{limits.TheConstants.SHORTEST, fault.PacketFault.PacketFault}
+use Rattle.gb_frame.specs.declared.fault.PacketFault.{PacketFault}
 use Rattle.gb_frame.specs.declared.fault.PacketFault.TheVariants.{Short, Magic, Version, Node, Mask, Count, Length, Trailing, TooLong, Tag}
 use Rattle.gb_frame.specs.Fields.{version_in}
-use Rattle.gb_frame.specs.Reading.{is_magic, is_between_nodes, is_acknowledgement, is_counted, is_tagged, version_read, parsed, left_over, fault_in, is_packet}
+use Rattle.gb_frame.specs.Room.{shortest_of}
+use Rattle.gb_frame.specs.Reading.{is_magic, is_between_nodes, is_acknowledgement, is_counted, is_flagged, is_tagged, version_read, parsed, left_over, fault_in, is_packet}
 
 not_not : (b : Bool) → b ≡ not (not b)
 not_not true = refl
@@ -28,16 +29,16 @@ pub no_fault : (key bytes : List ℕ) → is_packet key bytes ≡ is_none (fault
 unfolding fault_in
 no_fault key bytes =
     let limits = limits_of (version_read bytes) in
-    part _ _ _ Short _ (within SHORTEST (length bytes))
+    part _ _ _ Short _ (within (shortest_of (version_read bytes)) (length bytes))
     (part _ _ _ Magic _ (not_not (is_magic bytes))
     (part _ _ _ Version _ (some_not_none (version_named (version_in bytes)))
     (part _ _ _ Node _ (not_not (is_between_nodes limits.nodes bytes))
-    (part _ _ _ Mask _ (not_not (is_acknowledgement bytes))
+    (part _ _ _ Mask _ (not_not (is_acknowledgement bytes && is_flagged (version_read bytes) bytes))
     (part _ _ _ Count _ (not_not (is_counted bytes))
     (part _ _ _ Length _ (some_not_none (parsed bytes))
     (part _ _ _ Trailing _ (none_left (length (left_over (parsed bytes))))
     (part _ _ _ TooLong _ (within (length bytes) limits.packet)
-    (last (is_tagged key bytes))))))))))
+    (last (is_tagged (version_read bytes) key bytes))))))))))
   where
     last : (t : Bool) → t ≡ is_none (if not t then Some Tag else None)
     last true = refl

@@ -1,32 +1,39 @@
 -- Reading returns a packet if and only if the bytes are its text, and otherwise the first fault of the table.
-use Rattle.gb_types.specs.Common.{◌≡◌, ◌≢◌, ℕ, ◌-◌, ◌^◌, ◌≤◌, Bool, true, false, cond, List, [], ◌∷◌, ◌++◌, length, take, drop, codes, Option, Some, None, Ok, refl, sym, ap, subst, ◌∙◌, arith, inl, inr, ◌⊎◌, find, is_ok, not, ◌&&◌, ◌==◌, ◌%◌, nat_lt, is_none, if◌then◌else◌, w16, w64, to_be_bytes, drop-cons, eqb-true, eq-eqb, ltb-false, ltb-true, lt-ltb, take-append-drop, drop-append-le, take_at, length-take, length-drop, length-append, append-nil, nil_from_length, limits_of, limits_are_within}
+use Rattle.gb_types.specs.Common.{◌≡◌, ◌≢◌, ℕ, ◌-◌, ◌^◌, ◌≤◌, Bool, true, false, cond, List, [], ◌∷◌, ◌++◌, length, take, drop, codes, Option, Some, None, Ok, refl, sym, ap, subst, ◌∙◌, arith, inl, inr, ◌⊎◌, find, is_ok, not, ◌&&◌, ◌||◌, ◌<◌, append_assoc, ◌==◌, ◌%◌, nat_lt, is_none, if◌then◌else◌, w16, w64, to_be_bytes, drop-cons, eqb-true, eq-eqb, ltb-false, ltb-true, lt-ltb, take-append-drop, drop-append-le, take_at, length-take, length-drop, length-append, append-nil, nil_from_length, limits_of, limits_are_within}
 use Rattle.std.specs.Cmp.Lexicographic.{same_text, other_text}
 use Rattle.gb_types.specs.declared.version.Version.{Version as TextVersion}
 use Rattle.gb_types.proofs.{BoolLemmas.not_false, BoolLemmas.not_true, ReadLemmas.some_same, VersionLemmas.byte_of_named}
-use Rattle.gb_frame.specs.declared.{limits.TheConstants.SHORTEST, limits.TheConstants.HEADER, limits.TheConstants.TAG, fault.PacketFault.PacketFault, item.Item.Item}
+use Rattle.gb_frame.specs.declared.{fault.PacketFault.PacketFault, item.Item.Item}
 use Rattle.gb_frame.specs.declared.fault.PacketFault.TheVariants.{Short, Magic, Version, Node, Mask, Count, Length, Trailing, TooLong, Tag}
 use Rattle.gb_frame.specs.Packet.{Content}
-use Rattle.gb_frame.specs.Spelling.{items_text, header_text, tagged_text, tag_of, packet_text, IsBytes, IsWithinLimits, IsText}
-use Rattle.gb_frame.specs.Fields.{version_in, from_in, to_in, base_in, mask_in, frame_in, count_in, items_in, tag_in, tagged_in}
-use Rattle.gb_frame.specs.Reading.{version_read, unless, faults, test, fault_in, reading, content_in, parsed, left_over, items_of}
+use Rattle.gb_frame.specs.Spelling.{items_text, fields_text, header_text, ticks_text, tagged_text, tag_of, packet_text, IsBytes, IsWithinLimits, IsText}
+use Rattle.gb_frame.specs.Fields.{version_in, from_in, to_in, base_in, mask_in, frame_in, count_in, flags_in, items_in, tag_in, tagged_in}
+use Rattle.gb_frame.specs.Reading.{version_read, is_acknowledgement, is_flagged, tick_read, unheard_read, unless, faults, test, fault_in, reading, content_in, parsed, left_over, items_of}
 use Rattle.gb_frame.specs.Faults.{Stand, HasFault, IsFirstFault}
 use Rattle.gb_frame.specs.Laws.{WhatIsWrittenIsRead}
-use Rattle.gb_frame.proofs.VersionLemmas.{shortest_fits}
+use Rattle.gb_frame.specs.Room.{shortest_of}
+use Rattle.gb_types.proofs.BoolLemmas.{and_sides}
+use Rattle.gb_frame.proofs.VersionLemmas.{header_least, shortest_fits}
 use Rattle.gb_frame.proofs.NumberLemmas.{IsBytes-take, IsBytes-drop, wide16, wide64, cut, number_below}
 use Rattle.gb_frame.proofs.ItemLemmas.{items_take, stand_again}
+use Rattle.gb_frame.proofs.TickLemmas.{ticks_cut, ticks_told}
 use Rattle.gb_frame.proofs.TextLemmas.{text_reads}
 use Rattle.gb_frame.proofs.FaultLemmas.{found_first, found_none, faults_numbered, below_eleven, IsGood, magic_there, magic_told, counted_there, nodes_there, acknowledged_there, parsed_there, named_there, none_told}
+
+-- the texts of the items are bytes
+texts_fit : (bytes : List ℕ) → IsBytes bytes → IsBytes (items_in (version_read bytes) bytes)
+texts_fit bytes fits = IsBytes-drop (limits_of (version_read bytes)).header (tagged_in (version_read bytes) bytes) (IsBytes-take (length bytes - (limits_of (version_read bytes)).tag) bytes fits)
 
 -- ---- a test that says so
 
 none_stand : (key bytes : List ℕ) → is_none (parsed bytes) ≡ true → HasFault key bytes Length
-none_stand key bytes e items rest s = let found = stand_again (version_read bytes) (count_in bytes) (items_in bytes) items rest s in absurd (let there : is_none (parsed bytes) ≡ false = ap is_none found in cc)
+none_stand key bytes e items rest s = let found = stand_again (version_read bytes) (count_in bytes) (items_in (version_read bytes) bytes) items rest s in absurd (let there : is_none (parsed bytes) ≡ false = ap is_none found in cc)
 
 left_stand : (key bytes : List ℕ) → IsBytes bytes → (o : Option (List Item × List ℕ)) → parsed bytes ≡ o → nat_lt 0 (length (left_over o)) ≡ true → HasFault key bytes Trailing
 left_stand key bytes fits None is e = absurd cc
 left_stand key bytes fits (Some x) is e =
     let long = ltb-true _ _ e in
-    (x.0, x.1, λ none. let h : length x.1 ≡ 0 = ap length none in absurd (omega arith), items_take (version_read bytes) (count_in bytes) (items_in bytes) x (IsBytes-drop HEADER (tagged_in bytes) (IsBytes-take (length bytes - TAG) bytes fits)) is)
+    (x.0, x.1, λ none. let h : length x.1 ≡ 0 = ap length none in absurd (omega arith), items_take (version_read bytes) (count_in bytes) (items_in (version_read bytes) bytes) x (texts_fit bytes fits) is)
 
 nodes_wrong : (a b n : ℕ) → (nat_lt a n && nat_lt b n && not (a == b)) ≡ false → (n ≤ a) ⊎ (n ≤ b) ⊎ (a ≡ b)
 nodes_wrong a b n e =
@@ -48,6 +55,22 @@ acknowledgement_wrong a b e =
       | true ↦ λ h f. inr (below_two b (λ none. let t = eq-eqb _ _ none in cc))
     ] refl e
 
+flags_wrong : (has : Bool) (flags : ℕ) → (not has || nat_lt flags 2) ≡ false → (has ≡ true) × (1 < flags)
+flags_wrong true flags e = (refl, let le = ltb-false _ _ e in omega arith)
+flags_wrong false flags e = absurd (cc)
+
+flags_right : (has : Bool) (flags : ℕ) → has ≡ true → 1 < flags → (not has || nat_lt flags 2) ≡ true → ⊥
+flags_right true flags h many e = let lt = ltb-true _ _ e in omega arith
+flags_right false flags h many e = cc
+
+mask_wrong : (bytes : List ℕ) → (is_acknowledgement bytes && is_flagged (version_read bytes) bytes) ≡ false
+    → (base_in bytes ≡ 0) ⊎ (mask_in bytes % 2 ≡ 1) ⊎ (((limits_of (version_read bytes)).has_ticks ≡ true) × (1 < flags_in bytes))
+mask_wrong bytes e = by (is_acknowledgement bytes) refl e
+  where
+    by : (t : Bool) → is_acknowledgement bytes ≡ t → (t && is_flagged (version_read bytes) bytes) ≡ false → (base_in bytes ≡ 0) ⊎ (mask_in bytes % 2 ≡ 1) ⊎ (((limits_of (version_read bytes)).has_ticks ≡ true) × (1 < flags_in bytes))
+    by false h f = elim (acknowledgement_wrong (base_in bytes) (mask_in bytes) h) [ inl a ↦ inl a | inr b ↦ inr (inl b) ]
+    by true h f = inr (inr (flags_wrong (limits_of (version_read bytes)).has_ticks (flags_in bytes) f))
+
 count_wrong : (n m : ℕ) → (if n == 0 then m == 0 else nat_lt 0 m) ≡ false → ((n ≡ 0) × (m ≢ 0)) ⊎ ((n ≢ 0) × (m ≡ 0))
 count_wrong n m e =
     elim (n == 0) as (λ b. (n == 0) ≡ b → cond b (m == 0) (nat_lt 0 m) ≡ false → ((n ≡ 0) × (m ≢ 0)) ⊎ ((n ≢ 0) × (m ≡ 0))) [
@@ -60,22 +83,22 @@ says key bytes Short fits e = ltb-true _ _ e
 says key bytes Magic fits e = λ there. let t = magic_told bytes there in let n = not_true _ e in cc
 says key bytes Version fits e = none_told _ e
 says key bytes Node fits e = nodes_wrong (from_in bytes) (to_in bytes) (limits_of (version_read bytes)).nodes (not_true _ e)
-says key bytes Mask fits e = acknowledgement_wrong (base_in bytes) (mask_in bytes) (not_true _ e)
+says key bytes Mask fits e = mask_wrong bytes (not_true _ e)
 says key bytes Count fits e = count_wrong (frame_in bytes) (count_in bytes) (not_true _ e)
 says key bytes Length fits e = none_stand key bytes e
 says key bytes Trailing fits e = left_stand key bytes (fits refl) (parsed bytes) refl e
 says key bytes TooLong fits e = ltb-true _ _ e
-says key bytes Tag fits e = other_text (tag_in bytes) (tag_of key (tagged_in bytes)) (sym (not_true _ e))
+says key bytes Tag fits e = other_text (tag_in (version_read bytes) bytes) (tag_of (version_read bytes) key (tagged_in (version_read bytes) bytes)) (sym (not_true _ e))
 
 -- ---- a test that doesn't
 
 some_stands : (key bytes : List ℕ) → IsBytes bytes → (o : Option (List Item × List ℕ)) → parsed bytes ≡ o → is_none o ≡ false → ¬ (HasFault key bytes Length)
 some_stands key bytes fits None is e = absurd cc
-some_stands key bytes fits (Some x) is e = λ no. no x.0 x.1 (items_take (version_read bytes) (count_in bytes) (items_in bytes) x (IsBytes-drop HEADER (tagged_in bytes) (IsBytes-take (length bytes - TAG) bytes fits)) is)
+some_stands key bytes fits (Some x) is e = λ no. no x.0 x.1 (items_take (version_read bytes) (count_in bytes) (items_in (version_read bytes) bytes) x (texts_fit bytes fits) is)
 
 none_left : (key bytes : List ℕ) → nat_lt 0 (length (left_over (parsed bytes))) ≡ false → ¬ (HasFault key bytes Trailing)
 none_left key bytes e (items, rest, more, s) =
-    let found = stand_again (version_read bytes) (count_in bytes) (items_in bytes) items rest s in
+    let found = stand_again (version_read bytes) (count_in bytes) (items_in (version_read bytes) bytes) items rest s in
     let left : left_over (parsed bytes) ≡ rest = ap left_over found in
     more (nil_from_length rest (let h = ltb-false _ _ e in let k = ap length left in omega arith))
 
@@ -87,15 +110,16 @@ denies key bytes fits Node e = λ h.
     let t = nodes_there (from_in bytes) (to_in bytes) (limits_of (version_read bytes)).nodes (not_false _ e) in
     elim h [ inl a ↦ let p = t.0 in absurd (omega arith) | inr g ↦ elim g [ inl b ↦ let p = t.1 in absurd (omega arith) | inr same ↦ t.2 same ] ]
 denies key bytes fits Mask e = λ h.
-    let t = acknowledged_there (base_in bytes) (mask_in bytes % 2) (not_false _ e) in
-    elim h [ inl a ↦ let p = t.0 in absurd (omega arith) | inr b ↦ let p = t.1 in absurd (omega arith) ]
+    let both = and_sides (is_acknowledgement bytes) (is_flagged (version_read bytes) bytes) (not_false _ e) in
+    let t = acknowledged_there (base_in bytes) (mask_in bytes % 2) both.0 in
+    elim h [ inl a ↦ let p = t.0 in absurd (omega arith) | inr g ↦ elim g [ inl b ↦ let p = t.1 in absurd (omega arith) | inr f ↦ flags_right (limits_of (version_read bytes)).has_ticks (flags_in bytes) f.0 f.1 both.1 ] ]
 denies key bytes fits Count e = λ h.
     let t = counted_there (frame_in bytes) (count_in bytes) (not_false _ e) in
     elim h [ inl a ↦ a.1 (t.0 a.0) | inr b ↦ b.0 (t.1 b.1) ]
 denies key bytes fits Length e = some_stands key bytes fits (parsed bytes) refl e
 denies key bytes fits Trailing e = none_left key bytes e
 denies key bytes fits TooLong e = λ h. let t = lt-ltb _ _ h in cc
-denies key bytes fits Tag e = λ h. h (same_text (tag_in bytes) (tag_of key (tagged_in bytes)) (sym (not_false _ e)))
+denies key bytes fits Tag e = λ h. h (same_text (tag_in (version_read bytes) bytes) (tag_of (version_read bytes) key (tagged_in (version_read bytes) bytes)) (sym (not_false _ e)))
 
 -- ---- the first fault
 
@@ -115,7 +139,8 @@ pub good : (key bytes : List ℕ) → fault_in key bytes ≡ None → IsGood key
 good key bytes none =
     let t = all_denied key bytes none in
     let nodes = nodes_there (from_in bytes) (to_in bytes) (limits_of (version_read bytes)).nodes (not_false _ (t Node)) in
-    let acknowledged = acknowledged_there (base_in bytes) (mask_in bytes % 2) (not_false _ (t Mask)) in
+    let both = and_sides (is_acknowledgement bytes) (is_flagged (version_read bytes) bytes) (not_false _ (t Mask)) in
+    let acknowledged = acknowledged_there (base_in bytes) (mask_in bytes % 2) both.0 in
     record {
       long = ltb-false _ _ (t Short);
       magic = magic_there bytes (not_false _ (t Magic));
@@ -125,14 +150,15 @@ good key bytes none =
       apart = nodes.2;
       base = acknowledged.0;
       mask = acknowledged.1;
+      flags = both.1;
       frame = counted_there (frame_in bytes) (count_in bytes) (not_false _ (t Count));
       parsed = parsed_there (parsed bytes) (t Length) (t Trailing);
       short = ltb-false _ _ (t TooLong);
-      tag = same_text (tag_in bytes) (tag_of key (tagged_in bytes)) (sym (not_false _ (t Tag)));
+      tag = same_text (tag_in (version_read bytes) bytes) (tag_of (version_read bytes) key (tagged_in (version_read bytes) bytes)) (sym (not_false _ (t Tag)));
     }
 
 -- the header's bytes, cut at its fields
-header_cut : (bytes : List ℕ) (byte : ℕ) (rest : List ℕ) → IsBytes bytes → SHORTEST ≤ length bytes → take 2 bytes ≡ codes "GB" → version_in bytes ≡ byte → drop 31 bytes ≡ rest
+header_cut : (bytes : List ℕ) (byte : ℕ) (rest : List ℕ) → IsBytes bytes → 31 ≤ length bytes → take 2 bytes ≡ codes "GB" → version_in bytes ≡ byte → drop 31 bytes ≡ rest
     → bytes ≡ codes "GB" ++ (byte ∷ from_in bytes ∷ to_in bytes ∷ (to_be_bytes w64 (base_in bytes) ++ (to_be_bytes w64 (mask_in bytes) ++ (to_be_bytes w64 (frame_in bytes) ++ (to_be_bytes w16 (count_in bytes) ++ rest)))))
 header_cut bytes byte rest fits long magic version behind =
     let e2 : drop 2 bytes ≡ byte ∷ drop 3 bytes = drop-cons bytes 2 0 (omega arith) ∙ ap (λ v. v ∷ drop 3 bytes) version in
@@ -151,28 +177,39 @@ header_cut bytes byte rest fits long magic version behind =
     sym (take-append-drop 2 bytes) ∙ ap (λ t. t ++ drop 2 bytes) magic ∙ ap (λ t. codes "GB" ++ t) from_version
 
 -- the texts and the tag, where the items leave nothing
-behind_header : (bytes : List ℕ) → SHORTEST ≤ length bytes → drop 31 bytes ≡ items_in bytes ++ tag_in bytes
-behind_header bytes long =
-    ap (drop 31) (sym (take-append-drop (length bytes - TAG) bytes)) ∙ drop-append-le 31 (tagged_in bytes) (tag_in bytes) (omega (arith, length-take (length bytes - TAG) bytes))
+behind_header : (version : TextVersion) (bytes : List ℕ) → shortest_of version ≤ length bytes → drop (limits_of version).header bytes ≡ items_in version bytes ++ tag_in version bytes
+behind_header version bytes long =
+    let tag : ℕ = (limits_of version).tag in
+    ap (drop (limits_of version).header) (sym (take-append-drop (length bytes - tag) bytes))
+    ∙ drop-append-le (limits_of version).header (tagged_in version bytes) (tag_in version bytes) (omega (arith, long, length-take (length bytes - tag) bytes))
 
-spelled : (key bytes : List ℕ) → IsBytes bytes → IsGood key bytes → Stand (version_read bytes) (count_in bytes) (items_in bytes) (items_of (parsed bytes)) [] → bytes ≡ packet_text key (content_in bytes)
-unfolding header_text
+spelled : (key bytes : List ℕ) → IsBytes bytes → IsGood key bytes → Stand (version_read bytes) (count_in bytes) (items_in (version_read bytes) bytes) (items_of (parsed bytes)) [] → bytes ≡ packet_text key (content_in bytes)
+unfolding header_text fields_text
 spelled key bytes fits g s =
     let c : Content = content_in bytes in
-    let byte : ℕ = (limits_of c.version).byte in
-    let items : items_in bytes ≡ items_text c.version c.items = s.parts ∙ append-nil (items_text c.version c.items) in
-    let cells = header_cut bytes byte (items_text c.version c.items ++ tag_in bytes) fits g.long g.magic (byte_of_named (version_in bytes) c.version g.version) (behind_header bytes g.long ∙ ap (λ t. t ++ tag_in bytes) items) in
-    let whole : bytes ≡ tagged_text c ++ tag_in bytes = cells ∙ ap (λ n. codes "GB" ++ (byte ∷ from_in bytes ∷ to_in bytes ∷ (to_be_bytes w64 (base_in bytes) ++ (to_be_bytes w64 (mask_in bytes) ++ (to_be_bytes w64 (frame_in bytes) ++ (to_be_bytes w16 n ++ (items_text c.version c.items ++ tag_in bytes))))))) (sym s.count) in
-    let cut : length (tagged_text c) ≡ length bytes - TAG = let h = ap length whole ∙ length-append (tagged_text c) (tag_in bytes) in let k = length-drop (length bytes - TAG) bytes in let l = g.long in omega (arith, h, k, l) in
-    let tagged : tagged_in bytes ≡ tagged_text c = ap (take (length bytes - TAG)) whole ∙ take_at (tagged_text c) (tag_in bytes) (length bytes - TAG) cut in
-    whole ∙ ap (λ t. tagged_text c ++ t) (g.tag ∙ ap (tag_of key) tagged)
+    let version : TextVersion = version_read bytes in
+    let byte : ℕ = (limits_of version).byte in
+    let tag : List ℕ = tag_in version bytes in
+    let texts : List ℕ = items_text version c.items in
+    let ticks : List ℕ = ticks_text version c.tick c.unheard in
+    let long = g.long in
+    let header : (limits_of version).header ≤ length bytes = omega (arith, long) in
+    let items : items_in version bytes ≡ texts = s.parts ∙ append-nil texts in
+    let rest : drop 31 bytes ≡ ticks ++ (texts ++ tag) =
+    ticks_cut version bytes fits header g.flags ∙ ap (λ t. ticks ++ t) (behind_header version bytes long ∙ ap (λ t. t ++ tag) items) in
+    let cells = header_cut bytes byte (ticks ++ (texts ++ tag)) fits (omega (arith, header, header_least version)) g.magic (byte_of_named (version_in bytes) version g.version) rest in
+    let counted : bytes ≡ fields_text c ++ (ticks ++ (texts ++ tag)) = cells ∙ ap (λ n. codes "GB" ++ (byte ∷ from_in bytes ∷ to_in bytes ∷ (to_be_bytes w64 (base_in bytes) ++ (to_be_bytes w64 (mask_in bytes) ++ (to_be_bytes w64 (frame_in bytes) ++ (to_be_bytes w16 n ++ (ticks ++ (texts ++ tag)))))))) (sym s.count) in
+    let whole : bytes ≡ tagged_text c ++ tag = counted ∙ (sym (append_assoc (fields_text c) ticks (texts ++ tag)) ∙ sym (append_assoc (header_text c) texts tag)) in
+    let cut : length (tagged_text c) ≡ length bytes - (limits_of version).tag = let h = ap length whole ∙ length-append (tagged_text c) tag in let k = length-drop (length bytes - (limits_of version).tag) bytes in omega (arith, h, k, long) in
+    let tagged : tagged_in version bytes ≡ tagged_text c = ap (take (length bytes - (limits_of version).tag)) whole ∙ take_at (tagged_text c) tag (length bytes - (limits_of version).tag) cut in
+    whole ∙ ap (λ t. tagged_text c ++ t) (g.tag ∙ ap (tag_of version key) tagged)
 
-within : (key bytes : List ℕ) → IsGood key bytes → Stand (version_read bytes) (count_in bytes) (items_in bytes) (items_of (parsed bytes)) [] → IsWithinLimits (content_in bytes)
+within : (key bytes : List ℕ) → IsGood key bytes → Stand (version_read bytes) (count_in bytes) (items_in (version_read bytes) bytes) (items_of (parsed bytes)) [] → IsWithinLimits (content_in bytes)
 within key bytes g s =
     let items = items_of (parsed bytes) in
     let long = g.long in
     let short = g.short in
-    let texts : length (items_in bytes) ≡ length (items_text (version_read bytes) items) = ap length (s.parts ∙ append-nil (items_text (version_read bytes) items)) in
+    let texts : length (items_in (version_read bytes) bytes) ≡ length (items_text (version_read bytes) items) = ap length (s.parts ∙ append-nil (items_text (version_read bytes) items)) in
     record {
       from = g.from;
       to = g.to;
@@ -181,14 +218,14 @@ within key bytes g s =
       mask = g.mask;
       frame = (λ h. s.count ∙ g.frame.0 h, λ h. g.frame.1 (sym s.count ∙ h));
       payloads = s.payloads;
-      room = omega (arith, texts, length-drop HEADER (tagged_in bytes), length-take (length bytes - TAG) bytes);
+      room = omega (arith, texts, long, short, length-drop (limits_of (version_read bytes)).header (tagged_in (version_read bytes) bytes), length-take (length bytes - (limits_of (version_read bytes)).tag) bytes);
     }
 
 pub is_text : (key bytes : List ℕ) → IsBytes bytes → fault_in key bytes ≡ None → IsText key bytes (content_in bytes)
 is_text key bytes fits none =
     let g = good key bytes none in
     let limits = limits_are_within (version_read bytes) in
-    let s : Stand (version_read bytes) (count_in bytes) (items_in bytes) (items_of (parsed bytes)) [] = items_take (version_read bytes) (count_in bytes) (items_in bytes) (items_of (parsed bytes), []) (IsBytes-drop HEADER (tagged_in bytes) (IsBytes-take (length bytes - TAG) bytes fits)) g.parsed in (
+    let s : Stand (version_read bytes) (count_in bytes) (items_in (version_read bytes) bytes) (items_of (parsed bytes)) [] = items_take (version_read bytes) (count_in bytes) (items_in (version_read bytes) bytes) (items_of (parsed bytes), []) (texts_fit bytes fits) g.parsed in (
       record {
         limits = within key bytes g s;
         fields = record {
@@ -198,6 +235,7 @@ is_text key bytes fits none =
           mask = number_below w64 (2 ^ 64) wide64 13 bytes fits;
           frame = number_below w64 (2 ^ 64) wide64 21 bytes fits;
         };
+        ticks = ticks_told (version_read bytes) bytes fits;
         items = s.fit;
       },
       spelled key bytes fits g s,
@@ -212,10 +250,12 @@ no_fault key bytes c t f =
     let room = p.limits.room in
     let limit_nodes : (limits_of (version_read bytes)).nodes ≡ (limits_of c.version).nodes = ap (λ (v : TextVersion). (limits_of v).nodes) r.version in
     let limit_packet : (limits_of (version_read bytes)).packet ≡ (limits_of c.version).packet = ap (λ (v : TextVersion). (limits_of v).packet) r.version in
-    let s : Stand (version_read bytes) (count_in bytes) (items_in bytes) c.items [] =
-    subst (λ (v : TextVersion). Stand v (count_in bytes) (items_in bytes) c.items []) (sym r.version) (record { count = sym r.count; fit = p.items; payloads = p.limits.payloads; parts = r.items ∙ sym (append-nil (items_text c.version c.items)) }) in
+    let s : Stand (version_read bytes) (count_in bytes) (items_in (version_read bytes) bytes) c.items [] =
+    subst (λ (v : TextVersion). Stand v (count_in bytes) (items_in v bytes) c.items []) (sym r.version) (record { count = sym r.count; fit = p.items; payloads = p.limits.payloads; parts = r.items ∙ sym (append-nil (items_text c.version c.items)) }) in
+    let limit_shortest : shortest_of (version_read bytes) ≡ shortest_of c.version = ap shortest_of r.version in
+    let flags : is_flagged (version_read bytes) bytes ≡ true = ap (λ (v : TextVersion). is_flagged v bytes) r.version ∙ r.flags in
     elim f as (λ f. ¬ (HasFault key bytes f)) [
-      | Short ↦ λ h. let l = r.len in absurd (omega arith)
+      | Short ↦ λ h. let l = r.len in absurd (omega (arith, h, l, limit_shortest))
       | Magic ↦ λ h. h r.magic
       | Version ↦ λ h. let named = r.named in absurd cc
       | Node ↦ λ h. elim h [
@@ -227,16 +267,19 @@ no_fault key bytes c t f =
       ]
       | Mask ↦ λ h. elim h [
         | inl a ↦ let e = r.base in let b = p.limits.base in absurd (omega arith)
-        | inr a ↦ let e = ap (λ m. m % 2) r.mask in let b = p.limits.mask in absurd (omega (arith, a, e, b))
+        | inr g ↦ elim g [
+          | inl a ↦ let e = ap (λ m. m % 2) r.mask in let b = p.limits.mask in absurd (omega (arith, a, e, b))
+          | inr a ↦ flags_right (limits_of (version_read bytes)).has_ticks (flags_in bytes) a.0 a.1 flags
+        ]
       ]
       | Count ↦ λ h. elim h [
         | inl a ↦ a.1 (r.count ∙ p.limits.frame.0 (sym r.frame ∙ a.0))
         | inr a ↦ a.0 (r.frame ∙ p.limits.frame.1 (sym r.count ∙ a.1))
       ]
       | Length ↦ λ h. h c.items [] s
-      | Trailing ↦ λ h. h.2 (ap (λ x. x.1) (some_same (h.0, h.1) (c.items, []) (sym (stand_again (version_read bytes) (count_in bytes) (items_in bytes) h.0 h.1 h.3) ∙ r.parsed)))
+      | Trailing ↦ λ h. h.2 (ap (λ x. x.1) (some_same (h.0, h.1) (c.items, []) (sym (stand_again (version_read bytes) (count_in bytes) (items_in (version_read bytes) bytes) h.0 h.1 h.3) ∙ r.parsed)))
       | TooLong ↦ λ h. let l = r.len in absurd (omega (arith, h, l, limit_packet, room, shortest_fits c.version))
-      | Tag ↦ λ h. h (r.tag ∙ ap (tag_of key) (sym r.tagged))
+      | Tag ↦ λ h. h (subst (λ (v : TextVersion). tag_in v bytes ≡ tag_of v key (tagged_in v bytes)) (sym r.version) (r.tag ∙ ap (tag_of c.version key) (sym r.tagged)))
     ]
 
 untested : (key bytes : List ℕ) (c : Content) → IsText key bytes c → (f : PacketFault) → (f ≡ Trailing → ⊥) → test key bytes f ≡ false
@@ -268,7 +311,9 @@ unfolding fault_in
 text_found key bytes c t =
     let r = text_reads key bytes c t in
     let items : items_of (parsed bytes) ≡ c.items = ap items_of r.parsed in
-    (passed_over (test key bytes) faults (all_untested key bytes c t), λ i. record { version = r.version i; from = r.from i; to = r.to i; base = r.base i; mask = r.mask i; frame = r.frame i; items = items i })
+    let tick : tick_read (version_read bytes) bytes ≡ c.tick = ap (λ (v : TextVersion). tick_read v bytes) r.version ∙ r.tick in
+    let unheard : unheard_read (version_read bytes) bytes ≡ c.unheard = ap (λ (v : TextVersion). unheard_read v bytes) r.version ∙ r.unheard in
+    (passed_over (test key bytes) faults (all_untested key bytes c t), λ i. record { version = r.version i; from = r.from i; to = r.to i; base = r.base i; mask = r.mask i; frame = r.frame i; tick = tick i; unheard = unheard i; items = items i })
 
 pub text_read : WhatIsWrittenIsRead
 text_read key c p =

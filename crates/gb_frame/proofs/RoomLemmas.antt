@@ -1,7 +1,7 @@
 -- The number of bytes that items take.
 use Rattle.gb_types.specs.Common.{◌≡◌, ℕ, ◌+◌, ◌-◌, ◌*◌, ◌<◌, ◌≤◌, List, [], ◌∷◌, ◌++◌, length, take, get_or, All, sym, ap, ◌∙◌, arith, length-append, take_more, flat_map_more, length-flat_map-take, limits_of}
 use Rattle.std.proofs.lemmas.List.Concat.{flat_map-cons}
-use Rattle.gb_types.specs.declared.{version.Version.Version, version.Version.TheVariants.One, version.Version.TheVariants.Two, version.Version.TheVariants.Three}
+use Rattle.gb_types.specs.declared.{version.Version.Version, version.Version.TheVariants.One, version.Version.TheVariants.Two, version.Version.TheVariants.Three, version.Version.TheVariants.Four}
 use Rattle.gb_types.proofs.VersionLemmas.{header_least}
 use Rattle.gb_frame.specs.declared.item.Item.{Item}
 use Rattle.gb_frame.specs.Spelling.{item_text, items_text}
@@ -10,6 +10,7 @@ pub length-item_text : (version : Version) (i : Item) → length (item_text vers
 length-item_text One i = omega arith
 length-item_text Two i = omega arith
 length-item_text Three i = omega arith
+length-item_text Four i = omega arith
 
 -- one more item
 pub texts_more : (version : Version) (items : List Item) (i : ℕ) (d : Item) → i < length items → items_text version (take (i + 1) items) ≡ items_text version (take i items) ++ item_text version (get_or items i d)

@@ -2,7 +2,7 @@
 use Rattle.gb_types.specs.Common.{◌≡◌, ◌≢◌, ℕ, ◌<◌, ◌^◌, Bool, true, false, List, [], ◌∷◌, ◌++◌, drop, inl, inr, refl, sym, ap, subst, ◌∙◌, arith, decimal, append_assoc, append-nil, codes, if◌then◌else◌, length, All, All-head, All-tail, limits_of}
 use Rattle.std.proofs.lemmas.Fmt.{decimal_injective}
 use Rattle.gb_spelling.specs.Common.{OneTextOneReply, OneWordOneKind, IsShort, words_of}
-use Rattle.gb_types.specs.declared.{node.NodeId.NodeId, version.Version.Version, version.Version.TheVariants.One, version.Version.TheVariants.Two, version.Version.TheVariants.Three}
+use Rattle.gb_types.specs.declared.{node.NodeId.NodeId, version.Version.Version, version.Version.TheVariants.One, version.Version.TheVariants.Two, version.Version.TheVariants.Three, version.Version.TheVariants.Four}
 use Rattle.gb_spelling.proofs.CutLemmas.{Without, cut}
 use Rattle.gb_node.specs.declared.tape.TapeEntry.{TapeEntry}
 use Rattle.hex.specs.Hex.{encode_lower}
@@ -105,11 +105,13 @@ byte_small : (v : Version) → (limits_of v).byte < 2 ^ 64
 byte_small One = omega arith
 byte_small Two = omega arith
 byte_small Three = omega arith
+byte_small Four = omega arith
 
 same_version : (v w : Version) → (limits_of v).byte ≡ (limits_of w).byte → v ≡ w
 same_version One One e = refl
 same_version Two Two e = refl
 same_version Three Three e = refl
+same_version Four Four e = refl
 same_version v w e = absurd (omega (arith, e))
 
 short : (n : ℕ) → IsShort n → n < 2 ^ 64

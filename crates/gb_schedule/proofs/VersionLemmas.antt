@@ -1,7 +1,7 @@
 -- Reading the versions of a cluster's nodes from the parts of a word.
 use Rattle.gb_types.specs.Common.{◌≡◌, ◌↔◌, ℕ, ◌+◌, ◌<◌, ◌≤◌, false, inl, inr, eqb, List, [], ◌∷◌, ◌++◌, map, length, take, replicate, set, get_or, Option, Some, None, decimal, refl, sym, ap, subst, ◌∙◌, arith, All, join_with_byte, cases_eq, cases_lt, take_more_set, map-append, take_all, take_more, same_lists, get_or-set_same, get_or-set_other, get_or-replicate, get_or_past, get_or_default, get_or-take, length-map, length-take-le, length-set, limits_of, version_at, version_named}
 use Rattle.std.proofs.{lemmas.Fmt.decimal_injective, lemmas.Fmt.decimal_is_IsNumeral, lemmas.List.get_or-map, lemmas.List.Splits.slice_split_none, lemmas.List.Splits.slice_split_at, lemmas.List.Splits.join_with_byte-slice_split}
-use Rattle.gb_types.specs.declared.{limits.TheConstants.NODES, version.Version.Version, version.Version.TheVariants.One, version.Version.TheVariants.Two, version.Version.TheVariants.Three}
+use Rattle.gb_types.specs.declared.{limits.TheConstants.NODES, version.Version.Version, version.Version.TheVariants.One, version.Version.TheVariants.Two, version.Version.TheVariants.Three, version.Version.TheVariants.Four}
 use Rattle.gb_spelling.proofs.MembersLemmas.{parts_of, lacks}
 use Rattle.gb_types.proofs.ReadLemmas.{Reads, found, only, reads_one, some_same}
 use Rattle.gb_types.proofs.VersionLemmas.{byte_of_named, named_by_byte}
@@ -15,6 +15,7 @@ pub byte_is_small : (v : Version) → (limits_of v).byte ≤ 255
 byte_is_small One = omega arith
 byte_is_small Two = omega arith
 byte_is_small Three = omega arith
+byte_is_small Four = omega arith
 
 -- versions with one number are equal
 pub same_version : (v w : Version) → number v ≡ number w → v ≡ w
