@@ -1,7 +1,7 @@
 -- Sets of the nodes that pass a test.
-use Rattle.gb_types.specs.Common.{◌≡◌, ℕ, ◌+◌, ◌<◌, Bool, true, false, ◌&&◌, ◌||◌, nat_eq, nat_lt, refl, ap, sym, ◌∙◌, arith, not, nat_le, get_or, List, nat_cmp, nat_tests, and-false, or-false, below}
+use Rattle.gb_types.specs.Common.{◌≡◌, ℕ, ◌+◌, ◌<◌, Bool, true, false, ◌&&◌, ◌||◌, nat_eq, nat_lt, refl, ap, sym, ◌∙◌, arith, not, nat_le, get_or, List, Option, nat_cmp, nat_tests, and-false, or-false, below}
 use Rattle.std.specs.FinSet as set
-use Rattle.std.specs.{FinSet.nat_cmp-IsAntisymmetric, Cmp.nat_cmp_total}
+use Rattle.std.specs.{FinSet.nat_cmp-IsAntisymmetric, Cmp.nat_cmp_total, Cmp.unsigned_tied}
 use Rattle.gb_types.proofs.{InsertedLemmas.contains-insert, PlaceLemmas.any-below, BoolLemmas.or_swap}
 use Rattle.gb_detect.specs.Watch.{nodes_where, is_due}
 
@@ -84,9 +84,13 @@ pub nodes_where-grown : (n : ℕ) (s : set.FinSet nat_cmp) (p : ℕ → Bool) �
 nodes_where-grown n s p kept = nodes_where-union n s p ∙ (ap (λ t. set.union t (nodes_where n p)) kept ∙ ap (set.union s) (sym (nodes_where-twice n p)))
 
 -- what a tick would notice, told from the set that stands behind the noticed one
-pub is_due-inside : (me n s : ℕ) (silences : List ℕ) (behind : set.FinSet nat_cmp) (b : ℕ) → b < n
-    → is_due (record { me = me; nodes = n; silence = s; silences = silences; noticed = nodes_where n (set.contains behind) }) b
-    ≡ (not (nat_eq b me) && (not (set.contains behind b) && nat_le s (get_or silences b 0 + 1)))
-is_due-inside me n s silences behind b lt =
+pub is_due-inside : (me n s ticks : ℕ) (withdraws : Bool) (silences : List ℕ) (newest : List (Option ℕ)) (flags behind : set.FinSet nat_cmp) (b : ℕ) → b < n
+    → is_due (record { me = me; nodes = n; silence = s; withdraws = withdraws; ticks = ticks; silences = silences; newest = newest; flagged = nodes_where n (set.contains flags); noticed = nodes_where n (set.contains behind) }) b
+    ≡ (not (nat_eq b me) && (not (set.contains behind b) && (nat_le s (get_or silences b 0 + 1) || set.contains flags b)))
+is_due-inside me n s ticks withdraws silences newest flags behind b lt =
     let inside : nat_lt b n ≡ true = grind (arith, nat_tests) in
-    ap (λ v. not (nat_eq b me) && (not v && nat_le s (get_or silences b 0 + 1))) (contains-nodes_where n (set.contains behind) b ∙ ap (λ v. v && set.contains behind b) inside)
+    let here : (t : set.FinSet nat_cmp) → set.contains (nodes_where n (set.contains t)) b ≡ set.contains t b = λ t. contains-nodes_where n (set.contains t) b ∙ ap (λ v. v && set.contains t b) inside in
+    λ i. not (nat_eq b me) && (not (here behind i) && (nat_le s (get_or silences b 0 + 1) || here flags i))
+
+pub contains-removed : (s : set.FinSet nat_cmp) (n q : ℕ) → set.contains (set.remove s n) q ≡ (not (nat_eq q n) && set.contains s q)
+contains-removed s n q = set.contains-remove nat_cmp_total s n q ∙ ap (λ b. not b && set.contains s q) (unsigned_tied q n)

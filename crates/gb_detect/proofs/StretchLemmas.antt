@@ -1,5 +1,6 @@
 -- A node is noticed if and only if it has a silent stretch.
-use Rattle.gb_types.specs.Common.{◌≡◌, ◌↔◌, ℕ, ◌≤◌, true, false, ◌||◌, nat_eq, List, [], ◌∷◌, ◌++◌, count_by, refl, ap, ◌∙◌, arith, zero, suc, IsTrue, list_any, nat_tests, or-true}
+use Rattle.gb_types.specs.Common.{◌≡◌, ◌↔◌, ℕ, ◌≤◌, true, false, ◌||◌, nat_eq, List, [], ◌∷◌, ◌++◌, count_by, refl, ap, ◌∙◌, arith, zero, suc, IsTrue, list_any, nat_tests, or-true, Option}
+use Rattle.gb_types.specs.declared.pulse.Pulse.{Pulse}
 use Rattle.gb_detect.specs.Silence.{Call, Heard, Tick, is_heard, is_tick, is_silent, is_noticed, SilentStretch}
 use Rattle.gb_detect.proofs.TickLemmas.{ticks_since, ticks_since-tick, ticks_since-other, ticks_since-heard, count-cons, silent-noticed}
 use Rattle.gb_types.proofs.BoolLemmas.{or_left, or_right}
@@ -21,12 +22,12 @@ front-tick s b calls f = record {
   unheard = f.unheard;
 }
 
-front-other : (s b c : ℕ) (calls : List Call) → nat_eq c b ≡ false → Front s b calls → Front s b (Heard c ∷ calls)
-front-other s b c calls other f = record {
-  stretch = Heard c ∷ f.stretch;
+front-other : (s b c : ℕ) (pulse : Option Pulse) (calls : List Call) → nat_eq c b ≡ false → Front s b calls → Front s b (Heard c pulse ∷ calls)
+front-other s b c pulse calls other f = record {
+  stretch = Heard c pulse ∷ f.stretch;
   earlier = f.earlier;
-  parts = ap (λ xs. Heard c ∷ xs) f.parts;
-  long = let more = count-cons (Heard c) f.stretch in let long = f.long in omega (arith, more, long);
+  parts = ap (λ xs. Heard c pulse ∷ xs) f.parts;
+  long = let more = count-cons (Heard c pulse) f.stretch in let long = f.long in omega (arith, more, long);
   unheard = ap (λ v. v || list_any (is_heard b) f.stretch) other ∙ f.unheard;
 }
 
@@ -35,10 +36,10 @@ front : (s b : ℕ) (calls : List Call) → s ≤ ticks_since b calls → Front 
 front zero b calls h = record { stretch = []; earlier = calls; parts = refl; long = refl; unheard = refl }
 front (suc s) b [] h = absurd (omega arith)
 front (suc s) b (Tick ∷ calls) h = front-tick s b calls (front s b calls (let more = ticks_since-tick b calls in omega (arith, more, h)))
-front (suc s) b (Heard c ∷ calls) h =
-    elim (nat_eq c b) as (λ v. nat_eq c b ≡ v → Front (suc s) b (Heard c ∷ calls)) [
-      | true ↦ λ e. let none = ticks_since-heard b c calls e in absurd (omega (arith, none, h))
-      | false ↦ λ e. front-other (suc s) b c calls e (front (suc s) b calls (let rest = ticks_since-other b c calls e in omega (arith, rest, h)))
+front (suc s) b (Heard c pulse ∷ calls) h =
+    elim (nat_eq c b) as (λ v. nat_eq c b ≡ v → Front (suc s) b (Heard c pulse ∷ calls)) [
+      | true ↦ λ e. let none = ticks_since-heard b c pulse calls e in absurd (omega (arith, none, h))
+      | false ↦ λ e. front-other (suc s) b c pulse calls e (front (suc s) b calls (let rest = ticks_since-other b c pulse calls e in omega (arith, rest, h)))
     ] refl
 
 silent-stretch : (s b : ℕ) (calls : List Call) → is_silent s b calls ≡ true → SilentStretch s b calls
@@ -66,9 +67,9 @@ stretch_ticks b (Tick ∷ stretch) earlier h =
     let count = count-cons Tick stretch in
     let rest = stretch_ticks b stretch earlier h in
     omega (arith, more, count, rest)
-stretch_ticks b (Heard c ∷ stretch) earlier h =
-    let other = ticks_since-other b c (stretch ++ earlier) (or_left (nat_eq c b) _ h) in
-    let count = count-cons (Heard c) stretch in
+stretch_ticks b (Heard c pulse ∷ stretch) earlier h =
+    let other = ticks_since-other b c pulse (stretch ++ earlier) (or_left (nat_eq c b) _ h) in
+    let count = count-cons (Heard c pulse) stretch in
     let rest = stretch_ticks b stretch earlier (or_right (nat_eq c b) _ h) in
     omega (arith, other, count, rest)
 
