@@ -217,18 +217,25 @@ impl Table {
         Some(own)
     }
 
+    // Returns true if `token` is the token of the address's member at this node, and is kept at `place`.
+    fn is_kept_token(&self, token: &Token, addr: Addr, place: Option<usize>) -> bool
+        ensures { result ≡ true → is_by_tenant addr.tenant (Need.Member addr.tenant addr.group self.now.me) token.now self.now ≡ true }
+    {
+        match self.kept_token(addr, place) {
+            Some(own) => is_kept(token, own),
+            None => false,
+        }
+    }
+
     /// Returns true if `token` is the token of the address's member at this node. That token is looked up at `place`; if it is
     /// not there, or is another, it is computed. So each token that is not the right one takes as long.
     fn is_member(&self, token: &Token, addr: Addr, place: Option<usize>) -> bool
         ensures { result ≡ is_by_tenant addr.tenant (Need.Member addr.tenant addr.group self.now.me) token.now self.now }
     {
-        if let Some(own) = self.kept_token(addr, place)
-            && is_kept(token, own)
-        {
-            return true;
-        }
-        self.tenants
-            .admits(addr.tenant, self.as_member(addr), token)
+        self.is_kept_token(token, addr, place)
+            || self
+                .tenants
+                .admits(addr.tenant, self.as_member(addr), token)
     }
 
     /// Keeps the token of the address's member at this node, if the tenant is here and there is memory for the token.
