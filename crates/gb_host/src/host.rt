@@ -4,7 +4,7 @@ ghost use Rattle.std.specs.FinSet as set;
 ghost use Rattle.gb_types.specs.declared.limits.TheConstants.{NODES};
 ghost use Rattle.gb_host.specs.Happened.{ArePastsTo, GoesOn};
 ghost use Rattle.gb_host.specs.HostValue.{AreHere, AreNew, AreOpened, IsOpened, IsRefused};
-ghost use Rattle.gb_host.specs.Listed.{IsListed};
+ghost use Rattle.gb_host.specs.Listed.{IsListed, IsSuspected};
 ghost use Rattle.gb_host.specs.Nothing.{is_no_event, WasNoEvent};
 ghost use Rattle.gb_host.specs.Begun.{AreBegun, pasts_begun};
 ghost use Rattle.gb_host.specs.Pasts.{AreBlank, book_at, books_of};
@@ -243,6 +243,24 @@ impl<L: Tapes> Host<L> {
             never(rt);
         }
         Some(hosted.list(token, from, most))
+    }
+
+    /// Returns the nodes that a node suspects, as `Node::suspected` does. That is no event: nothing changes, and it stands in no past
+    /// and no tape. Returns `None` if the node is not here.
+    pub fn suspected<R: Wait>(&self, rt: &R, node: NodeId) -> Option<NodeSet>
+        ensures none { result ≡ None → set.contains self.now.here node.number ≡ false }
+        ensures some { IfSome result (λ found. (set.contains self.now.here node.number ≡ true) × IsSuspected L.plan node found) }
+    {
+        let is_here = self.here.contains(node);
+        if !is_here {
+            return None;
+        }
+        let lock = self.lock_of(rt, node).lock(rt);
+        let hosted: &Hosted<L> = &lock;
+        if hosted.me().number != node.number {
+            never(rt);
+        }
+        Some(hosted.suspected())
     }
 
     // Returns the lock at the place of a node that is here.

@@ -4,7 +4,7 @@ ghost use Rattle.gb_node.specs.Common.{IsTurn, IsSpelt};
 ghost use Rattle.gb_host.specs.Happened.{GoesOn};
 ghost use Rattle.gb_host.specs.HostValue.{IsUnkept};
 ghost use Rattle.gb_host.specs.KeptPast.{kept_entries, IsKeptAt};
-ghost use Rattle.gb_host.specs.Listed.{IsListed};
+ghost use Rattle.gb_host.specs.Listed.{IsListed, IsSuspected};
 ghost use Rattle.gb_host.specs.Nothing.{is_no_event, is_vain, WasNoEvent};
 ghost use Rattle.gb_host.specs.Pasts.{book_at};
 ghost use Rattle.gb_host.specs.Plans.{is_kept};
@@ -23,7 +23,7 @@ use gb_cap::Token;
 use gb_node::past::pasts_say;
 use gb_node::{Node, NodeAnswer, NodeEvent, PacketAnswer, Sent, Tape};
 use gb_table::Listing;
-use gb_types::{NodeId, Refusal, Reply};
+use gb_types::{NodeId, NodeSet, Refusal, Reply};
 use std::alloc::Global;
 use std::marker::Model;
 use std::sync::Wait;
@@ -120,6 +120,13 @@ impl<L: Tapes> Hosted<L> {
         ensures { IsListed L.plan self.now.me token.now from most result }
     {
         self.node.list(token, from, most)
+    }
+
+    /// Returns the nodes that the node suspects, as `Node::suspected` does.
+    pub fn suspected(&self) -> NodeSet
+        ensures { IsSuspected L.plan self.now.me result }
+    {
+        self.node.suspected()
     }
 
     /// Returns which node it is.

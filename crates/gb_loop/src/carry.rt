@@ -22,17 +22,32 @@ pub const FRAMES: usize = 64;
 const _: () = prove!(FRAMES == 64 && PACKETS == 64);
 
 impl<'a, L: Tapes, H: Wait + Clock, P: Port, S: Settle + Copy> NodeLoop<'a, L, H, P, S> {
-    // Returns the node with this number, if it is another one and this one has not noticed it: to one that was noticed nothing is sent any
-    // more, so that it notices this one in turn.
-    fn other(&self, number: u8) -> Option<NodeId> {
+    // Returns the node with this number, if it is another one.
+    fn another(&self, number: u8) -> Option<NodeId> {
         if number == self.mail.origin.node.number || usize::from(number) >= NODES {
             return None;
         }
-        let other = NodeId::new(number);
+        Some(NodeId::new(number))
+    }
+
+    // Returns the node with this number, if it is another one and this one does not suspect it: to one that is suspected no frame is sent.
+    fn other(&self, number: u8) -> Option<NodeId> {
+        let other = self.another(number)?;
         if self.noticed.contains(other) {
             None
         } else {
             Some(other)
+        }
+    }
+
+    // Returns the node with this number, if it is another one that is sent signs of life. Where suspicions are for good nothing is sent any more
+    // to a node that is suspected, so that it notices this one in turn. Where they are taken back, acknowledgements go on: they say that
+    // the node is silent here.
+    fn kept(&self, number: u8) -> Option<NodeId> {
+        if self.withdraws {
+            self.another(number)
+        } else {
+            self.other(number)
         }
     }
 
@@ -72,6 +87,21 @@ impl<'a, L: Tapes, H: Wait + Clock, P: Port, S: Settle + Copy> NodeLoop<'a, L, H
         self.may_tick = have_all;
     }
 
+    // A packet of a node that is suspected came. If it is suspected no more, its link opens again.
+    fn hear_again(&mut self, from: NodeId)
+        ensures origin { self.new.mail.origin ≡ self.old.mail.origin }
+    {
+        if !self.withdraws || !self.noticed.contains(from) || self.mail.suspected().contains(from) {
+            return;
+        }
+        self.noticed.remove(from);
+        let mut link = self.link(from);
+        link.opened(self.now);
+        self.set_link(from, link);
+        self.is_dirty = true;
+        self.mail.count_heard_again();
+    }
+
     // A good packet came.
     fn heed(&mut self, good: Good, hint: Hint)
         ensures origin { self.new.mail.origin ≡ self.old.mail.origin }
@@ -79,6 +109,7 @@ impl<'a, L: Tapes, H: Wait + Clock, P: Port, S: Settle + Copy> NodeLoop<'a, L, H
         let from = good.from;
         let has_frame = good.frame != Frame::Nothing;
         self.hear_of(from);
+        self.hear_again(from);
         let mut link = self.link(from);
         link.done(u64::from(good.done), self.now);
         link.owes = link.owes || has_frame;
@@ -180,11 +211,11 @@ impl<'a, L: Tapes, H: Wait + Clock, P: Port, S: Settle + Copy> NodeLoop<'a, L, H
     {
         let now = self.now;
         let mut link = self.link(to);
-        if link.open > 0 && link.again_at <= now {
+        if link.open > 0 && link.again_at <= now && !self.noticed.contains(to) {
             if self.mail.send(NodeEvent::Again { to, frame: 0 }, to) {
                 link.sent(now);
             } else if !self.mail.is_short {
-                // No frame is open: the other node is noticed.
+                // No frame is open.
                 link.open = 0;
             }
             link.repeated(now);
@@ -201,7 +232,7 @@ impl<'a, L: Tapes, H: Wait + Clock, P: Port, S: Settle + Copy> NodeLoop<'a, L, H
         ensures origin { self.new.mail.origin ≡ self.old.mail.origin }
     {
         'nodes: for number in 0..self.nodes {
-            if let Some(to) = self.other(number) {
+            if let Some(to) = self.kept(number) {
                 self.keep_link(to);
             }
         }
@@ -222,8 +253,13 @@ impl<'a, L: Tapes, H: Wait + Clock, P: Port, S: Settle + Copy> NodeLoop<'a, L, H
             .min(self.crowd.due_at())
             .min(self.sources.due_at());
         'nodes: for number in 0..self.nodes {
-            if let Some(to) = self.other(number) {
-                next = next.min(self.link(to).due_at(self.options.beat));
+            if let Some(to) = self.kept(number) {
+                let link = self.link(to);
+                next = next.min(if self.noticed.contains(to) {
+                    link.ack_at(self.options.beat)
+                } else {
+                    link.due_at(self.options.beat)
+                });
             }
         }
         next.saturating_sub(self.now)

@@ -85,6 +85,17 @@ impl Link {
         self.sent(now);
     }
 
+    /// Notes that the node is heard again: frames may be open since before, so the lowest is sent again at once, and an acknowledgement tells
+    /// the node that it is heard. If no frame is open, the first attempt to send one again shows it.
+    pub fn opened(&mut self, now: u64) {
+        self.open = ROOM_MOST;
+        self.patience = AGAIN;
+        self.again_at = now;
+        self.repaired = 0;
+        self.timed = 0;
+        self.owes = true;
+    }
+
     /// Notes that something was sent, which acknowledges what came.
     pub fn sent(&mut self, now: u64) {
         self.owes = false;
@@ -166,6 +177,11 @@ impl Link {
             self.patience = self.patience.saturating_mul(2).min(most);
         }
         self.again_at = now.saturating_add(self.patience);
+    }
+
+    /// Returns the time of the next sign of life if nothing happens before: `beat` microseconds after the last packet.
+    pub fn ack_at(&self, beat: u64) -> u64 {
+        self.sent_at.saturating_add(beat)
     }
 
     /// Returns the time at which something is to be done for the link if nothing happens before: a frame sent again, or a sign of life

@@ -89,7 +89,9 @@ pub struct NodeLoop<'a, L: Tapes, H, P: Port, S> {
     pub(crate) open: u64,
     pub(crate) is_served: bool,
     pub(crate) has_ticked: bool,
-    // The nodes that this one noticed.
+    // Whether suspicions are taken back at this node.
+    pub(crate) withdraws: bool,
+    // The nodes that this one suspects, as far as it is known here.
     pub(crate) noticed: NodeSet,
     // Time passes at the node. It waits for the other nodes to be heard of, and these were.
     pub(crate) may_tick: bool,
@@ -137,6 +139,7 @@ impl<'a, L: Tapes, H: Wait + Clock, P: Port, S: Settle + Copy> NodeLoop<'a, L, H
         let Ok(links) = new_links(alloc, nodes) else {
             return Err(mail);
         };
+        let withdraws = mail.withdraws();
         Ok(NodeLoop {
             rt,
             settle,
@@ -163,8 +166,9 @@ impl<'a, L: Tapes, H: Wait + Clock, P: Port, S: Settle + Copy> NodeLoop<'a, L, H
             open: 0,
             is_served: false,
             has_ticked: false,
+            withdraws,
             noticed: NodeSet::new(),
-            may_tick: options.wait == 0,
+            may_tick: options.wait == 0 || withdraws,
             heard: NodeSet::new(),
             sources: Sources::new(),
         })
@@ -327,6 +331,7 @@ impl<'a, L: Tapes, H: Wait + Clock, P: Port, S: Settle + Copy> NodeLoop<'a, L, H
             open: _,
             is_served: _,
             has_ticked: _,
+            withdraws: _,
             noticed: _,
             may_tick: _,
             heard: _,

@@ -48,7 +48,13 @@ impl<'a, L: Tapes, H: Wait + Clock, P: Port, S: Settle + Copy> NodeLoop<'a, L, H
         {
             self.mail.count_tick(&answer);
             is_news = is_news || has_news(&answer);
-            self.noticed = with_noticed(&self.noticed, &answer);
+            self.noticed = if self.withdraws {
+                self.mail.suspected()
+            } else {
+                with_noticed(&self.noticed, &answer)
+            };
+            let suspected = self.noticed.count_in(&self.noticed) as u64;
+            self.mail.set(Figure::Suspected, suspected);
         }
         self.is_dirty = self.is_dirty || is_news;
         let mut waiting: u64 = 0;

@@ -18,7 +18,7 @@ use gb_node::{Good, NodeAnswer, NodeEvent, PacketAnswer, PacketText, Sent};
 use gb_port::{Port, PortFault};
 use gb_session::{Answers, Operation};
 use gb_status::{Figure, Figures};
-use gb_types::{Action, Addr, GroupCommand, NodeId, OutOfMemory, Refusal, Reply, Request};
+use gb_types::{Action, Addr, GroupCommand, NodeId, NodeSet, OutOfMemory, Refusal, Reply, Request};
 use indexmap::IndexSet;
 use std::alloc::Global;
 use std::os::fd::RawFd;
@@ -413,6 +413,27 @@ impl<'a, L: Tapes, H: Wait, P: Port> Mail<'a, L, H, P> {
             Ok(answer) => Some(answer),
             Err(_) => None,
         }
+    }
+
+    /// Returns the nodes that this node suspects now: none if the host does not have this node. Nothing changes.
+    pub fn suspected(&self) -> NodeSet {
+        match self.host.suspected(self.rt, self.origin.node) {
+            Some(suspected) => suspected,
+            None => NodeSet::new(),
+        }
+    }
+
+    /// Returns true if this node takes suspicions back: it sends packets that have its tick number.
+    pub fn withdraws(&self) -> bool {
+        let bounds = self.host.plan().cluster.bounds();
+        bounds.version_of(self.origin.node).limits().has_ticks
+    }
+
+    /// Counts that a node that was suspected was heard again.
+    pub fn count_heard_again(&mut self)
+        ensures origin { self.new.origin ≡ self.old.origin }
+    {
+        self.figures.add(Figure::HeardAgain, 1);
     }
 
     /// Counts a tick by its answer.

@@ -6,6 +6,7 @@ ghost use Rattle.gb_types.specs.declared.limits.TheConstants.{NODES as MOST, SIL
 ghost use Rattle.gb_rules.specs.declared.room.TheConstants.{ROOMS};
 ghost use Rattle.gb_frame.specs.Common.{batch_in, HasTicks, IsBatch, FitPacket, packet_of, items_text, packet_text, IsPacket, room_of, shortest_of};
 ghost use Rattle.gb_frame.specs.declared.item.Item.{Item as ItemValue};
+ghost use Rattle.gb_detect.specs.Watch.{suspected};
 ghost use Rattle.gb_link.specs.Common.{new_window, has_room, frame_again};
 ghost use Rattle.gb_table.specs.Common.{batch, NothingWaits, size, is_token, is_admitted};
 ghost use Rattle.gb_cap.specs.declared.token.Need.TheVariants.{Admin};
@@ -32,7 +33,7 @@ use gb_frame::{Head, PacketFault, PacketView};
 use gb_link::Receiver;
 use gb_table::{Listing, Table};
 use gb_types::limits::{NODES, PAYLOAD, SILENCE_MAX, SILENCE_MIN};
-use gb_types::{NodeId, OutOfMemory, Refusal, Reply, Request, Version};
+use gb_types::{NodeId, NodeSet, OutOfMemory, Refusal, Reply, Request, Version};
 use std::alloc::Global;
 use std::marker::Model;
 
@@ -250,6 +251,13 @@ impl Node {
         ensures { result ≡ is_another self.now to }
     {
         to.number < self.table.nodes() && to != self.table.me()
+    }
+
+    /// Returns the other nodes of the cluster that this one suspects now, whether it has stopped or not. Changes nothing.
+    pub fn suspected(&self) -> NodeSet
+        ensures { result ≡ suspected self.now.watch }
+    {
+        self.detector.suspected()
     }
 
     /// Returns true if frames are sent to the node: it is another one of the cluster, and is not suspected.

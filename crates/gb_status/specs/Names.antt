@@ -1,7 +1,7 @@
 -- The names of a node's figures, and how they stand in a text. Source: the text exposition format 0.0.4 of Prometheus.
 use Rattle.std.specs.Prelude.{ℕ, List, [], ◌++◌, ◌∷◌, codes}
 use Rattle.gb_status.specs.declared.figure.Figure.{Figure}
-use Rattle.gb_status.specs.declared.figure.Figure.TheVariants.{RequestsTenant, RequestsMake, RequestsOpen, RequestsShut, RequestsDrop, RequestsSay, RequestsFetch, RefusedDenied, RefusedNoGroup, RefusedSpent, RefusedBadMembers, RefusedOverReserve, RefusedWrongPhase, RefusedTooLong, RefusedBudget, RefusedBytes, RefusedWindow, RefusedBadPlace, RefusedNoRoom, RefusedTenantThere, RefusedMalformed, RefusedStopped, RefusedOutOfMemory, Said, Fetched, GroupsMade, GroupsDropped, FramesPacked, FramesAgain, Acknowledgements, PacketsBare, PacketsFirst, PacketsSeen, PacketsOutside, Items, FaultShort, FaultMagic, FaultVersion, FaultNode, FaultMask, FaultCount, FaultLength, FaultTrailing, FaultTooLong, FaultTag, Lost, PortFailures, Strangers, Unreached, Noticed, Ticks, Accepted, TurnedAway, Open, Waiting, PlacesLeft, Running}
+use Rattle.gb_status.specs.declared.figure.Figure.TheVariants.{RequestsTenant, RequestsMake, RequestsOpen, RequestsShut, RequestsDrop, RequestsSay, RequestsFetch, RefusedDenied, RefusedNoGroup, RefusedSpent, RefusedBadMembers, RefusedOverReserve, RefusedWrongPhase, RefusedTooLong, RefusedBudget, RefusedBytes, RefusedWindow, RefusedBadPlace, RefusedNoRoom, RefusedTenantThere, RefusedMalformed, RefusedStopped, RefusedOutOfMemory, Said, Fetched, GroupsMade, GroupsDropped, FramesPacked, FramesAgain, Acknowledgements, PacketsBare, PacketsFirst, PacketsSeen, PacketsOutside, Items, FaultShort, FaultMagic, FaultVersion, FaultNode, FaultMask, FaultCount, FaultLength, FaultTrailing, FaultTooLong, FaultTag, Lost, PortFailures, Strangers, Unreached, Noticed, Ticks, Accepted, TurnedAway, Open, Waiting, PlacesLeft, Running, Suspected, HeardAgain}
 
 abbrev pub quote : List ℕ
 quote = 34 ∷ []
@@ -68,6 +68,8 @@ place_of Open = 53
 place_of Waiting = 54
 place_of PlacesLeft = 55
 place_of Running = 56
+place_of Suspected = 57
+place_of HeardAgain = 58
 
 -- the name of a figure in the reply to `status`
 abbrev pub word_of : Figure → List ℕ
@@ -128,6 +130,8 @@ word_of Open = codes "connections_open"
 word_of Waiting = codes "connections_waiting"
 word_of PlacesLeft = codes "places_left"
 word_of Running = codes "running"
+word_of Suspected = codes "nodes_suspected"
+word_of HeardAgain = codes "nodes_heard_again"
 
 -- the name of a figure in the text that Prometheus reads
 abbrev pub family_of : Figure → List ℕ
@@ -188,6 +192,8 @@ family_of Open = codes "foqradesh_connections_open"
 family_of Waiting = codes "foqradesh_connections_waiting"
 family_of PlacesLeft = codes "foqradesh_places_left"
 family_of Running = codes "foqradesh_node_running"
+family_of Suspected = codes "foqradesh_nodes_suspected"
+family_of HeardAgain = codes "foqradesh_nodes_heard_again_total"
 
 -- what stands behind the node in that text's braces
 abbrev pub label_of : Figure → List ℕ
@@ -248,6 +254,8 @@ label_of Open = []
 label_of Waiting = []
 label_of PlacesLeft = []
 label_of Running = []
+label_of Suspected = []
+label_of HeardAgain = []
 
 -- the lines that stand above a name's first figure, and nothing for its others
 abbrev pub head_of : Figure → List ℕ
@@ -308,3 +316,5 @@ head_of Open = codes "# HELP foqradesh_connections_open Connections open at the 
 head_of Waiting = codes "# HELP foqradesh_connections_waiting Connections whose await waited at the last tick." ++ line_feed ++ codes "# TYPE foqradesh_connections_waiting gauge" ++ line_feed
 head_of PlacesLeft = codes "# HELP foqradesh_places_left Places for groups that no tenant has reserved." ++ line_feed ++ codes "# TYPE foqradesh_places_left gauge" ++ line_feed
 head_of Running = codes "# HELP foqradesh_node_running Whether the loop of the node runs: 1 or 0." ++ line_feed ++ codes "# TYPE foqradesh_node_running gauge" ++ line_feed
+head_of Suspected = codes "# HELP foqradesh_nodes_suspected Other nodes that are suspected now." ++ line_feed ++ codes "# TYPE foqradesh_nodes_suspected gauge" ++ line_feed
+head_of HeardAgain = codes "# HELP foqradesh_nodes_heard_again_total How often a node that was suspected was heard again." ++ line_feed ++ codes "# TYPE foqradesh_nodes_heard_again_total counter" ++ line_feed

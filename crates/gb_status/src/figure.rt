@@ -4,10 +4,10 @@ ghost use Rattle.gb_status.specs.Names.{head_of, label_of, family_of, place_of, 
 ghost use Rattle.gb_status.specs.declared.figure.TheConstants.{COUNT};
 
 /// The number of figures of a node.
-pub const COUNT: usize = 57;
+pub const COUNT: usize = 59;
 
 // Definitions cite this value.
-const _: () = prove!(COUNT == 57);
+const _: () = prove!(COUNT == 59);
 
 /// A figure of a node. The last four are gauges; each other one is a count from the server's start.
 #[derive(Clone, Copy, Debug, PartialEq, Eq)]
@@ -126,6 +126,10 @@ pub enum Figure {
     PlacesLeft,
     /// 1 while the loop of the node runs, 0 before it begins and after it ended.
     Running,
+    /// Other nodes that are suspected now.
+    Suspected,
+    /// How often a node that was suspected was heard again.
+    HeardAgain,
 }
 
 /// Every figure, in the order in which they are written.
@@ -187,10 +191,12 @@ pub const FIGURES: [Figure; COUNT] = [
     Figure::Waiting,
     Figure::PlacesLeft,
     Figure::Running,
+    Figure::Suspected,
+    Figure::HeardAgain,
 ];
 
 impl Figure {
-    /// Returns the index of this figure in a table of all figures, below 57.
+    /// Returns the index of this figure in a table of all figures, below 59.
     pub fn place(self) -> usize
         ensures is { result ≡ place_of self }
         ensures bound { result < COUNT }
@@ -260,6 +266,8 @@ impl Figure {
             Figure::Waiting => b"connections_waiting",
             Figure::PlacesLeft => b"places_left",
             Figure::Running => b"running",
+            Figure::Suspected => b"nodes_suspected",
+            Figure::HeardAgain => b"nodes_heard_again",
         }
     }
 
@@ -326,6 +334,8 @@ impl Figure {
             Figure::Waiting => b"foqradesh_connections_waiting",
             Figure::PlacesLeft => b"foqradesh_places_left",
             Figure::Running => b"foqradesh_node_running",
+            Figure::Suspected => b"foqradesh_nodes_suspected",
+            Figure::HeardAgain => b"foqradesh_nodes_heard_again_total",
         }
     }
 
@@ -392,6 +402,8 @@ impl Figure {
             Figure::Waiting => b"",
             Figure::PlacesLeft => b"",
             Figure::Running => b"",
+            Figure::Suspected => b"",
+            Figure::HeardAgain => b"",
         }
     }
 
@@ -482,6 +494,10 @@ impl Figure {
                 b"# HELP foqradesh_places_left Places for groups that no tenant has reserved.\n# TYPE foqradesh_places_left gauge\n",
             Figure::Running =>
                 b"# HELP foqradesh_node_running Whether the loop of the node runs: 1 or 0.\n# TYPE foqradesh_node_running gauge\n",
+            Figure::Suspected =>
+                b"# HELP foqradesh_nodes_suspected Other nodes that are suspected now.\n# TYPE foqradesh_nodes_suspected gauge\n",
+            Figure::HeardAgain =>
+                b"# HELP foqradesh_nodes_heard_again_total How often a node that was suspected was heard again.\n# TYPE foqradesh_nodes_heard_again_total counter\n",
         }
     }
 }
