@@ -45,7 +45,7 @@ still_moved key e a v w still key_is me nodes version places admin_key room stop
   admin_key = admin_key;
   room = room;
   stopped = stopped;
-  watch = watch ∙ ap (replay v.watch) (sym (append-nil (ticks e a)) ∙ ap (λ cs. ticks e a ++ map (λ (c : Content). Heard c.from) cs) (sym still.none_came));
+  watch = watch ∙ ap (replay v.watch) (sym (append-nil (ticks e a)) ∙ ap (λ cs. ticks e a ++ map (λ (c : Content). Heard c.from (pulse_of c)) cs) (sym still.none_came));
   tenants = tenants;
   next = λ b. let e0 = ap length (still.none_packed b.number) in let same = ap (λ ws. (slice_index_or ws b.number new_window).next) windows in omega (arith, e0, same);
   undone = λ b.

@@ -6,7 +6,7 @@ use Rattle.gb_rules.specs.Common.{is_over_limits}
 use Rattle.gb_frame.specs.declared.{fault.PacketFault.PacketFault, fault.PacketFault.TheVariants.Node, item.Item.Item}
 use Rattle.gb_frame.specs.Common.{Content, reading, packet_text, IsPacket, WhatIsWrittenIsRead, items_for}
 use Rattle.gb_link.specs.Common.{SendWindow, new_window, pushed}
-use Rattle.gb_detect.specs.{Watch.due, Silence.is_noticed, Laws.NoticedByCalls}
+use Rattle.gb_detect.specs.{Watch.due, Silence.is_noticed, Laws.SuspectedByCalls}
 use Rattle.gb_slot.specs.Common.{shown}
 use Rattle.gb_table.specs.Common.{no_groups, group_in, waiting_in, AreInOrder, EachGroup, EachCount, StayInOrder, others_living, admitted_reply, table_reply}
 use Rattle.gb_node.specs.NodeValue.{NodeValue, new_node, IsNodePlan}
@@ -42,7 +42,7 @@ record Goes (plan : NodePlan) (past : List Happened) (v : NodeValue) (e : NodeEv
   living : (g : Addr) → others_living g w.table.groups.rows ≡ living_after g e a (others_living g v.table.groups.rows)
   told : (g : Addr) → IsTold plan.me (group_after plan g past e a (group_of plan g past)) (told_after plan g past e a (told_of plan g past))
 
-module _ (law : WhatIsWrittenIsRead) (each : EachGroup) (count : EachCount) (stay : StayInOrder) (slots : SlotLaws) (few : NoticedByCalls) (plan : NodePlan) (right : IsNodePlan plan) (past : List Happened) (v : NodeValue) (was : StandsForPast plan past v) (has : HasTables v) (order : AreInOrder v.table.groups) (limits : AreWithinLimits v.table.tenants) where
+module _ (law : WhatIsWrittenIsRead) (each : EachGroup) (count : EachCount) (stay : StayInOrder) (slots : SlotLaws) (few : SuspectedByCalls) (plan : NodePlan) (right : IsNodePlan plan) (past : List Happened) (v : NodeValue) (was : StandsForPast plan past v) (has : HasTables v) (order : AreInOrder v.table.groups) (limits : AreWithinLimits v.table.tenants) where
   -- a group that an event leaves is told nothing
   left : (g : Addr) (e : NodeEvent) (a : NodeAnswer) → LeavesGroup plan g past e a → IsTold plan.me (group_after plan g past e a (group_of plan g past)) (told_after plan g past e a (told_of plan g past))
   left g e a leaves = subst (λ o. IsTold plan.me o (told_after plan g past e a (told_of plan g past))) (leaves.0 (group_of plan g past)) (subst (IsTold plan.me (group_of plan g past)) (leaves.1 (told_of plan g past)) (was.told g))
@@ -215,7 +215,7 @@ unfolding ComesTo
 started plan [] v comes = comes.0
 started plan (h ∷ past) v comes = started plan past comes.0 comes.1
 
-module _ (law : WhatIsWrittenIsRead) (each : EachGroup) (count : EachCount) (stay : StayInOrder) (slots : SlotLaws) (few : NoticedByCalls) (plan : NodePlan) where
+module _ (law : WhatIsWrittenIsRead) (each : EachGroup) (count : EachCount) (stay : StayInOrder) (slots : SlotLaws) (few : SuspectedByCalls) (plan : NodePlan) where
   pub stands : (past : List Happened) (v : NodeValue) → ComesTo plan past v → Standing plan past v
   unfolding ComesTo
   stands [] v comes = subst (Standing plan []) (sym comes.1) (record { says = new_says plan; tables = record { windows = refl; receivers = refl }; order = no_groups_order; limits = λ k d l. absurd (omega (arith, l)) })
@@ -238,5 +238,5 @@ of_past slots plan past v was = record {
   living = was.living;
 }
 
-pub pasts_say : WhatIsWrittenIsRead → EachGroup → EachCount → StayInOrder → SlotLaws → NoticedByCalls → PastsSay
+pub pasts_say : WhatIsWrittenIsRead → EachGroup → EachCount → StayInOrder → SlotLaws → SuspectedByCalls → PastsSay
 pasts_say law each count stay slots few plan past v comes = of_past slots plan past v (stands law each count stay slots few plan past v comes).says

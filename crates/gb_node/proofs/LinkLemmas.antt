@@ -153,7 +153,7 @@ module _ (v : NodeValue) (bytes : List ℕ) (c : Content) (is : reading v.key by
     admin_key = kept.admin_key;
     room = refl;
     stopped = refl;
-    watch = ap (λ cs. replay v.watch ([] ++ map (λ (c : Content). Heard c.from) cs)) (sym one);
+    watch = ap (λ cs. replay v.watch ([] ++ map (λ (c : Content). Heard c.from (pulse_of c)) cs)) (sym one);
     tenants = kept.tenants ∙ sym (append-nil v.table.tenants);
     next = next_is;
     undone = λ b. undone_is b ∙ (sym (append-nil _) ∙ ap (λ cs. filter (λ u. not (list_any (is_ack b.number u.0) cs)) ((window_to v b.number).undone) ++ []) (sym one));

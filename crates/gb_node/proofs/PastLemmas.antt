@@ -97,7 +97,7 @@ pub record Moved (key : List ℕ) (e : NodeEvent) (a : NodeAnswer) (v w : NodeVa
   pub admin_key : w.table.admin_key ≡ v.table.admin_key
   pub room : w.room ≡ v.room
   pub stopped : w.stopped ≡ (stops e a || v.stopped)
-  pub watch : w.watch ≡ replay v.watch (ticks e a ++ map (λ (c : Content). Heard c.from) (came key e a))
+  pub watch : w.watch ≡ replay v.watch (ticks e a ++ map (λ (c : Content). Heard c.from (pulse_of c)) (came key e a))
   pub tenants : w.table.tenants ≡ v.table.tenants ++ added e a
   pub next : (b : NodeId) → (window_to w b.number).next ≡ (window_to v b.number).next + length (packed_for key b.number e a)
   pub undone : (b : NodeId) → (window_to w b.number).undone ≡ filter (λ u. not (list_any (is_ack b.number u.0) (came key e a))) ((window_to v b.number).undone) ++ numbered ((window_to v b.number).next) (packed_for key b.number e a)
@@ -123,8 +123,8 @@ moved_says plan past e a v w was step groups told living =
         admin_key = step.admin_key ∙ beside.admin_key;
         room = step.room ∙ beside.room;
         stopped = step.stopped ∙ ap (λ t. stops e a || t) beside.stopped;
-        watch = step.watch ∙ (ap (λ d. replay d (ticks e a ++ map (λ (c : Content). Heard c.from) (came key e a))) beside.watch
-            ∙ sym (replay-append (start plan.me.number plan.nodes plan.silence) (ticks e a ++ map (λ (c : Content). Heard c.from) (came key e a)) (watched key past)));
+        watch = step.watch ∙ (ap (λ d. replay d (ticks e a ++ map (λ (c : Content). Heard c.from (pulse_of c)) (came key e a))) beside.watch
+            ∙ sym (replay-append (start plan.me.number plan.nodes plan.silence (limits_of plan.version).has_ticks) (ticks e a ++ map (λ (c : Content). Heard c.from (pulse_of c)) (came key e a)) (watched key past)));
         tenants = step.tenants ∙ ap (λ rows. rows ++ added e a) beside.tenants;
         next = λ b. let longer = length-append (frames_to key b.number past) (packed_for key b.number e a) in omega (arith, step.next b, beside.next b, longer);
         undone = λ b.

@@ -8,7 +8,7 @@ use Rattle.gb_frame.specs.Common.{Content, reading, unless, fault_in, content_in
 use Rattle.gb_frame.proofs.ReadingLemmas.{good}
 use Rattle.gb_link.specs.Common.{Received, admission, is_awaited}
 use Rattle.gb_link.specs.declared.receiver.Admission.TheVariants.{First, Seen, Outside}
-use Rattle.gb_detect.specs.{Silence.is_noticed, Laws.NoticedByCalls}
+use Rattle.gb_detect.specs.{Silence.is_noticed, Laws.SuspectedByCalls}
 use Rattle.gb_detect.specs.Watch.{start, replay, due, is_due}
 use Rattle.gb_detect.proofs.SetLemmas.{contains-either, contains-nodes_where}
 use Rattle.gb_rules.specs.Common.{Shown, open_answer, shut_answer, drop_answer, say_answer, fetch_answer, reserve_of, row_of, make_answer, by_tenant}
@@ -174,7 +174,7 @@ module _ (plan : NodePlan) (right : IsNodePlan plan) (past : List Happened) (v :
 -- Ticks.
 
 -- only other nodes of the cluster are noticed
-noticed_inside : NoticedByCalls → (plan : NodePlan) → IsNodePlan plan → (past : List Happened) (b : ℕ) → set.contains (noticed_after plan past) b ≡ true → (b < plan.nodes) × (b ≢ plan.me.number)
+noticed_inside : SuspectedByCalls → (plan : NodePlan) → IsNodePlan plan → (past : List Happened) (b : ℕ) → set.contains (noticed_after plan past) b ≡ true → (b < plan.nodes) × (b ≢ plan.me.number)
 noticed_inside few plan right past b there =
     other_number b plan.nodes plan.me.number (by (nat_lt b plan.nodes && not (nat_eq b plan.me.number)) (sym (few plan.me.number plan.nodes plan.silence (few_nodes plan right) right.least (watched plan.cluster_key past) b) ∙ there))
   where
@@ -195,21 +195,21 @@ unnoticed true true noticed silent e = absurd (cc)
 unnoticed true false true silent e = absurd (cc)
 unnoticed true false false silent e = refl
 
-module _ (few : NoticedByCalls) (plan : NodePlan) (right : IsNodePlan plan) (past : List Happened) (v : NodeValue) (was : IsOfPast plan past v) where
+module _ (few : SuspectedByCalls) (plan : NodePlan) (right : IsNodePlan plan) (past : List Happened) (v : NodeValue) (was : IsOfPast plan past v) where
   -- of a tick that notices these
   module _ (found : set.FinSet nat_cmp) (same : found ≡ due v.watch) where
-    found_is : found ≡ due (replay (start plan.me.number plan.nodes plan.silence) (watched plan.cluster_key past))
+    found_is : found ≡ due (replay (start plan.me.number plan.nodes plan.silence (limits_of plan.version).has_ticks) (watched plan.cluster_key past))
     found_is = same ∙ ap due was.beside.watch
 
     later : (b : ℕ) → set.contains (noticed_after plan (record { event = Tick; answer = Ticked (Noticed found) } ∷ past)) b ≡ (set.contains found b || set.contains (noticed_after plan past) b)
     unfolding watched
     later b =
-        contains-either (noticed_after plan past) (due (replay (start plan.me.number plan.nodes plan.silence) (watched plan.cluster_key past))) b
+        contains-either (noticed_after plan past) (due (replay (start plan.me.number plan.nodes plan.silence (limits_of plan.version).has_ticks) (watched plan.cluster_key past))) b
         ∙ (ap (λ s. set.contains (noticed_after plan past) b || set.contains s b) (sym found_is) ∙ either_way (set.contains (noticed_after plan past) b) (set.contains found b))
 
     fresh : (b : ℕ) → set.contains found b ≡ true → set.contains (noticed_after plan past) b ≡ false
     fresh b there =
-        let d = replay (start plan.me.number plan.nodes plan.silence) (watched plan.cluster_key past) in
+        let d = replay (start plan.me.number plan.nodes plan.silence (limits_of plan.version).has_ticks) (watched plan.cluster_key past) in
         let is = sym (contains-nodes_where d.nodes (is_due d) b) ∙ (ap (λ s. set.contains s b) (sym found_is) ∙ there) in
         unnoticed (nat_lt b d.nodes) (nat_eq b d.me) (set.contains d.noticed b) (nat_le d.silence (slice_index d.silences b + 1)) is
 
@@ -235,7 +235,7 @@ module _ (few : NoticedByCalls) (plan : NodePlan) (right : IsNodePlan plan) (pas
       found_in (Halted answer) = found
 
 -- Every answer.
-module _ (law : WhatIsWrittenIsRead) (each : EachGroup) (few : NoticedByCalls) (plan : NodePlan) (right : IsNodePlan plan) (past : List Happened) (v : NodeValue) (was : IsOfPast plan past v) (ok : AreApart v.table.groups.rows) (w : NodeValue) where
+module _ (law : WhatIsWrittenIsRead) (each : EachGroup) (few : SuspectedByCalls) (plan : NodePlan) (right : IsNodePlan plan) (past : List Happened) (v : NodeValue) (was : IsOfPast plan past v) (ok : AreApart v.table.groups.rows) (w : NodeValue) where
   answered : (e : NodeEvent) (a : NodeAnswer) → IsTurn v e a w → IsSpelt v e a → IsAnswered plan past e a
   answered (Asked r) (Replied reply) turned spelt = asked plan past v was r reply w turned
   answered (Asked r) (Taken x) turned spelt = tt
@@ -266,7 +266,7 @@ module _ (law : WhatIsWrittenIsRead) (each : EachGroup) (few : NoticedByCalls) (
   answered (Ack b) x turned spelt = tt
   answered Stop x turned spelt = tt
 
-pub answers_say : WhatIsWrittenIsRead → EachGroup → EachCount → StayInOrder → SlotLaws → NoticedByCalls → AnswersSay
+pub answers_say : WhatIsWrittenIsRead → EachGroup → EachCount → StayInOrder → SlotLaws → SuspectedByCalls → AnswersSay
 unfolding ComesTo
 answers_say law each count stay slots few = record {
   each = λ plan past event answer v comes.
