@@ -173,8 +173,8 @@ did_same noticed (Refused why) what t = record { me = refl; nodes = refl; versio
 
 pub asked_moved : (key : List ℕ) (r : Request) (reply : Reply) (v : NodeValue) → Moved key (Asked r) (Replied reply) v (node_did reply r.what v)
 asked_moved key r reply v =
-    let kept = did_same v.watch.noticed reply r.what v.table in
-    still_moved key (Asked r) (Replied reply) v (node_did reply r.what v) (record { none_came = refl; none_packed = λ b. refl; none_taken = λ b n. refl }) refl kept.me kept.nodes kept.version kept.places kept.admin_key refl refl refl (did_tenants v.watch.noticed r reply v.table) refl refl
+    let kept = did_same (suspected v.watch) reply r.what v.table in
+    still_moved key (Asked r) (Replied reply) v (node_did reply r.what v) (record { none_came = refl; none_packed = λ b. refl; none_taken = λ b n. refl }) refl kept.me kept.nodes kept.version kept.places kept.admin_key refl refl refl (did_tenants (suspected v.watch) r reply v.table) refl refl
 
 -- Groups.
 

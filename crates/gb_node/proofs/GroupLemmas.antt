@@ -154,9 +154,9 @@ packed_in law g b room items t apart is =
 module _ (each : EachGroup) (plan : NodePlan) (past : List Happened) (v : NodeValue) (was : StandsForPast plan past v) (g : Addr) where
   pub asked_groups : (r : Request) (reply : Reply) → AreInOrder v.table.groups → AreWithinLimits v.table.tenants → reply ≡ table_reply r v.table → group_in g (node_did reply r.what v).table.groups ≡ group_after plan g past (Asked r) (Replied reply) (group_in g v.table.groups)
   asked_groups r reply order limits is =
-      did_for each v.watch.noticed g r reply v.table order limits is
-      ∙ (ap (λ m. asked_for g m v.watch.noticed reply r.what (group_in g v.table.groups)) was.beside.me
-      ∙ ap (λ (w : Watch). asked_for g plan.me w.noticed reply r.what (group_in g v.table.groups)) was.beside.watch)
+      did_for each (suspected v.watch) g r reply v.table order limits is
+      ∙ (ap (λ m. asked_for g m (suspected v.watch) reply r.what (group_in g v.table.groups)) was.beside.me
+      ∙ ap (λ (w : Watch). asked_for g plan.me (suspected w) reply r.what (group_in g v.table.groups)) was.beside.watch)
 
   -- a node with a number beyond all has no frames
   no_frames : (key : List ℕ) (n : ℕ) (hs : List Happened) → NODES ≤ n → frames_to key n hs ≡ []

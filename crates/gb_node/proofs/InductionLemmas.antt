@@ -1,19 +1,19 @@
 -- Every node is what its past says: the induction over pasts.
-use Rattle.gb_types.specs.Common.{◌≡◌, ℕ, inl, inr, List, [], ◌∷◌, length, arith, Option, Some, None, Result, Ok, Err, refl, sym, ap, subst, ◌∙◌, Bool, true, ◌⊎◌, ◌≤◌, false, not, ◌&&◌, nat_eq, nat_lt, fold, IfSome, option_map, if◌then◌else◌, nat_tests, nat_cmp, cases_Bool, length-set, get_or-replicate, All-nil, All-cons, All-append, rising}
+use Rattle.gb_types.specs.Common.{◌≡◌, ℕ, inl, inr, List, [], ◌∷◌, length, arith, Option, Some, None, Result, Ok, Err, refl, sym, ap, subst, ◌∙◌, Bool, true, ◌⊎◌, ◌≤◌, false, not, ◌&&◌, nat_eq, nat_lt, fold, IfSome, option_map, if◌then◌else◌, nat_tests, nat_cmp, cases_Bool, length-set, get_or-replicate, All-nil, All-cons, All-append, rising, limits_of}
 use Rattle.std.specs.FinSet as set
 use Rattle.gb_types.specs.declared.{address.Addr.Addr, limits.TheConstants.NODES, node.NodeId.NodeId, refusal.Refusal.TheVariants.Stopped, refusal.Refusal.TheVariants.OutOfMemory, reply.Reply.Reply, reply.Reply.TheVariants.Done, reply.Reply.TheVariants.Refused, request.Request.Request, request.Action.Action, request.Action.TheVariants.AddTenant, request.Action.TheVariants.Group, spec.TenantRow.TenantRow}
 use Rattle.gb_rules.specs.Common.{is_over_limits}
 use Rattle.gb_frame.specs.declared.{fault.PacketFault.PacketFault, fault.PacketFault.TheVariants.Node, item.Item.Item}
 use Rattle.gb_frame.specs.Common.{Content, reading, packet_text, IsPacket, WhatIsWrittenIsRead, items_for}
 use Rattle.gb_link.specs.Common.{SendWindow, new_window, pushed}
-use Rattle.gb_detect.specs.{Watch.due, Silence.is_noticed, Laws.SuspectedByCalls}
+use Rattle.gb_detect.specs.{Watch.due, Laws.SuspectedByCalls, Suspicion.is_suspected, Watch.suspected}
 use Rattle.gb_slot.specs.Common.{shown}
 use Rattle.gb_table.specs.Common.{no_groups, group_in, waiting_in, AreInOrder, EachGroup, EachCount, StayInOrder, others_living, admitted_reply, table_reply}
 use Rattle.gb_node.specs.NodeValue.{NodeValue, new_node, IsNodePlan}
 use Rattle.gb_node.specs.NodeStep.{fate, Turn, turn, running_turn, stopped_answer, IsTurn, IsSpelt, is_here, if_here, taken_answer, node_read, next_batch, room_to, sent, sent_batch, content_to, window_to, receiver_from, node_numbered, newly_done, heard, took_ack, without_done, receives, again_content, ack_content}
 use Rattle.gb_node.proofs.PacketLemmas.{read_one}
 use Rattle.gb_node.specs.Past.{Happened, ComesTo, read, frames_to, numbered, is_acked, is_taken, watched, added, added_by, tenants_in, is_stopped}
-use Rattle.gb_node.specs.PastGroups.{noticed_after, taken_told, packed_told, told_after, told_of, living_after, living_of}
+use Rattle.gb_node.specs.PastGroups.{suspected_after, taken_told, packed_told, told_after, told_of, living_after, living_of}
 use Rattle.gb_node.specs.PastLaw.{IsOfPast, PastsSay}
 use Rattle.gb_node.proofs.SlotGroups.{taken_for, packed_from, group_after, group_of, IsTold, StandsForPast}
 use Rattle.gb_node.specs.declared.{plan.NodePlan.NodePlan, answer.NodeAnswer.NodeAnswer, answer.PacketAnswer.TheVariants.Fault, answer.Sent.TheVariants.Refused as SentRefused, event.NodeEvent.NodeEvent, answer.NodeAnswer.TheVariants.Reply as Replied, answer.NodeAnswer.TheVariants.Taken, answer.NodeAnswer.TheVariants.Sent}
@@ -47,11 +47,11 @@ module _ (law : WhatIsWrittenIsRead) (each : EachGroup) (count : EachCount) (sta
   left : (g : Addr) (e : NodeEvent) (a : NodeAnswer) → LeavesGroup plan g past e a → IsTold plan.me (group_after plan g past e a (group_of plan g past)) (told_after plan g past e a (told_of plan g past))
   left g e a leaves = subst (λ o. IsTold plan.me o (told_after plan g past e a (told_of plan g past))) (leaves.0 (group_of plan g past)) (subst (IsTold plan.me (group_of plan g past)) (leaves.1 (told_of plan g past)) (was.told g))
 
-  -- only nodes of the cluster are noticed
-  none_far : (b : ℕ) → NODES ≤ b → set.contains (noticed_after plan past) b ≡ false
+  -- only nodes of the cluster are suspected
+  none_far : (b : ℕ) → NODES ≤ b → set.contains (suspected_after plan past) b ≡ false
   none_far b far =
       let off : nat_lt b plan.nodes ≡ false = let most = few_nodes plan right in grind (arith, nat_tests, far, most) in
-      few plan.me.number plan.nodes plan.silence (few_nodes plan right) right.least (watched plan.cluster_key past) b ∙ ap (λ t. (t && not (nat_eq b plan.me.number)) && is_noticed plan.silence b (watched plan.cluster_key past)) off
+      few plan.me.number plan.nodes plan.silence (limits_of plan.version).has_ticks (few_nodes plan right) right.least (watched plan.cluster_key past) b ∙ ap (λ t. (t && not (nat_eq b plan.me.number)) && is_suspected (limits_of plan.version).has_ticks plan.silence b (watched plan.cluster_key past)) off
 
   faulty : (bytes : List ℕ) (fault : PacketFault) → Goes plan past v (Came bytes) (Taken (Fault fault)) v
   faulty bytes fault = record {
@@ -111,9 +111,9 @@ module _ (law : WhatIsWrittenIsRead) (each : EachGroup) (count : EachCount) (sta
     moved = asked_moved v.key r (table_reply r v.table) v;
     tables = record { windows = has.windows; receivers = has.receivers };
     groups = λ g. asked_groups each plan past v was g r (table_reply r v.table) order limits refl;
-    order = did_order stay v.watch.noticed r (table_reply r v.table) v.table order limits refl;
-    living = λ g. did_living count g v.watch.noticed r (table_reply r v.table) v.table order limits refl;
-    told = λ g. asked_stands slots plan.me (noticed_after plan past) none_far v.table g (group_of plan g past) (sym (was.groups g)) (told_of plan g past) (was.told g) r (table_reply r v.table) refl;
+    order = did_order stay (suspected v.watch) r (table_reply r v.table) v.table order limits refl;
+    living = λ g. did_living count g (suspected v.watch) r (table_reply r v.table) v.table order limits refl;
+    told = λ g. asked_stands slots plan.me (suspected_after plan past) none_far v.table g (group_of plan g past) (sym (was.groups g)) (told_of plan g past) (was.told g) r (table_reply r v.table) refl;
   }
   running_goes (Came bytes) spelt = came_goes bytes (reading v.key bytes) refl
   running_goes (Pack b) spelt = pack_goes b (next_batch v b) refl spelt

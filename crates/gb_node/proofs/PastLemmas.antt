@@ -1,11 +1,11 @@
 -- What a step adds to a past, and what it changes in the node: the induction over pasts.
-use Rattle.gb_types.specs.Common.{◌≡◌, ℕ, suc, ◌+◌, ◌<◌, ◌≤◌, Bool, true, false, ◌&&◌, ◌||◌, inl, inr, List, [], ◌∷◌, ◌++◌, length, map, refl, sym, ap, ◌∙◌, arith, nat_le, length-append, filter, not, list_any, cases_Bool, nat_tests, filter-append}
+use Rattle.gb_types.specs.Common.{◌≡◌, ℕ, suc, ◌+◌, ◌<◌, ◌≤◌, Bool, true, false, ◌&&◌, ◌||◌, inl, inr, List, [], ◌∷◌, ◌++◌, length, map, refl, sym, ap, ◌∙◌, arith, nat_le, length-append, filter, not, list_any, cases_Bool, nat_tests, filter-append, limits_of}
 use Rattle.std.specs.FinSet as set
 use Rattle.gb_types.specs.declared.{address.Addr.Addr, node.NodeId.NodeId}
 use Rattle.gb_detect.specs.Silence.{Call, Heard}
 use Rattle.gb_detect.specs.Watch.{Watch, start, replay, after}
 use Rattle.gb_frame.specs.declared.item.Item.{Item}
-use Rattle.gb_frame.specs.Common.{Content}
+use Rattle.gb_frame.specs.Common.{Content, pulse_of}
 use Rattle.gb_table.specs.Common.{group_in, others_living}
 use Rattle.gb_node.specs.NodeValue.{NodeValue}
 use Rattle.gb_node.specs.NodeStep.{window_to, receiver_from}

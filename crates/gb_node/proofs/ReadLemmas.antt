@@ -31,8 +31,8 @@ fetch_did noticed addr from most (Refused why) t = refl
 read_running : (v : NodeValue) (e : NodeEvent) → is_read e ≡ true → (running_turn v e).value ≡ v
 read_running v (Asked r) h = ap (λ t. record v { table = t }) (by r.what h)
   where
-    by : (what : Action) → is_fetch what ≡ true → table_did v.watch.noticed (table_reply r v.table) what v.table ≡ v.table
-    by (Group addr (Fetch from most)) h = fetch_did v.watch.noticed addr from most (table_reply r v.table) v.table
+    by : (what : Action) → is_fetch what ≡ true → table_did (suspected v.watch) (table_reply r v.table) what v.table ≡ v.table
+    by (Group addr (Fetch from most)) h = fetch_did (suspected v.watch) addr from most (table_reply r v.table) v.table
     by (AddTenant row) h = absurd (false≢true h)
     by (Group addr (Make spec)) h = absurd (false≢true h)
     by (Group addr Open) h = absurd (false≢true h)

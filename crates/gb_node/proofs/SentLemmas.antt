@@ -65,7 +65,7 @@ packet_says v Stop text w turned fit = absurd (let is = (sends v Stop text w tur
 -- Frames go to other nodes of the cluster.
 
 pub reached_another : ReachedAreOthers
-reached_another v b e = and_left (is_another v b) (not (set.contains v.watch.noticed b.number)) e
+reached_another v b e = and_left (is_another v b) (not (set.contains (suspected v.watch) b.number)) e
 
 pub batch_another : BatchesAreForOthers
 batch_another v b items e = by (is_reached v b) (has_room (window_to v b.number)) refl e

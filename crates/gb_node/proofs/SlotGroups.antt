@@ -16,7 +16,7 @@ use Rattle.gb_node.specs.declared.{plan.NodePlan.NodePlan, answer.NodeAnswer.Nod
 use Rattle.gb_node.specs.declared.answer.NodeAnswer.TheVariants.{Reply as Replied, Taken, Sent, Ticked}
 use Rattle.gb_node.specs.declared.event.NodeEvent.TheVariants.{Request as Asked, Packet as Came, Pack, Tick}
 use Rattle.gb_node.specs.Past.{Happened, read, is_first}
-use Rattle.gb_node.specs.PastGroups.{Told, noticed_after, freed_by, items_freed, told_of, living_of}
+use Rattle.gb_node.specs.PastGroups.{Told, suspected_after, freed_by, items_freed, told_of, living_of}
 use Rattle.gb_node.specs.PastLaw.{IsOfPastBesideGroups}
 
 -- What each event makes of a group's slot.
@@ -61,7 +61,7 @@ abbrev pub noticed_for : Option (Option SlotState) → ℕ → Option (Option Sl
 noticed_for o b = stepped (slot_noticed (node_numbered b)) o
 
 abbrev pub group_after : NodePlan → Addr → List Happened → NodeEvent → NodeAnswer → Option (Option SlotState) → Option (Option SlotState)
-group_after plan g past (Asked request) (Replied reply) o = asked_for g plan.me (noticed_after plan past) reply request.what o
+group_after plan g past (Asked request) (Replied reply) o = asked_for g plan.me (suspected_after plan past) reply request.what o
 group_after plan g past (Came bytes) (Taken (TakenGood good)) o = fold (taken_for plan.version plan.cluster_key g past good.frame) o (read plan.cluster_key bytes)
 group_after plan g past (Pack b) (Sent (SentPacket text)) o = fold (packed_from g b) o (read plan.cluster_key text)
 group_after plan g past Tick (Ticked (Noticed found)) o = fold noticed_for o (rising found)

@@ -8,7 +8,7 @@ use Rattle.gb_frame.specs.Common.{Content, reading, unless, fault_in, content_in
 use Rattle.gb_frame.proofs.ReadingLemmas.{good}
 use Rattle.gb_link.specs.Common.{Received, admission, is_awaited}
 use Rattle.gb_link.specs.declared.receiver.Admission.TheVariants.{First, Seen, Outside}
-use Rattle.gb_detect.specs.{Silence.is_noticed, Laws.SuspectedByCalls}
+use Rattle.gb_detect.specs.{Suspicion.is_suspected, Laws.SuspectedByCalls}
 use Rattle.gb_detect.specs.Watch.{start, replay, due, is_due}
 use Rattle.gb_detect.proofs.SetLemmas.{contains-either, contains-nodes_where}
 use Rattle.gb_rules.specs.Common.{Shown, open_answer, shut_answer, drop_answer, say_answer, fetch_answer, reserve_of, row_of, make_answer, by_tenant}
@@ -173,14 +173,19 @@ module _ (plan : NodePlan) (right : IsNodePlan plan) (past : List Happened) (v :
 
 -- Ticks.
 
--- only other nodes of the cluster are noticed
-noticed_inside : SuspectedByCalls → (plan : NodePlan) → IsNodePlan plan → (past : List Happened) (b : ℕ) → set.contains (noticed_after plan past) b ≡ true → (b < plan.nodes) × (b ≢ plan.me.number)
-noticed_inside few plan right past b there =
-    other_number b plan.nodes plan.me.number (by (nat_lt b plan.nodes && not (nat_eq b plan.me.number)) (sym (few plan.me.number plan.nodes plan.silence (few_nodes plan right) right.least (watched plan.cluster_key past) b) ∙ there))
+-- only other nodes of the cluster are suspected
+suspected_inside : SuspectedByCalls → (plan : NodePlan) → IsNodePlan plan → (past : List Happened) (b : ℕ) → set.contains (suspected_after plan past) b ≡ true → (b < plan.nodes) × (b ≢ plan.me.number)
+suspected_inside few plan right past b there =
+    other_number b plan.nodes plan.me.number (by (nat_lt b plan.nodes && not (nat_eq b plan.me.number)) (sym (few plan.me.number plan.nodes plan.silence (limits_of plan.version).has_ticks (few_nodes plan right) right.least (watched plan.cluster_key past) b) ∙ there))
   where
-    by : (other : Bool) → (other && is_noticed plan.silence b (watched plan.cluster_key past)) ≡ true → other ≡ true
+    by : (other : Bool) → (other && is_suspected (limits_of plan.version).has_ticks plan.silence b (watched plan.cluster_key past)) ≡ true → other ≡ true
     by true e = refl
     by false e = absurd (cc)
+
+-- and so only they are noticed
+noticed_inside : SuspectedByCalls → (plan : NodePlan) → IsNodePlan plan → (past : List Happened) (b : ℕ) → set.contains (noticed_after plan past) b ≡ true → (b < plan.nodes) × (b ≢ plan.me.number)
+noticed_inside few plan right past b there =
+    suspected_inside few plan right past b (contains-either (noticed_after plan past) (watch_after plan past).flagged b ∙ ap (λ t. t || set.contains (watch_after plan past).flagged b) there)
 
 either_way : (p q : Bool) → (p || q) ≡ (q || p)
 either_way true true = refl
@@ -211,7 +216,7 @@ module _ (few : SuspectedByCalls) (plan : NodePlan) (right : IsNodePlan plan) (p
     fresh b there =
         let d = replay (start plan.me.number plan.nodes plan.silence (limits_of plan.version).has_ticks) (watched plan.cluster_key past) in
         let is = sym (contains-nodes_where d.nodes (is_due d) b) ∙ (ap (λ s. set.contains s b) (sym found_is) ∙ there) in
-        unnoticed (nat_lt b d.nodes) (nat_eq b d.me) (set.contains d.noticed b) (nat_le d.silence (slice_index d.silences b + 1)) is
+        unnoticed (nat_lt b d.nodes) (nat_eq b d.me) (set.contains d.noticed b) (nat_le d.silence (slice_index d.silences b + 1) || set.contains d.flagged b) is
 
     found_says : v.stopped ≡ false → IsTicked plan past found
     found_says running = record {
@@ -274,4 +279,5 @@ answers_say law each count stay slots few = record {
       answered law each few plan (started plan past comes.0 comes.1) past comes.0 (of_past slots plan past comes.0 before.says) before.order.apart v event answer comes.2 comes.3;
   due = λ plan past v request comes. let now = stands law each count stay slots few plan past v comes in should_reply plan past v (of_past slots plan past v now.says) request;
   noticed = λ plan past v b comes there. noticed_inside few plan (started plan past v comes) past b there;
+  suspected = λ plan past v b comes there. suspected_inside few plan (started plan past v comes) past b there;
 }

@@ -1,10 +1,11 @@
 -- A packet that is taken, part by part.
-use Rattle.gb_types.specs.Common.{◌≡◌, ℕ, List, length, sym, ap, ◌∙◌, arith, fold, slice_set}
+use Rattle.gb_types.specs.Common.{◌≡◌, ℕ, List, length, sym, ap, ◌∙◌, arith, fold, slice_set, Option}
 use Rattle.gb_types.specs.declared.node.NodeId.{NodeId}
 use Rattle.gb_types.proofs.SameLemmas.{same_number}
 use Rattle.gb_detect.specs.Watch.{Watch, after_heard}
 use Rattle.gb_frame.specs.declared.{item.Item.Item, packet.Head.Head}
-use Rattle.gb_frame.specs.Common.{Content, packet_of}
+use Rattle.gb_frame.specs.Common.{Content, packet_of, pulse_of}
+use Rattle.gb_types.specs.declared.pulse.Pulse.{Pulse}
 use Rattle.gb_link.specs.Common.{Received, SendWindow, freed}
 use Rattle.gb_table.specs.Common.{TableValue}
 use Rattle.gb_node.specs.NodeValue.{NodeValue}
@@ -29,13 +30,13 @@ module _ (v : NodeValue) (p : Content) (h : Head) (is : packet_of h p.items ≡ 
       let e3 = c ∙ ap (λ (c : Content). length (freed (window_to v c.from) c.base c.mask)) is in
       λ j. record { from = e0 j; frame = e1 j; items = e2 j; done = e3 j }
 
-  pub took_state : (table later : TableValue) (window : SendWindow (List Item)) (receiver : Received) (watch : Watch) → watch ≡ after_heard v.watch h.from.number
+  pub took_state : (table later : TableValue) (window : SendWindow (List Item)) (receiver : Received) (watch : Watch) (pulse : Option Pulse) → pulse ≡ pulse_of (packet_of h p.items) → watch ≡ after_heard v.watch h.from.number pulse
       → table ≡ fold (frame_done h.from) v.table (freed (window_to v h.from.number) h.base h.mask) → window ≡ without_done h.base h.mask (window_to v h.from.number)
       → later ≡ frame_comes h.from p.frame p.items (receiver_from v h.from.number) table → receiver ≡ receives p.frame (receiver_from v h.from.number)
       → record { key = v.key; table = later; room = v.room; windows = slice_set v.windows h.from.number window; receivers = slice_set v.receivers h.from.number receiver; watch = watch; stopped = v.stopped } ≡ node_took p v
-  took_state table later window receiver watch heard acked left came received =
+  took_state table later window receiver watch pulse said heard acked left came received =
       let number : h.from.number ≡ p.from = ap (λ (c : Content). c.from) is in
-      let e0 = heard ∙ ap (after_heard v.watch) number in
+      let e0 : watch ≡ after_heard v.watch p.from (pulse_of p) = heard ∙ (ap (after_heard v.watch h.from.number) (said ∙ ap pulse_of is) ∙ ap (λ n. after_heard v.watch n (pulse_of p)) number) in
       let e1 : table ≡ fold (frame_done (node_numbered p.from)) v.table (freed (window_to v p.from) p.base p.mask) =
       acked ∙ (ap (λ a. fold (frame_done a) v.table (freed (window_to v h.from.number) h.base h.mask)) (sym from_is) ∙ ap (λ (c : Content). fold (frame_done (node_numbered p.from)) v.table (freed (window_to v c.from) c.base c.mask)) is) in
       let e2 : slice_set v.windows h.from.number window ≡ slice_set v.windows p.from (without_done p.base p.mask (window_to v p.from)) =

@@ -3,7 +3,7 @@ ghost use Rattle.gb_node.specs.PastLaw.{PastsSay};
 ghost use Rattle.gb_node.specs.StepLaw.{AnswersSay};
 ghost use Rattle.gb_node.specs.SendLaw.{BatchesAreForOthers, OthersAreInside, PacketsAreReadBack, PacketsSay, ReachedAreOthers, SendersRun, StarvedSays};
 
-use gb_detect::laws::noticed_by_calls;
+use gb_detect::laws::suspected_by_calls;
 use gb_frame::laws::what_is_written_is_read;
 use gb_slot::history::stands;
 use gb_table::each::each_group;
@@ -17,7 +17,7 @@ pub fn pasts_say()
     what_is_written_is_read();
     each_group();
     stands();
-    noticed_by_calls();
+    suspected_by_calls();
 }
 
 /// A law of every node, whatever happens at it: each of its answers is what the events and answers before it say. A request is
@@ -31,7 +31,7 @@ pub fn answers_say()
     what_is_written_is_read();
     each_group();
     stands();
-    noticed_by_calls();
+    suspected_by_calls();
 }
 
 /// A law of every node, whatever happens at it. A node that sends a packet runs. The packet is the one that the event asks for,

@@ -42,8 +42,8 @@ returns-clause-state c =
     let receiver = (get_or_default i.receivers c.index-at.result _ set.empty within_too ∙ ap (λ k. get_or i.receivers k set.empty) at) in
     let left = ap (λ (w : FrameWindow). w.window) c.take_ack-done.ensures.window in
     let written = map-set (λ (w : FrameWindow). w.window) i.windows c.index-at.result c.take_ack-done.new.window in
-    rw (← c.self.view_is, written) (set_at (the_view i) _ _ _ _ _ _ _ at (took_state (the_view i) c.args.packet.now h c.head-head.ensures c.take_ack-done.new.table c.take_frame-frame.new.table c.take_ack-done.new.window.window c.take_frame-frame.new.receiver c.heard.new.self
-    c.heard.ensures.value
+    rw (← c.self.view_is, written) (set_at (the_view i) _ _ _ _ _ _ _ at (took_state (the_view i) c.args.packet.now h c.head-head.ensures c.take_ack-done.new.table c.take_frame-frame.new.table c.take_ack-done.new.window.window c.take_frame-frame.new.receiver c.heard.new.self c.pulse.result
+    (c.pulse.ensures c.args.packet.now.items) c.heard.ensures.value
     (c.take_ack-done.ensures.table ∙ ap (λ w. fold (frame_done h.from) i.table (freed w h.base h.mask)) window)
     (left ∙ ap (without_done h.base h.mask) window)
     (c.take_frame-frame.ensures.table ∙ ap (λ r. frame_comes h.from c.args.packet.now.frame c.args.packet.now.items r c.take_ack-done.new.table) receiver)
