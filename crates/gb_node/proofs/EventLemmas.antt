@@ -3,8 +3,8 @@ use Rattle.gb_types.specs.Common.{◌≡◌, ℕ, false, ◌||◌, List, [], ◌
 use Rattle.std.specs.FinSet as set
 use Rattle.gb_types.specs.declared.{address.Addr.Addr, refusal.Refusal.TheVariants.OutOfMemory, reply.Reply.Reply, request.Request.Request, request.Action.Action, request.Action.TheVariants.AddTenant, request.Action.TheVariants.Group}
 use Rattle.gb_types.specs.declared.reply.Reply.TheVariants.{Done, Said, Log, Refused}
-use Rattle.gb_detect.specs.{Silence.Heard, Watch.replay}
-use Rattle.gb_frame.specs.Common.{Content}
+use Rattle.gb_detect.specs.{Silence.Heard, Watch.replay, Watch.suspected}
+use Rattle.gb_frame.specs.Common.{Content, pulse_of}
 use Rattle.gb_link.specs.Common.{new_window}
 use Rattle.gb_slot.specs.Common.{SlotState}
 use Rattle.gb_table.specs.Common.{TableValue, request_done, table_did}

@@ -8,7 +8,7 @@ use Rattle.gb_rules.specs.declared.phase.Phase.TheVariants.{Opened, Shut as Clos
 use Rattle.gb_frame.specs.declared.item.Item.{Item}
 use Rattle.gb_frame.specs.Common.{Content, reading, packet_text, IsPacket, WhatIsWrittenIsRead, address_of, entry_of, names, items_for, item_for}
 use Rattle.gb_link.specs.Common.{covers, SendWindow, new_window, has_room, Received, admission}
-use Rattle.gb_detect.specs.Watch.{Watch, due}
+use Rattle.gb_detect.specs.Watch.{Watch, due, suspected}
 use Rattle.gb_link.specs.declared.{receiver.Admission.Admission, receiver.Admission.TheVariants.First, receiver.Admission.TheVariants.Seen, receiver.Admission.TheVariants.Outside}
 use Rattle.gb_slot.specs.Common.{SlotState, new_slot, slot_moved, slot_said, slot_noticed, slot_done, slot_took}
 use Rattle.gb_table.specs.Common.{AreApart, item_came, GroupsValue, group_in, waiting_in, came_for, with_rows, AreInOrder, EachGroup, TableValue, table_noticed, table_packed, admitted_reply, groups_done, groups_said, request_done, table_did, table_reply}

@@ -4,7 +4,7 @@ use Rattle.std.specs.FinSet as set
 use Rattle.gb_types.specs.declared.{limits.TheConstants.NODES, node.NodeId.NodeId}
 use Rattle.gb_detect.specs.{Silence.Heard, Watch.due, Watch.replay}
 use Rattle.gb_frame.specs.declared.item.Item.{Item}
-use Rattle.gb_frame.specs.Common.{Content, reading, packet_text, IsPacket, WhatIsWrittenIsRead}
+use Rattle.gb_frame.specs.Common.{Content, pulse_of, reading, packet_text, IsPacket, WhatIsWrittenIsRead}
 use Rattle.gb_types.proofs.InsertedLemmas.{contains-inserted}
 use Rattle.gb_link.specs.Common.{covers, Received, admission, taken, SendWindow, new_window, pushed}
 use Rattle.gb_link.specs.declared.{receiver.Admission.Admission, receiver.Admission.TheVariants.First, receiver.Admission.TheVariants.Seen, receiver.Admission.TheVariants.Outside}

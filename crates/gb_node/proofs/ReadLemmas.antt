@@ -5,9 +5,10 @@ use Rattle.gb_types.specs.declared.{address.Addr.Addr, entry.Entry.Entry, versio
 use Rattle.gb_types.specs.declared.refusal.Refusal.TheVariants.{BadPlace, Denied, NoGroup, Spent, BadMembers, OverReserve, TooLong, Budget, Bytes, Window, NoRoom, TenantThere}
 use Rattle.gb_types.specs.declared.reply.Reply.TheVariants.{Done, Said, Log, Refused}
 use Rattle.gb_types.specs.declared.request.GroupCommand.TheVariants.{Make, Open, Shut, Drop, Say, Fetch}
-use Rattle.gb_frame.specs.Common.{Content, tagged_text, header_text, tag_of, packet_text, IsPacket}
+use Rattle.gb_detect.specs.Watch.{suspected}
+use Rattle.gb_frame.specs.Common.{Content, items_text, tagged_text, header_text, tag_of, packet_text, IsPacket}
 use Rattle.gb_frame.specs.declared.item.Item.{Item}
-use Rattle.gb_frame.proofs.{VersionLemmas.shortest_fits, TextLemmas.length-tag_of}
+use Rattle.gb_frame.proofs.{VersionLemmas.shortest_fits, TextLemmas.length-tag_of, TickLemmas.length-header_text}
 use Rattle.gb_rules.specs.Common.{is_out_of_turn, Shown, is_too_long, open_in, open_answer, shut_in, shut_answer, drop_answer, say_answer, can_name, is_over_limits, is_bad, is_over, tenant_answer, make_answer, by_tenant}
 use Rattle.gb_rules.specs.declared.{room.TheConstants.GENERATIONS, phase.Phase.Phase, reserve.Reserve.Reserve, usage.Usage.Usage}
 use Rattle.gb_rules.specs.declared.phase.Phase.TheVariants.{Made, Opened, Shut as Closed, Gone}
@@ -124,13 +125,12 @@ asked_within r t h = within_if (is_admitted r t) (admitted_reply r.what t) (Refu
 -- Packets.
 
 packet_fits : (key : List ℕ) (c : Content) → IsPacket c → length (packet_text key c) ≤ (limits_of c.version).packet
-unfolding header_text
 packet_fits key c p =
-    let tag : List ℕ = tag_of key (tagged_text c) in
-    let tag_len = length-tag_of key (tagged_text c) in
+    let tag : List ℕ = tag_of c.version key (tagged_text c) in
+    let tag_len = length-tag_of c.version key (tagged_text c) in
     let room = p.limits.room in
     let shortest = shortest_fits c.version in
-    omega (arith, length-append (tagged_text c) tag, tag_len, room, shortest)
+    omega (arith, length-append (tagged_text c) tag, length-append (header_text c) (items_text c.version c.items), length-header_text c, tag_len, room, shortest)
 
 packed_starved : (v : NodeValue) (b : NodeId) (c : Option Content) (a : NodeAnswer) → IsStarved (Pack b) (Sent (sent v c)) a → IsWithin (limits_of v.table.version).packet a
 packed_starved v b None a h = absurd h

@@ -3,6 +3,7 @@ use Rattle.gb_types.specs.Common.{◌≡◌, ◌≢◌, ℕ, ◌<◌, inl, inr, 
 use Rattle.std.specs.FinSet as set
 use Rattle.gb_types.specs.declared.{refusal.Refusal.TheVariants.OutOfMemory, reply.Reply.TheVariants.Refused, request.Request.Request}
 use Rattle.gb_types.proofs.BoolLemmas.{and_left}
+use Rattle.gb_detect.specs.Watch.{suspected}
 use Rattle.gb_frame.specs.Common.{Content, IsPacket, packet_text, WhatIsWrittenIsRead}
 use Rattle.gb_link.specs.Common.{has_room}
 use Rattle.gb_node.specs.NodeValue.{NodeValue}
