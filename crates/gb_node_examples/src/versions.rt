@@ -47,6 +47,11 @@ const FILLS_THREE: &[u8] = &[b'a'; 4_005];
 
 const OVERFILLS_THREE: &[u8] = &[b'a'; 4_006];
 
+/// The same of version 4.
+const FILLS_FOUR: &[u8] = &[b'a'; 3_988];
+
+const OVERFILLS_FOUR: &[u8] = &[b'a'; 3_989];
+
 /// The first node is of version 2 and the second of version 1. What is too long at the second is let fall there, and the
 /// frame is acknowledged.
 const VERSIONS_ARE_UNLIKE: &[Line] = &[
@@ -226,6 +231,93 @@ const ROOM_OF_THREE: &[Line] = &[
 fn room_of_version_three(rt: HostRuntime) -> Result<(), Fail> {
     let mut nodes = far(rt.alloc(), Version::Three)?;
     run_at(&rt, rt.alloc(), &mut nodes, ROOM_OF_THREE)?;
+    Ok(())
+}
+
+/// A packet of version 4 has 16,328 bytes for items, each with a header of 13. A packet without items has 56 bytes.
+const ROOM_OF_FOUR: &[Line] = &[
+    (FIRST, Step::Tenant(7), Told::Done),
+    (FIRST, Step::MakeFar(BESIDE, BEST_EFFORT), Told::Done),
+    (FIRST, Step::Open(BESIDE), Told::Done),
+    (FIRST, Step::Say(BESIDE, LONGEST_OF_TWO), Told::Said(1)),
+    (FIRST, Step::Say(BESIDE, LONGEST_OF_TWO), Told::Said(2)),
+    (FIRST, Step::Say(BESIDE, LONGEST_OF_TWO), Told::Said(3)),
+    (FIRST, Step::Say(BESIDE, FILLS_FOUR), Told::Said(4)),
+    (FIRST, Step::Pack(LAST), Told::SentFour(16_384)),
+    (FIRST, Step::Pack(LAST), Told::Nothing),
+    (FIRST, Step::Say(BESIDE, LONGEST_OF_TWO), Told::Said(5)),
+    (FIRST, Step::Say(BESIDE, LONGEST_OF_TWO), Told::Said(6)),
+    (FIRST, Step::Say(BESIDE, LONGEST_OF_TWO), Told::Said(7)),
+    (FIRST, Step::Say(BESIDE, OVERFILLS_FOUR), Told::Said(8)),
+    (FIRST, Step::Pack(LAST), Told::SentFour(12_383)),
+    (FIRST, Step::Pack(LAST), Told::SentFour(4_058)),
+    (FIRST, Step::Pack(LAST), Told::Nothing),
+    (LAST, Step::Arrive(0), Told::Came(FIRST, Frame::First, 4, 0)),
+    (LAST, Step::Ack(FIRST), Told::SentFour(56)),
+    (LAST, Step::Ack(FIRST), Told::SentFour(56)),
+    (
+        FIRST,
+        Step::Arrive(4),
+        Told::Came(LAST, Frame::Nothing, 0, 1),
+    ),
+];
+
+#[test]
+fn room_of_version_four(rt: HostRuntime) -> Result<(), Fail> {
+    let mut nodes = far(rt.alloc(), Version::Four)?;
+    run_at(&rt, rt.alloc(), &mut nodes, ROOM_OF_FOUR)?;
+    Ok(())
+}
+
+/// A node of version 4 is suspected after three ticks. Its late packet changes nothing, and its next one is heard: the frame that
+/// is open goes again.
+const HEARD_AGAIN: &[Line] = &[
+    (FIRST, Step::Tenant(7), Told::Done),
+    (FIRST, Step::MakeFar(BESIDE, BEST_EFFORT), Told::Done),
+    (FIRST, Step::Open(BESIDE), Told::Done),
+    (FIRST, Step::Say(BESIDE, LONGEST_OF_ONE), Told::Said(1)),
+    (FIRST, Step::Pack(LAST), Told::SentFour(1_093)),
+    (LAST, Step::Ack(FIRST), Told::SentFour(56)),
+    (
+        FIRST,
+        Step::Arrive(1),
+        Told::Came(LAST, Frame::Nothing, 0, 0),
+    ),
+    (FIRST, Step::Tick, Told::Noticed(LAST, false)),
+    (FIRST, Step::Tick, Told::Noticed(LAST, false)),
+    (FIRST, Step::Tick, Told::Noticed(LAST, true)),
+    (FIRST, Step::Again(LAST, 0), Told::Nothing),
+    (
+        FIRST,
+        Step::Arrive(1),
+        Told::Came(LAST, Frame::Nothing, 0, 0),
+    ),
+    (FIRST, Step::Again(LAST, 0), Told::Nothing),
+    (LAST, Step::Tick, Told::Noticed(FIRST, false)),
+    (LAST, Step::Ack(FIRST), Told::SentFour(56)),
+    (
+        FIRST,
+        Step::Arrive(2),
+        Told::Came(LAST, Frame::Nothing, 0, 0),
+    ),
+    (FIRST, Step::Again(LAST, 0), Told::SentFour(1_093)),
+    (LAST, Step::Arrive(3), Told::Came(FIRST, Frame::First, 1, 0)),
+    (FIRST, Step::Tick, Told::Noticed(LAST, false)),
+    (FIRST, Step::Tick, Told::Noticed(LAST, false)),
+    (FIRST, Step::Tick, Told::Noticed(LAST, true)),
+    (FIRST, Step::Ack(LAST), Told::SentFour(56)),
+    (
+        LAST,
+        Step::Arrive(4),
+        Told::Came(FIRST, Frame::Nothing, 0, 0),
+    ),
+    (LAST, Step::Tick, Told::Noticed(FIRST, true)),
+];
+
+#[test]
+fn a_node_of_version_four_is_heard_again(rt: HostRuntime) -> Result<(), Fail> {
+    let mut nodes = far(rt.alloc(), Version::Four)?;
+    run_at(&rt, rt.alloc(), &mut nodes, HEARD_AGAIN)?;
     Ok(())
 }
 
