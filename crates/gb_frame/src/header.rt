@@ -1,7 +1,7 @@
 // The header of a packet: its fields, and the tests of them.
 ghost use Rattle.std.specs.Prelude.{◌≡◌, ◌≤◌, length};
 ghost use Rattle.gb_types.specs.Common.{limits_of};
-ghost use Rattle.gb_frame.specs.declared.limits.TheConstants.{FIELDS as FIRST};
+ghost use Rattle.gb_frame.specs.declared.limits.TheConstants.{FIELDS};
 ghost use Rattle.gb_frame.specs.Fields.{base_in, mask_in, frame_in, count_in, items_in};
 ghost use Rattle.gb_frame.specs.Room.{shortest_of};
 ghost use Rattle.gb_frame.specs.Reading.{version_read, is_magic, is_between_nodes, is_acknowledgement, is_flagged, is_counted, tick_read, unheard_read};
@@ -22,7 +22,7 @@ pub fn version_of(bytes: &[u8]) -> Version
 
 /// Returns the base of the acknowledgement in a packet's header: each frame with a lower number was received. It is not tested here.
 pub fn base_of(bytes: &[u8]) -> u64
-    requires { FIRST ≤ length bytes.now }
+    requires { FIELDS ≤ length bytes.now }
     ensures { result ≡ base_in bytes.now }
 {
     u64_at(bytes, 5)
@@ -31,7 +31,7 @@ pub fn base_of(bytes: &[u8]) -> u64
 /// Returns the mask of the acknowledgement in a packet's header: bit i, of value 2 to the i, is 1 if frame base + i was received. It is
 /// not tested here.
 pub fn mask_of(bytes: &[u8]) -> u64
-    requires { FIRST ≤ length bytes.now }
+    requires { FIELDS ≤ length bytes.now }
     ensures { result ≡ mask_in bytes.now }
 {
     u64_at(bytes, 13)
@@ -39,7 +39,7 @@ pub fn mask_of(bytes: &[u8]) -> u64
 
 /// Returns the number of the frame that a packet's header names, or 0 if the packet carries no frame.
 pub fn frame_of(bytes: &[u8]) -> u64
-    requires { FIRST ≤ length bytes.now }
+    requires { FIELDS ≤ length bytes.now }
     ensures { result ≡ frame_in bytes.now }
 {
     u64_at(bytes, 21)
@@ -47,7 +47,7 @@ pub fn frame_of(bytes: &[u8]) -> u64
 
 /// Returns the number of items that a packet's header names. Whether they are there is not tested here.
 pub fn count_of(bytes: &[u8]) -> u16
-    requires { FIRST ≤ length bytes.now }
+    requires { FIELDS ≤ length bytes.now }
     ensures { result ≡ count_in bytes.now }
 {
     u16_at(bytes, 29)
@@ -55,7 +55,7 @@ pub fn count_of(bytes: &[u8]) -> u16
 
 /// Returns true if the first two bytes of a packet's header are `GB`, and false otherwise.
 pub fn has_magic(bytes: &[u8]) -> bool
-    requires { FIRST ≤ length bytes.now }
+    requires { FIELDS ≤ length bytes.now }
     ensures { result ≡ is_magic bytes.now }
 {
     bytes[0] == b'G' && bytes[1] == b'B'
@@ -64,7 +64,7 @@ pub fn has_magic(bytes: &[u8]) -> bool
 /// Returns true if the sender and the destination that a packet's header names are two different nodes below `nodes`, and false
 /// otherwise.
 pub fn has_nodes(nodes: u8, bytes: &[u8]) -> bool
-    requires { FIRST ≤ length bytes.now }
+    requires { FIELDS ≤ length bytes.now }
     ensures { result ≡ is_between_nodes nodes bytes.now }
 {
     bytes[3] < nodes && bytes[4] < nodes && bytes[3] != bytes[4]
@@ -72,7 +72,7 @@ pub fn has_nodes(nodes: u8, bytes: &[u8]) -> bool
 
 /// Returns true if the acknowledgement in a packet's header has a base above 0 and a mask whose bit 0 is 0, and false otherwise.
 pub fn has_acknowledgement(bytes: &[u8]) -> bool
-    requires { FIRST ≤ length bytes.now }
+    requires { FIELDS ≤ length bytes.now }
     ensures { result ≡ is_acknowledgement bytes.now }
 {
     base_of(bytes) > 0 && mask_of(bytes) % 2 == 0
@@ -110,7 +110,7 @@ pub fn has_flags(version: Version, bytes: &[u8]) -> bool
 
 /// Returns true if a packet's header names a frame and at least one item, or neither. Returns false if it names only one of them.
 pub fn has_counted_frame(bytes: &[u8]) -> bool
-    requires { FIRST ≤ length bytes.now }
+    requires { FIELDS ≤ length bytes.now }
     ensures { result ≡ is_counted bytes.now }
 {
     if frame_of(bytes) == 0 {

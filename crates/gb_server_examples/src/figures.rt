@@ -31,7 +31,7 @@ fn a_status_has_each_figure_once(rt: HostRuntime) {
     );
     assert!(rt;
         text.ends_with(
-            b" ticks=18446744073709551615 connections_accepted=0 connections_refused=0 connections_open=0 connections_waiting=0 places_left=0 running=0"
+            b" ticks=18446744073709551615 connections_accepted=0 connections_refused=0 connections_open=0 connections_waiting=0 places_left=0 running=0 nodes_suspected=0 nodes_heard_again=0"
         )
     );
     assert!(rt;
@@ -55,7 +55,7 @@ fn metrics_of_one_node_have_its_number(rt: HostRuntime) {
     let says = b"foqradesh_requests_total{node=\"31\",kind=\"say\"} 7\n";
     assert!(rt; has(&text, says));
     assert!(rt; text.iter().filter(|byte| **byte == b'{').count() == COUNT);
-    assert!(rt; text.ends_with(b"foqradesh_node_running{node=\"31\"} 0\n"));
+    assert!(rt; text.ends_with(b"foqradesh_nodes_heard_again_total{node=\"31\"} 0\n"));
 }
 
 // The first lines of a text of two nodes, of which the second has figures.
@@ -77,7 +77,7 @@ fn metrics_are_told_of_each_node(rt: HostRuntime) {
     for part in &PARTS {
         assert!(rt; has(&text, part));
     }
-    assert!(rt; text.ends_with(b"foqradesh_node_running{node=\"1\"} 0\n"));
+    assert!(rt; text.ends_with(b"foqradesh_nodes_heard_again_total{node=\"1\"} 0\n"));
     assert!(rt; text.iter().filter(|byte| **byte == b'#').count() == 2 * 24);
 }
 
