@@ -53,7 +53,7 @@ fn command<'a>(alloc: Global) -> Result<Command<'a>, AllocError>
         .long("version")
         .value_name("V")
         .help(
-            "which packets each node sends: 1, for up to 16 nodes and payloads of 1,024 bytes, 2, for up to 32 and 4,096, or 3, as 2 with items that name generations; 3 if not given",
+            "which packets each node sends: 1, for up to 16 nodes and payloads of 1,024 bytes, 2, for up to 32 and 4,096, 3, as 2 with items that name generations, or 4, as 3 with suspicions that are taken back; 4 if not given",
         );
     let with_version = with_port.arg(version)?;
     let silence = number_arg(alloc, "silence", 2, 1_000).value_name("S").help(
