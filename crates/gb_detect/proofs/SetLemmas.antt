@@ -1,9 +1,9 @@
 -- Sets of the nodes that pass a test.
-use Rattle.gb_types.specs.Common.{◌≡◌, ℕ, ◌+◌, ◌<◌, Bool, true, false, ◌&&◌, ◌||◌, nat_eq, nat_lt, refl, ap, sym, ◌∙◌, arith, not, nat_le, get_or, List, Option, nat_cmp, nat_tests, and-false, or-false, below}
+use Rattle.gb_types.specs.Common.{◌≡◌, ℕ, ◌+◌, ◌<◌, Bool, true, false, ◌&&◌, ◌||◌, nat_eq, nat_lt, refl, ap, sym, ◌∙◌, arith, not, nat_le, get_or, List, Option, nat_cmp, nat_tests, and-false, or-false, below, if◌then◌else◌}
 use Rattle.std.specs.FinSet as set
 use Rattle.std.specs.{FinSet.nat_cmp-IsAntisymmetric, Cmp.nat_cmp_total, Cmp.unsigned_tied}
 use Rattle.gb_types.proofs.{InsertedLemmas.contains-insert, PlaceLemmas.any-below, BoolLemmas.or_swap}
-use Rattle.gb_detect.specs.Watch.{nodes_where, is_due}
+use Rattle.gb_detect.specs.Watch.{nodes_where, is_due, with_if}
 
 same_nodes : (s t : set.FinSet nat_cmp) → ((q : ℕ) → set.contains s q ≡ set.contains t q) → s ≡ t
 same_nodes s t e = set.same_set nat_cmp_total nat_cmp-IsAntisymmetric s t e
@@ -94,3 +94,32 @@ is_due-inside me n s ticks withdraws silences newest flags behind b lt =
 
 pub contains-removed : (s : set.FinSet nat_cmp) (n q : ℕ) → set.contains (set.remove s n) q ≡ (not (nat_eq q n) && set.contains s q)
 contains-removed s n q = set.contains-remove nat_cmp_total s n q ∙ ap (λ b. not b && set.contains s q) (unsigned_tied q n)
+
+-- a set of nodes below n keeps to them when one of them is put in, and when any is taken out
+pub nodes_where-inserted : (n b : ℕ) (s : set.FinSet nat_cmp) → b < n → nodes_where n (set.contains s) ≡ s → nodes_where n (set.contains (set.insert s b)) ≡ set.insert s b
+nodes_where-inserted n b s lt kept = same_nodes _ _ (λ q. contains-nodes_where n _ q ∙ (ap (λ v. nat_lt q n && v) (contains-insert s b q) ∙ (by q (nat_eq q b) refl ∙ sym (contains-insert s b q))))
+  where
+    inside : (q : ℕ) → (nat_lt q n && set.contains s q) ≡ set.contains s q
+    inside q = sym (contains-nodes_where n (set.contains s) q) ∙ ap (λ t. set.contains t q) kept
+
+    by : (q : ℕ) (same : Bool) → nat_eq q b ≡ same → (nat_lt q n && (same || set.contains s q)) ≡ (same || set.contains s q)
+    by q true e = let within : nat_lt q n ≡ true = grind (arith, nat_tests, lt) in ap (λ v. v && true) within
+    by q false e = inside q
+
+pub nodes_where-removed : (n b : ℕ) (s : set.FinSet nat_cmp) → nodes_where n (set.contains s) ≡ s → nodes_where n (set.contains (set.remove s b)) ≡ set.remove s b
+nodes_where-removed n b s kept = same_nodes _ _ (λ q. contains-nodes_where n _ q ∙ (ap (λ v. nat_lt q n && v) (contains-removed s b q) ∙ (by q (nat_eq q b) ∙ sym (contains-removed s b q))))
+  where
+    inside : (q : ℕ) → (nat_lt q n && set.contains s q) ≡ set.contains s q
+    inside q = sym (contains-nodes_where n (set.contains s) q) ∙ ap (λ t. set.contains t q) kept
+
+    by : (q : ℕ) (same : Bool) → (nat_lt q n && (not same && set.contains s q)) ≡ (not same && set.contains s q)
+    by q true = and-false _
+    by q false = inside q
+
+pub nodes_where-put : (n b : ℕ) (t : Bool) (s : set.FinSet nat_cmp) → (t ≡ true → b < n) → nodes_where n (set.contains s) ≡ s → nodes_where n (set.contains (with_if t b s)) ≡ with_if t b s
+nodes_where-put n b true s lt kept = nodes_where-inserted n b s (lt refl) kept
+nodes_where-put n b false s lt kept = nodes_where-removed n b s kept
+
+pub nodes_where-left : (n b : ℕ) (t : Bool) (s : set.FinSet nat_cmp) → nodes_where n (set.contains s) ≡ s → nodes_where n (set.contains (if t then s else set.remove s b)) ≡ (if t then s else set.remove s b)
+nodes_where-left n b true s kept = kept
+nodes_where-left n b false s kept = nodes_where-removed n b s kept

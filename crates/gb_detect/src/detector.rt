@@ -2,7 +2,8 @@
 ghost use Rattle.std.specs.Prelude.{◌≡◌, ◌↔◌, ℕ, ◌+◌, ◌<◌, ◌≤◌, ◌&&◌, List, [], ◌∷◌, map, min, IsTrue, if◌then◌else◌};
 ghost use Rattle.std.specs.FinSet as set;
 ghost use Rattle.gb_detect.specs.Silence.{Call, Heard, Tick};
-ghost use Rattle.gb_detect.specs.Watch.{start, after_fresh, after_heard, after_tick, due, is_due, is_fresh, is_mute, is_other, nodes_where, pulse_to, suspected, StandsFor, AreNoticed, AreSuspected, AreNew};
+ghost use Rattle.gb_detect.specs.Suspicion.{says_unheard};
+ghost use Rattle.gb_detect.specs.Watch.{start, after_fresh, after_heard, after_tick, due, is_due, is_fresh, is_mute, is_other, nodes_where, pulse_to, suspected, with_if, with_newest, StandsFor, AreNoticed, AreSuspected, AreNew};
 
 use gb_types::limits::{NODES, SILENCE_MAX, SILENCE_MIN};
 use gb_types::{NodeId, NodeSet, Pulse};
@@ -77,6 +78,45 @@ fn count_tick(silences: &mut [u16; NODES], silence: u16)
     }
 }
 
+/// Returns true if a packet with this pulse says that its destination is silent at its sender.
+fn says_unheard(pulse: Option<Pulse>) -> bool
+    ensures { result ≡ says_unheard pulse }
+{
+    match pulse {
+        None => false,
+        Some(pulse) => pulse.unheard,
+    }
+}
+
+/// Puts the tick number of a fresh packet in the place of the greatest that came before, if it has one.
+fn note_newest(newest: &mut Option<u64>, pulse: Option<Pulse>)
+    ensures { newest.new ≡ with_newest pulse newest.old }
+{
+    if let Some(pulse) = pulse {
+        *newest = Some(pulse.tick);
+    }
+}
+
+/// Adds a node to a set, or takes it out.
+fn put_if(is_in: bool, node: NodeId, nodes: &mut NodeSet)
+    ensures { nodes.new ≡ with_if is_in node.number nodes.old }
+{
+    if is_in {
+        nodes.insert(node);
+    } else {
+        nodes.remove(node);
+    }
+}
+
+/// Takes a node out of a set unless it is kept.
+fn keep_if(is_kept: bool, node: NodeId, nodes: &mut NodeSet)
+    ensures { nodes.new ≡ (if is_kept then nodes.old else set.remove nodes.old node.number) }
+{
+    if !is_kept {
+        nodes.remove(node);
+    }
+}
+
 impl Detector {
     /// Returns a detector at the node `me` of a cluster of the nodes below `nodes`. It has heard nothing yet and suspects no node. It
     /// suspects a node once it is silent for `silence` ticks. If `withdraws` is true, suspicions are taken back. If it is false, they are
@@ -126,20 +166,12 @@ impl Detector {
     fn hear_fresh(&mut self, node: NodeId, pulse: Option<Pulse>)
         ensures { self.new ≡ after_fresh self.old node.number pulse }
     {
-        let mut unheard = false;
-        if let Some(pulse) = pulse {
-            self.newest[node.index()] = Some(pulse.tick);
-            unheard = pulse.unheard;
-        }
+        let unheard = says_unheard(pulse);
+        let is_flagged = self.is_other(node) && unheard;
         self.silences[node.index()] = 0;
-        if unheard && self.is_other(node) {
-            self.flagged.insert(node);
-        } else {
-            self.flagged.remove(node);
-        }
-        if !unheard {
-            self.noticed.remove(node);
-        }
+        note_newest(&mut self.newest[node.index()], pulse);
+        put_if(is_flagged, node, &mut self.flagged);
+        keep_if(unheard, node, &mut self.noticed);
     }
 
     /// Records that a packet of `node` was heard. `pulse` is what it says of its sender's time, `None` if packets of its version do not

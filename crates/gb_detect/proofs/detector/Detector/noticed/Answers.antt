@@ -5,7 +5,7 @@ use Rattle.gb_detect.proofs.ReplayLemmas.{stands-noticed}
 use Rattle.gb_detect.proofs.detector.Detector.noticed.Goals as goal
 
 copied : goal.returns-clause-value
-copied c = c.duplicate.ensures ∙ (sym c.self.invariant.1 ∙ ap (λ (d : Watch). d.noticed) c.self.view_is)
+copied c = c.duplicate.ensures ∙ (sym c.self.invariant.2 ∙ ap (λ (d : Watch). d.noticed) c.self.view_is)
 
 pub returns-clause-value : goal.returns-clause-value
 returns-clause-value c = copied c
