@@ -1,9 +1,9 @@
 //! The crash detector of one node, as a value: which nodes it has not heard for too many ticks.
-ghost use Rattle.std.specs.Prelude.{◌≡◌, ◌↔◌, ℕ, ◌+◌, ◌<◌, ◌≤◌, ◌&&◌, List, [], ◌∷◌, map, min, IsTrue, if◌then◌else◌};
+ghost use Rattle.std.specs.Prelude.{◌≡◌, ℕ, ◌+◌, ◌<◌, ◌≤◌, ◌||◌, nat_le, slice_index, List, [], ◌∷◌, map, min, if◌then◌else◌};
 ghost use Rattle.std.specs.FinSet as set;
 ghost use Rattle.gb_detect.specs.Silence.{Call, Heard, Tick};
 ghost use Rattle.gb_detect.specs.Suspicion.{says_unheard};
-ghost use Rattle.gb_detect.specs.Watch.{start, after_fresh, after_heard, after_tick, due, is_due, is_fresh, is_mute, is_other, nodes_where, pulse_to, suspected, with_if, with_newest, StandsFor, AreNoticed, AreSuspected, AreNew};
+ghost use Rattle.gb_detect.specs.Watch.{start, after_fresh, after_heard, after_tick, due, is_due, is_fresh, is_other, nodes_where, pulse_to, suspected, with_if, with_newest, StandsFor, AreNoticed, AreSuspected, AreNew};
 
 use gb_types::limits::{NODES, SILENCE_MAX, SILENCE_MIN};
 use gb_types::{NodeId, NodeSet, Pulse};
@@ -189,6 +189,14 @@ impl Detector {
         }
     }
 
+    /// Returns true if this node of the cluster is silent after one more tick, or said that this node is silent there.
+    fn is_doubted_next(&self, node: NodeId) -> bool
+        requires { node.number < self.now.nodes }
+        ensures { result ≡ (nat_le self.now.silence (slice_index self.now.silences node.number + 1) || set.contains self.now.flagged node.number) }
+    {
+        self.silences[node.index()].saturating_add(1) >= self.silence || self.flagged.contains(node)
+    }
+
     /// Returns true if a tick would notice this node of the cluster.
     fn is_due(&self, node: NodeId) -> bool
         requires { node.number < self.now.nodes }
@@ -196,8 +204,7 @@ impl Detector {
     {
         node.number != self.me.number
             && !self.noticed.contains(node)
-            && (self.silences[node.index()].saturating_add(1) >= self.silence
-                || self.flagged.contains(node))
+            && self.is_doubted_next(node)
     }
 
     /// Returns the nodes that the next tick would notice: the other nodes of the cluster that are suspected after it, and that no tick has
