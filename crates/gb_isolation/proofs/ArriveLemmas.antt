@@ -40,7 +40,6 @@ packet_view plan g past bytes good c is = λ i. record {
   living = living_of g past;
   made = made_with g past;
   dropped = is_dropped g past;
-  noticed = set.contains (replay (start plan.me.number plan.nodes plan.silence) (map (λ (x : Content). Heard x.from) (is i) ++ watched plan.cluster_key past)).noticed;
   replies = append-nil (replies_in plan.me g past) i;
   met = is_met plan.me g past;
   frames = λ b. append-nil (frames_to plan.cluster_key b past) i;

@@ -8,7 +8,7 @@ use Rattle.gb_rules.specs.declared.reserve.Reserve.{Reserve}
 use Rattle.gb_alone.specs.declared.event.GroupEvent.{GroupEvent}
 use Rattle.gb_alone.specs.declared.event.GroupEvent.TheVariants.{Make as AskMake, Open as AskOpen, Shut as AskShut, Drop as AskDrop, Say as AskSay}
 use Rattle.gb_alone.specs.Common.{Member, Group, did, commanded, member_after, is_marked, MayHappen}
-use Rattle.gb_node.specs.Common.{Happened, frames_to, is_acked, is_taken, watched, added, tenants_in, is_stopped, Told, noticed_after, waiting_of, asked_told, told_of, living_after, living_done, living_of, has_group_token}
+use Rattle.gb_node.specs.Common.{Happened, frames_to, is_acked, is_taken, watched, added, tenants_in, is_stopped, Told, suspected_after, waiting_of, asked_told, told_of, living_after, living_done, living_of, has_group_token}
 use Rattle.gb_node.specs.declared.{answer.NodeAnswer.TheVariants.Reply as Replied, event.NodeEvent.TheVariants.Request as Asked, plan.NodePlan.NodePlan}
 use Rattle.gb_isolation.specs.Project.{group_items_of, is_named, is_own_request, made_by, made_with, is_met_by, is_met, reply_in, replies_in}
 use Rattle.gb_isolation.specs.RunLaws.{is_dropped, is_dropped_by}
@@ -29,7 +29,7 @@ asking request reply = record { event = Asked request; answer = Replied reply }
 -- the view after a request has other links nowhere, and notices nobody
 pub view_asked : (plan : NodePlan) (g : Addr) (past : List Happened) (request : Request) (reply : Reply) (reserve : Option Reserve) (told : Option (Option Told)) (living : ℕ) (made : Option Spec) (dropped : Bool) (replies : List Reply) (met : Bool)
     → option_map reserve_of (row_of g.tenant (tenants_in past ++ added (Asked request) (Replied reply))) ≡ reserve
-    → asked_told g plan.me (noticed_after plan past) reply request.what (told_of plan g past) ≡ told
+    → asked_told g plan.me (suspected_after plan past) reply request.what (told_of plan g past) ≡ told
     → living_after g (Asked request) (Replied reply) (living_of g past) ≡ living
     → option_or (made_by g (Asked request) (Replied reply)) (made_with g past) ≡ made
     → (is_dropped_by g (Asked request) (Replied reply) || is_dropped g past) ≡ dropped
@@ -43,7 +43,6 @@ view_asked plan g past request reply reserve told living made dropped replies me
   living = lives i;
   made = mades i;
   dropped = drops i;
-  noticed = set.contains (noticed_after plan past);
   replies = says i;
   met = meets i;
   frames = λ b. append-nil (frames_to plan.cluster_key b past) i;
@@ -60,7 +59,7 @@ pub view_own : (plan : NodePlan) (g : Addr) (past : List Happened) (request : Re
     → is_stopped past ≡ false
     → is_own_request plan.me g past request ≡ true
     → added (Asked request) (Replied reply) ≡ []
-    → asked_told g plan.me (noticed_after plan past) reply request.what (told_of plan g past) ≡ told
+    → asked_told g plan.me (suspected_after plan past) reply request.what (told_of plan g past) ≡ told
     → option_or (made_by g (Asked request) (Replied reply)) (made_with g past) ≡ made
     → (is_dropped_by g (Asked request) (Replied reply) || is_dropped g past) ≡ dropped
     → view_of plan g (asking request reply ∷ past) ≡ record (view_of plan g past) { told = told; made = made; dropped = dropped; replies = replies_in plan.me g past ++ reply ∷ [] }
@@ -75,7 +74,7 @@ view_own plan g past request reply told made dropped running own rows tells made
 pub unrelated_request : (plan : NodePlan) (versions : List Version) (g : Addr) (past : List Happened) (request : Request) (reply : Reply) (frames_from : ℕ → List (List Item)) (group : Group)
     → is_own_request plan.me g past request ≡ false
     → added (Asked request) (Replied reply) ≡ []
-    → asked_told g plan.me (noticed_after plan past) reply request.what (told_of plan g past) ≡ told_of plan g past
+    → asked_told g plan.me (suspected_after plan past) reply request.what (told_of plan g past) ≡ told_of plan g past
     → living_after g (Asked request) (Replied reply) (living_of g past) ≡ living_of g past
     → made_by g (Asked request) (Replied reply) ≡ None
     → is_dropped_by g (Asked request) (Replied reply) ≡ false
@@ -170,7 +169,6 @@ commands bounds g a frames_from v group e reply o dropped fits may is spec gone 
       replies = ap (λ rs. rs ++ reply ∷ []) fits.replies;
       spec = spec ∙ fits.spec;
       gone = gone;
-      noticed = λ b. ap (is_marked b) keeps.noticed ∙ fits.noticed b;
       stopped = keeps.stopped ∙ fits.stopped;
       come = λ b low. subst (λ (f : ℕ → List ℕ). AreMarked g (frames_from b) (v.taken b) (f b)) (sym keeps.come) (fits.come b low);
       done = λ b low. subst (λ (f : ℕ → List ℕ). AreMarked g (v.frames b) (v.acked b) (f b)) (sym keeps.done) (fits.done b low);

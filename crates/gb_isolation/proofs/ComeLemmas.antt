@@ -313,7 +313,6 @@ module _ (bounds : Bounds) (g : Addr) (a s : NodeId) (frames_from : ℕ → List
       replies = coming.replies ∙ fits.replies;
       spec = coming.made ∙ fits.spec;
       gone = ap is_gone coming.phase ∙ fits.gone;
-      noticed = λ b. ap (is_marked b) coming.noticed ∙ fits.noticed b;
       stopped = coming.stopped ∙ fits.stopped;
       come = λ b in_b. come_there b in_b (cases_eq b s.number);
       done = λ b in_b. subst (λ (d : ℕ → List ℕ). AreMarked g (v.frames b) (v.acked b) (d b)) (sym coming.done) (fits.done b in_b);

@@ -12,7 +12,7 @@ use Rattle.gb_alone.specs.Common.{Member, Group, called, commanded, did, is_ackn
 use Rattle.gb_alone.specs.Alone as alone
 use Rattle.gb_alone.proofs.MarkLemmas.{unknown_acknowledged}
 use Rattle.gb_rules.specs.Lifetime as life
-use Rattle.gb_node.specs.Common.{Happened, added, added_by, is_stopped, tenants_in, Told, noticed_after, shown_of, shown_in, with_call, moved_to, asked_told, told_of, group_answer, is_admitted_by, admitted_answer, has_group_token}
+use Rattle.gb_node.specs.Common.{Happened, added, added_by, is_stopped, tenants_in, Told, suspected_after, shown_of, shown_in, with_call, moved_to, asked_told, told_of, group_answer, is_admitted_by, admitted_answer, has_group_token}
 use Rattle.gb_node.specs.declared.{answer.NodeAnswer.TheVariants.Reply as Replied, event.NodeEvent.TheVariants.Request as Asked, plan.NodePlan.NodePlan}
 use Rattle.gb_rules.proofs.AddressLemmas.{addr_is}
 use Rattle.gb_isolation.specs.Project.{command_for, is_named, is_own_request, makes, made_by, made_with, tenant_of, tenant_given, other_given, ticked}
@@ -23,7 +23,7 @@ use Rattle.gb_isolation.proofs.FinishedLemmas.{counts_fit}
 use Rattle.gb_isolation.proofs.MemberLemmas.{answered-is, called_there, called_put}
 use Rattle.gb_isolation.proofs.PastLemmas.{running_unmet}
 use Rattle.gb_isolation.proofs.RoomLemmas.{own_given}
-use Rattle.gb_isolation.proofs.View.{View, view_of, MemberIs, IsThere, IsInside, Fits, Goes, bounds_with, asked_by, is_noticed_after, own_requested_by, requested_by}
+use Rattle.gb_isolation.proofs.View.{View, view_of, MemberIs, IsThere, IsInside, Fits, Goes, bounds_with, asked_by, is_suspected_after, own_requested_by, requested_by}
 
 -- A request that names a group comes with the token that it needs where it comes with the group's.
 pub group_token_is : (plan : NodePlan) (g : Addr) (past : List Happened) (request : Request) → is_named g request.what ≡ true → has_group_token plan.me (tenants_in past) request ≡ is_admitted_by plan past request
@@ -84,7 +84,7 @@ module _ (plan : NodePlan) (versions : List Version) (g : Addr) (past : List Hap
   -- the group's own request, which does not make it
   pub own_command : (e : GroupEvent) (o : Option (Option Told)) → is_stopped past ≡ false → is_own_request plan.me g past request ≡ true
       → added (Asked request) (Replied reply) ≡ []
-      → asked_told g plan.me (noticed_after plan past) reply request.what (told_of plan g past) ≡ o
+      → asked_told g plan.me (suspected_after plan past) reply request.what (told_of plan g past) ≡ o
       → made_by g (Asked request) (Replied reply) ≡ None
       → tenant_given g plan.me reply request.what ++ own_requested_by plan g past request reply ≡ record { node = plan.me; event = e } ∷ []
       → MayHappen plan.me e group
@@ -103,7 +103,7 @@ module _ (plan : NodePlan) (versions : List Version) (g : Addr) (past : List Hap
   -- and so where it adds no tenant either
   plain_command : (e : GroupEvent) (o : Option (Option Told)) → is_stopped past ≡ false → is_own_request plan.me g past request ≡ true
       → added_by request.what ≡ []
-      → asked_told g plan.me (noticed_after plan past) reply request.what (told_of plan g past) ≡ o
+      → asked_told g plan.me (suspected_after plan past) reply request.what (told_of plan g past) ≡ o
       → makes g request.what ≡ None
       → tenant_of g plan.me request.what ≡ []
       → command_for plan.me request.what ≡ record { node = plan.me; event = e } ∷ []
@@ -117,7 +117,7 @@ module _ (plan : NodePlan) (versions : List Version) (g : Addr) (past : List Hap
       → AskedGoes
   plain_command e o running own rows told unmade none one may is same spec gone fits tells =
       own_command e o running own (if_same reply (added_by request.what) [] rows) told (if_same reply (makes g request.what) None unmade)
-      (λ i. if_same reply (tenant_of g plan.me request.what) [] none i ++ (one i ++ ticked plan.me (is_noticed_after plan past) (if_same reply (makes g request.what) None unmade i)))
+      (λ i. if_same reply (tenant_of g plan.me request.what) [] none i ++ (one i ++ ticked plan.me (is_suspected_after plan past) (if_same reply (makes g request.what) None unmade i)))
       may is same spec gone fits tells
 
   -- a request that drops no group leaves the group as it was
@@ -338,7 +338,7 @@ module _ (plan : NodePlan) (versions : List Version) (g : Addr) (past : List Hap
   at_open few running own is fits =
       let named = (and_parts (is_addr g addr) (has_group_token plan.me (tenants_in past) (asking_of token addr Open)) own).0 in
       let same = same_answer open_answer named is in
-      plain_command plan versions g past (asking_of token addr Open) reply frames_from group AskOpen (moved_after Opened reply (told_of plan g past)) running own refl (opened_for g plan.me (noticed_after plan past) addr reply (told_of plan g past) named) refl refl refl tt refl
+      plain_command plan versions g past (asking_of token addr Open) reply frames_from group AskOpen (moved_after Opened reply (told_of plan g past)) running own refl (opened_for g plan.me (suspected_after plan past) addr reply (told_of plan g past) named) refl refl refl tt refl
       (answers_alike plan g past (asking_of token addr Open) frames_from group open_answer few own fits ∙ same)
       (ap (λ (n : Member). n.spec) (did_opened plan.me reply m) ∙ moved_spec Opened reply m)
       (left_there plan versions g past (asking_of token addr Open) reply frames_from group _ refl (ap (λ (n : Member). is_gone n.phase) (did_opened plan.me reply m) ∙ (moved_gone open_answer Opened refl plan.me.number (told_of plan g past) m reply same fits.told ∙ fits.gone))) fits
@@ -350,7 +350,7 @@ module _ (plan : NodePlan) (versions : List Version) (g : Addr) (past : List Hap
   at_shut few running own is fits =
       let named = (and_parts (is_addr g addr) (has_group_token plan.me (tenants_in past) (asking_of token addr Shut)) own).0 in
       let same = same_answer shut_answer named is in
-      plain_command plan versions g past (asking_of token addr Shut) reply frames_from group AskShut (moved_after Closed reply (told_of plan g past)) running own refl (shut_for g plan.me (noticed_after plan past) addr reply (told_of plan g past) named) refl refl refl tt refl
+      plain_command plan versions g past (asking_of token addr Shut) reply frames_from group AskShut (moved_after Closed reply (told_of plan g past)) running own refl (shut_for g plan.me (suspected_after plan past) addr reply (told_of plan g past) named) refl refl refl tt refl
       (answers_alike plan g past (asking_of token addr Shut) frames_from group shut_answer few own fits ∙ same)
       (ap (λ (n : Member). n.spec) (did_shut plan.me reply m) ∙ moved_spec Closed reply m)
       (left_there plan versions g past (asking_of token addr Shut) reply frames_from group _ refl (ap (λ (n : Member). is_gone n.phase) (did_shut plan.me reply m) ∙ (moved_gone shut_answer Closed refl plan.me.number (told_of plan g past) m reply same fits.told ∙ fits.gone))) fits
@@ -362,7 +362,7 @@ module _ (plan : NodePlan) (versions : List Version) (g : Addr) (past : List Hap
   at_drop few running own is fits =
       let named = (and_parts (is_addr g addr) (has_group_token plan.me (tenants_in past) (asking_of token addr Drop)) own).0 in
       let same = same_answer drop_answer named is in
-      plain_command plan versions g past (asking_of token addr Drop) reply frames_from group AskDrop (dropped_after reply (told_of plan g past)) running own refl (dropped_for g plan.me (noticed_after plan past) addr reply (told_of plan g past) named) refl refl refl tt refl
+      plain_command plan versions g past (asking_of token addr Drop) reply frames_from group AskDrop (dropped_after reply (told_of plan g past)) running own refl (dropped_for g plan.me (suspected_after plan past) addr reply (told_of plan g past) named) refl refl refl tt refl
       (answers_alike plan g past (asking_of token addr Drop) frames_from group drop_answer few own fits ∙ same)
       (ap (λ (n : Member). n.spec) (did_dropped plan.me reply m) ∙ dropped_spec reply m)
       (ap (λ (n : Member). is_gone n.phase) (did_dropped plan.me reply m) ∙ dropped_gone g past token addr reply m named fits.gone) fits
@@ -375,7 +375,7 @@ module _ (plan : NodePlan) (versions : List Version) (g : Addr) (past : List Hap
   at_say right message few running own is fresh fits =
       let named = (and_parts (is_addr g addr) (has_group_token plan.me (tenants_in past) (asking_of token addr (Say message))) own).0 in
       let same = same_answer (λ s. say_answer plan.version s message) named is in
-      plain_command plan versions g past (asking_of token addr (Say message)) reply frames_from group (AskSay message) (said_after plan.me message.payload reply (told_of plan g past)) running own refl (said_for g plan.me (noticed_after plan past) addr message reply (told_of plan g past) named) refl refl refl tt refl
+      plain_command plan versions g past (asking_of token addr (Say message)) reply frames_from group (AskSay message) (said_after plan.me message.payload reply (told_of plan g past)) running own refl (said_for g plan.me (suspected_after plan past) addr message reply (told_of plan g past) named) refl refl refl tt refl
       (ap (λ version. on_group (λ s. say_answer version s message) plan.me.number m) right ∙ (answers_alike plan g past (asking_of token addr (Say message)) frames_from group (λ s. say_answer plan.version s message) few own fits ∙ same))
       (said_spec plan.me message reply m) (left_there plan versions g past (asking_of token addr (Say message)) reply frames_from group _ refl (said_gone plan.me message reply m ∙ fits.gone)) fits
       (says plan.version plan.nodes plan.me (carried_in g before) message (told_of plan g past) m reply same fresh (member_fits plan.nodes g plan.me.number frames_from before m fits))
@@ -384,6 +384,6 @@ module _ (plan : NodePlan) (versions : List Version) (g : Addr) (past : List Hap
       → Fits plan.nodes g plan.me.number frames_from before m → AskedGoes plan versions g past (asking_of token addr (Fetch from most)) reply frames_from group
   at_fetch from most few running own is fits =
       let named = (and_parts (is_addr g addr) (has_group_token plan.me (tenants_in past) (asking_of token addr (Fetch from most))) own).0 in
-      plain_command plan versions g past (asking_of token addr (Fetch from most)) reply frames_from group (AskFetch from most) (told_of plan g past) running own refl (fetched_for g plan.me (noticed_after plan past) addr from most reply (told_of plan g past)) refl refl refl tt refl
+      plain_command plan versions g past (asking_of token addr (Fetch from most)) reply frames_from group (AskFetch from most) (told_of plan g past) running own refl (fetched_for g plan.me (suspected_after plan past) addr from most reply (told_of plan g past)) refl refl refl tt refl
       (answers_alike plan g past (asking_of token addr (Fetch from most)) frames_from group (λ s. fetch_answer s from most) few own fits ∙ same_answer (λ s. fetch_answer s from most) named is)
       refl (left_there plan versions g past (asking_of token addr (Fetch from most)) reply frames_from group _ refl fits.gone) fits (member_fits plan.nodes g plan.me.number frames_from before m fits)

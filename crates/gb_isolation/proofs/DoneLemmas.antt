@@ -466,7 +466,6 @@ module _ (bounds : Bounds) (g : Addr) (a s : NodeId) (frames_from : ℕ → List
       replies = ap (λ (m : Member). m.replies) acked.member ∙ fits.replies;
       spec = ap (λ (m : Member). m.spec) acked.member ∙ fits.spec;
       gone = ap (λ (m : Member). is_gone m.phase) acked.member ∙ fits.gone;
-      noticed = λ b. ap (λ (m : Member). is_marked b m.noticed) acked.member ∙ fits.noticed b;
       stopped = ap (λ (m : Member). m.stopped) acked.member ∙ fits.stopped;
       come = λ b in_b. subst (λ marks. AreMarked g (frames_from b) (v.taken b) marks) (sym (ap (λ (m : Member). m.come b) acked.member)) (fits.come b in_b);
       done = λ b in_b. done_there b in_b (cases_eq b s.number);

@@ -68,9 +68,6 @@ put_stays me spec (b ∷ bs) qs m x made present told carried others =
 pub before_rising : (spec : Spec) (me : ℕ) (new : ℕ → Bool) → AreRising 0 (noticed_members spec me new)
 before_rising spec me new = passing_rising (other_noticed spec me new) 0 NODES (omega arith)
 
-pub marked_before : (spec : Spec) (me : ℕ) (new : ℕ → Bool) → ((x : ℕ) → new x ≡ true → x < NODES) → (x : ℕ) → is_marked x (noticed_members spec me new) ≡ (is_other spec me x && new x)
-marked_before spec me new nodes x = passing_marked (other_noticed spec me new) (λ y is. nodes y (and_parts (is_other spec me y) (new y) is).1) x
-
 -- the group alone after its notices is what is told first
 pub fresh_there : (a : NodeId) (spec : Spec) (noticed : set.FinSet nat_cmp) (m : Member) → m.spec ≡ Some spec → m.phase ≡ Made → m.told ≡ [] → IsThere (told_first spec a noticed) (all_noticed a.number (noticed_members spec a.number (set.contains noticed)) m)
 fresh_there a spec noticed m made phase told =

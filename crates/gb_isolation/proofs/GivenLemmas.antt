@@ -20,7 +20,7 @@ use Rattle.gb_isolation.specs.Project.{group_items, group_items_of, offset, is_n
 use Rattle.gb_isolation.proofs.NoticeLemmas.{notices_of, notices_there, notices_keep}
 use Rattle.gb_isolation.proofs.GoesLemmas.{after_there}
 use Rattle.gb_isolation.proofs.RoomLemmas.{own_given}
-use Rattle.gb_isolation.proofs.View.{asked_by, is_noticed_after, own_requested_by}
+use Rattle.gb_isolation.proofs.View.{asked_by, is_suspected_after, own_requested_by}
 
 -- each of these events is so
 abbrev pub AllAre : (GroupStep → Type 0) → List GroupStep → Type 0
@@ -123,8 +123,8 @@ at_ticked a found (Some spec) = at_notices a spec found
 
 at_requested : (plan : NodePlan) (g : Addr) (past : List Happened) (request : Request) (reply : Reply) → AllAre (IsAt plan.me) (own_requested_by plan g past request reply)
 at_requested plan g past request reply =
-    all_both (IsAt plan.me) (command_for plan.me request.what) (ticked plan.me (is_noticed_after plan past) (made_by g (Asked request) (Replied reply))) (at_command plan.me request.what)
-    (at_ticked plan.me (is_noticed_after plan past) (made_by g (Asked request) (Replied reply)))
+    all_both (IsAt plan.me) (command_for plan.me request.what) (ticked plan.me (is_suspected_after plan past) (made_by g (Asked request) (Replied reply))) (at_command plan.me request.what)
+    (at_ticked plan.me (is_suspected_after plan past) (made_by g (Asked request) (Replied reply)))
 
 at_asked : (plan : NodePlan) (g : Addr) (past : List Happened) (request : Request) (reply : Reply) → AllAre (IsAt plan.me) (asked_by plan g past request reply)
 at_asked plan g past request reply = by (is_stopped past) (is_own_request plan.me g past request)
@@ -229,14 +229,14 @@ module _ (bounds : Bounds) (plan : NodePlan) (g : Addr) (past : List Happened) (
   own_due request reply named made = by request.what reply named made
     where
       given_by : Reply → Action → List GroupStep
-      given_by reply what = tenant_given g plan.me reply what ++ (command_for plan.me what ++ ticked plan.me (is_noticed_after plan past) (if_done reply (makes g what) None))
+      given_by reply what = tenant_given g plan.me reply what ++ (command_for plan.me what ++ ticked plan.me (is_suspected_after plan past) (if_done reply (makes g what) None))
 
       by : (what : Action) (reply : Reply) → is_named g what ≡ true → (alone_from bounds g group (given_by reply what) plan.me.number).spec ≡ option_or (if_done reply (makes g what) None) (made_with g past) → AreDue bounds g group (given_by reply what)
       by (AddTenant row) reply named made = absurd (cc)
       by (AtGroup addr (Make spec)) Done named made =
-          let given : Bool → List GroupStep = λ t. record { node = plan.me; event = AskMake spec } ∷ ticked plan.me (is_noticed_after plan past) (if t then Some spec else None) in
+          let given : Bool → List GroupStep = λ t. record { node = plan.me; event = AskMake spec } ∷ ticked plan.me (is_suspected_after plan past) (if t then Some spec else None) in
           subst (λ t. AreDue bounds g group (given t)) (sym named)
-          (making_due bounds g plan.me spec (filter (λ b. is_other spec plan.me.number b && is_noticed_after plan past b) (range_with_len 0 NODES)) group
+          (making_due bounds g plan.me spec (filter (λ b. is_other spec plan.me.number b && is_suspected_after plan past b) (range_with_len 0 NODES)) group
           (ap (λ (t : Bool). is_some (alone_from bounds g group (given t) plan.me.number).spec) (sym named) ∙ (ap is_some made ∙ ap (λ (t : Bool). is_some (option_or (if t then Some spec else None) (made_with g past))) named)))
       by (AtGroup addr command) Done named made = all_due bounds g (record { node = plan.me; event = event_of command } ∷ []) group (plain_event command, tt)
       by (AtGroup addr command) reply named made = all_due bounds g (record { node = plan.me; event = event_of command } ∷ []) group (plain_event command, tt)

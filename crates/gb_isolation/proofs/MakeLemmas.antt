@@ -9,7 +9,7 @@ use Rattle.gb_rules.specs.Common.{said_in, is_addr, is_gone, is_member, make_ans
 use Rattle.gb_alone.proofs.InsideLemmas.{step_inside}
 use Rattle.gb_alone.specs.declared.event.GroupEvent.TheVariants.{Make as AskMake}
 use Rattle.gb_alone.specs.Common.{Member, Group, after, commanded, is_marked, reply_to, running_reply}
-use Rattle.gb_node.specs.Common.{node_numbered, Happened, is_stopped, tenants_in, Told, noticed_after, waiting_of, noticed_members, crashed_onto, told_first, told_of, living_of, admitted_answer, has_group_token}
+use Rattle.gb_node.specs.Common.{node_numbered, Happened, is_stopped, tenants_in, Told, suspected_after, waiting_of, noticed_members, crashed_onto, told_first, told_of, living_of, admitted_answer, has_group_token}
 use Rattle.gb_node.specs.declared.plan.NodePlan.{NodePlan}
 use Rattle.gb_rules.proofs.AddressLemmas.{addr_is}
 use Rattle.gb_isolation.specs.Project.{is_met, is_own_request, made_with, replies_in}
@@ -21,7 +21,7 @@ use Rattle.gb_isolation.proofs.GoesLemmas.{after_there, after_elsewhere}
 use Rattle.gb_isolation.proofs.MemberLemmas.{made-is, KeepsRest}
 use Rattle.gb_isolation.proofs.NoticeLemmas.{all_noticed, notices_of, notices_there, notices_elsewhere, notices_keep, notices_mark, notices_legal}
 use Rattle.gb_isolation.proofs.PastLemmas.{running_unmet}
-use Rattle.gb_isolation.proofs.View.{View, view_of, AreMarked, Fits, Goes, NotMade, IsThere, MemberIs, is_concerned, said_of, bounds_with, is_noticed_after}
+use Rattle.gb_isolation.proofs.View.{View, view_of, AreMarked, Fits, Goes, NotMade, IsThere, MemberIs, is_concerned, said_of, bounds_with, is_suspected_after}
 
 -- notices say nothing
 none_said : (bs : List ℕ) (calls : List GroupCall) → said_in calls ≡ 0 → said_in (crashed_onto calls bs) ≡ 0
@@ -35,12 +35,12 @@ first_said bs = none_said bs [] refl
 
 -- The group is made.
 
-module _ (bounds : Bounds) (g : Addr) (a : NodeId) (frames_from : ℕ → List (List Item)) (v : View) (group : Group) (spec : Spec) where
+module _ (bounds : Bounds) (g : Addr) (a : NodeId) (frames_from : ℕ → List (List Item)) (v : View) (group : Group) (spec : Spec) (noticed : set.FinSet nat_cmp) where
   abbrev made : Member
   made = commanded a (AskMake spec) Done (group a.number)
 
   abbrev noticed_now : List ℕ
-  noticed_now = noticed_members spec a.number v.noticed
+  noticed_now = noticed_members spec a.number (set.contains noticed)
 
   abbrev next : Member
   next = all_noticed a.number noticed_now made
@@ -61,21 +61,19 @@ module _ (bounds : Bounds) (g : Addr) (a : NodeId) (frames_from : ℕ → List (
       spec_is : (after bounds g everywhere (record { node = a; event = AskMake spec }) a.number).spec ≡ Some spec
       spec_is = ap (λ (m : Member). m.spec) (after_there bounds g everywhere a (AskMake spec) ∙ ap (λ r. commanded a (AskMake spec) r (group a.number)) is)
 
-  made_fits : (noticed : set.FinSet nat_cmp) → v.noticed ≡ set.contains noticed → ((b : ℕ) → v.noticed b ≡ true → b < NODES) → v.told ≡ None → (group a.number).spec ≡ None → reply_to bounds g a.number (AskMake spec) (group a.number) ≡ Done
+  made_fits : v.told ≡ None → (group a.number).spec ≡ None → reply_to bounds g a.number (AskMake spec) (group a.number) ≡ Done
       → Fits bounds.nodes g a.number frames_from v (group a.number)
       → Fits bounds.nodes g a.number frames_from (record v { told = Some (Some (told_first spec a noticed)); made = Some spec; replies = v.replies ++ Done ∷ [] }) next
-  made_fits noticed noticed_is below free unmade answered fits = record {
+  made_fits free unmade answered fits = record {
     reserve = keeps.reserve ∙ fits.reserve;
     others = keeps.others ∙ fits.others;
-    told = subst (λ (new : ℕ → Bool). IsThere (told_first spec a noticed) (all_noticed a.number (noticed_members spec a.number new) made)) (sym noticed_is) (fresh_there a spec noticed made refl absent.phase absent.told);
+    told = fresh_there a spec noticed made refl absent.phase absent.told;
     inside = inside_some bounds.nodes (told_first spec a noticed) (members_inside unmade answered);
-    put = λ b low. fresh_put a.number spec v.noticed made b refl (ap is_gone absent.phase) absent.told (count b low) ∙ (fits.put b low ∙ ap (λ o. carried_in g v b ++ waiting_of o b) free);
+    put = λ b low. fresh_put a.number spec (set.contains noticed) made b refl (ap is_gone absent.phase) absent.told (count b low) ∙ (fits.put b low ∙ ap (λ o. carried_in g v b ++ waiting_of o b) free);
     taken = λ b low. ap (λ (f : ℕ → ℕ). f b) keeps.taken ∙ fits.taken b low;
     replies = keeps.replies ∙ ap (λ rs. rs ++ Done ∷ []) fits.replies;
     spec = keeps.spec;
     gone = ap is_gone keeps.phase ∙ fits.gone;
-    noticed = λ b. notices_mark a.number 0 noticed_now made b (before_rising spec a.number v.noticed) ∙ (ap (λ c. c || is_marked b (group a.number).noticed) (marked_before spec a.number v.noticed below b)
-        ∙ (ap (λ c. (is_concerned a.number b (Some spec) && v.noticed b) || c) (unmarked b) ∙ or-false (is_concerned a.number b (Some spec) && v.noticed b)));
     stopped = keeps.stopped ∙ fits.stopped;
     come = λ b low. subst (λ (f : ℕ → List ℕ). AreMarked g (frames_from b) (v.taken b) (f b)) (sym keeps.come) (fits.come b low);
     done = λ b low. subst (λ (f : ℕ → List ℕ). AreMarked g (v.frames b) (v.acked b) (f b)) (sym keeps.done) (fits.done b low);
@@ -92,24 +90,20 @@ module _ (bounds : Bounds) (g : Addr) (a : NodeId) (frames_from : ℕ → List (
       none : said_of (Some (Some (told_first spec a noticed))) ≡ 0
       none = first_said (noticed_members spec a.number (set.contains noticed))
 
-      unmarked : (b : ℕ) → is_marked b (group a.number).noticed ≡ false
-      unmarked b = fits.noticed b ∙ ap (λ o. is_concerned a.number b o && v.noticed b) (sym fits.spec ∙ unmade)
-
       count : (b : ℕ) → b < bounds.nodes → (group a.number).taken b ≡ length ((group a.number).put b)
       count b low = fits.taken b low ∙ ap length (sym (fits.put b low ∙ (ap (λ o. carried_in g v b ++ waiting_of o b) free ∙ append-nil (carried_in g v b))))
 
-  made_goes : (noticed : set.FinSet nat_cmp) → v.noticed ≡ set.contains noticed → ((b : ℕ) → v.noticed b ≡ true → b < NODES) → v.told ≡ None → v.met ≡ false → reply_to bounds g a.number (AskMake spec) (group a.number) ≡ Done
+  made_goes : v.told ≡ None → v.met ≡ false → reply_to bounds g a.number (AskMake spec) (group a.number) ≡ Done
       → Fits bounds.nodes g a.number frames_from v (group a.number)
       → Goes bounds g a frames_from (record v { told = Some (Some (told_first spec a noticed)); made = Some spec; replies = v.replies ++ Done ∷ [] }) group (record { node = a; event = AskMake spec } ∷ notices_of a noticed_now)
-  made_goes noticed noticed_is below free unmet answered fits = record {
+  made_goes free unmet answered fits = record {
     legal = (
       tt,
-      notices_legal bounds g a 0 noticed_now first (before_rising spec a.number v.noticed) (ap (λ (m : Member). m.stopped) first_there ∙ (fits.stopped ∙ unmet))
-          (λ x new. ap (λ (m : Member). is_marked x m.noticed) first_there ∙ (fits.noticed x ∙ ap (λ o. is_concerned a.number x o && v.noticed x) (sym fits.spec ∙ absent.spec))),
+      notices_legal bounds g a 0 noticed_now first (before_rising spec a.number (set.contains noticed)) (ap (λ (m : Member). m.stopped) first_there ∙ (fits.stopped ∙ unmet)),
     );
     elsewhere = λ x other. notices_elsewhere bounds g a noticed_now first x other ∙ after_elsewhere bounds g group a x (AskMake spec) other;
     there = subst (Fits bounds.nodes g a.number frames_from (record v { told = Some (Some (told_first spec a noticed)); made = Some spec; replies = v.replies ++ Done ∷ [] }))
-        (sym (notices_there bounds g a noticed_now first ∙ ap (all_noticed a.number noticed_now) first_there)) (made_fits noticed noticed_is below free absent.spec answered fits);
+        (sym (notices_there bounds g a noticed_now first ∙ ap (all_noticed a.number noticed_now) first_there)) (made_fits free absent.spec answered fits);
   }
     where
       absent : NotMade (group a.number)
@@ -128,7 +122,7 @@ module _ (plan : NodePlan) (versions : List Version) (g : Addr) (past : List Hap
   m = group plan.me.number
 
   abbrev noticed : set.FinSet nat_cmp
-  noticed = noticed_after plan past
+  noticed = suspected_after plan past
 
   -- what the rules answer for the group
   abbrev rule : Reply
@@ -148,9 +142,9 @@ module _ (plan : NodePlan) (versions : List Version) (g : Addr) (past : List Hap
   alone_rule : (r : Reply) → version_at versions plan.me.number ≡ plan.version → Fits plan.nodes g plan.me.number frames_from before m → rule ≡ r → running_reply (bounds_with plan versions) g plan.me.number (AskMake spec) m ≡ r
   alone_rule r right fits is = (λ i. by_tenant (make_answer (right i) plan.nodes plan.me.number g (made-is (told_of plan g past) m fits.told i) (fits.others i) spec) (fits.reserve i)) ∙ is
 
-  made_by_reply : (r : Reply) → version_at versions plan.me.number ≡ plan.version → is_stopped past ≡ false → is_own_request plan.me g past (asking_of token addr (Make spec)) ≡ true → is_addr g addr ≡ true → rule ≡ r → is_noticed_after plan past ≡ set.contains noticed → ((b : ℕ) → set.contains noticed b ≡ true → b < NODES)
+  made_by_reply : (r : Reply) → version_at versions plan.me.number ≡ plan.version → is_stopped past ≡ false → is_own_request plan.me g past (asking_of token addr (Make spec)) ≡ true → is_addr g addr ≡ true → rule ≡ r → is_suspected_after plan past ≡ set.contains noticed
       → Fits plan.nodes g plan.me.number frames_from before m → AskedGoes plan versions g past (asking_of token addr (Make spec)) r frames_from group
-  made_by_reply Done right running own named is silent below fits =
+  made_by_reply Done right running own named is silent fits =
       let free : told_of plan g past ≡ None = not_made (told_of plan g past) before.reserve is in
       let unmet_here : is_met plan.me g past ≡ false = running_unmet plan g past running in
       let answered : reply_to (bounds_with plan versions) g plan.me.number (AskMake spec) m ≡ Done = replies_running plan versions g past (asking_of token addr (Make spec)) Done frames_from group (AskMake spec) running fits ∙ alone_rule Done right fits is in
@@ -160,16 +154,16 @@ module _ (plan : NodePlan) (versions : List Version) (g : Addr) (past : List Hap
       ∙ ap (λ o. or_added o (Some (Some (told_first spec plan.me noticed)))) free)
       (ap (λ b. option_or (if b then Some spec else None) (made_with g past)) named) refl in
       subst (λ es. Goes (bounds_with plan versions) g plan.me frames_from (view_of plan g (asking (asking_of token addr (Make spec)) Done ∷ past)) group es) (sym (given_own plan versions g past (asking_of token addr (Make spec)) Done frames_from group running own
-      ∙ (ap (λ (t : Bool). record { node = plan.me; event = AskMake spec } ∷ ticked plan.me (is_noticed_after plan past) (if t then Some spec else None)) named
+      ∙ (ap (λ (t : Bool). record { node = plan.me; event = AskMake spec } ∷ ticked plan.me (is_suspected_after plan past) (if t then Some spec else None)) named
       ∙ ap (λ (new : ℕ → Bool). record { node = plan.me; event = AskMake spec } ∷ notices plan.me spec new) silent)))
-      (subst (λ (v : View). Goes (bounds_with plan versions) g plan.me frames_from v group (record { node = plan.me; event = AskMake spec } ∷ notices_of plan.me (noticed_members spec plan.me.number before.noticed))) (sym later)
-      (made_goes (bounds_with plan versions) g plan.me frames_from before group spec noticed refl below free unmet_here answered fits))
-  made_by_reply r right running own named is silent below fits =
+      (subst (λ (v : View). Goes (bounds_with plan versions) g plan.me frames_from v group (record { node = plan.me; event = AskMake spec } ∷ notices_of plan.me (noticed_members spec plan.me.number (set.contains noticed)))) (sym later)
+      (made_goes (bounds_with plan versions) g plan.me frames_from before group spec noticed free unmet_here answered fits))
+  made_by_reply r right running own named is silent fits =
       own_command plan versions g past (asking_of token addr (Make spec)) r frames_from group (AskMake spec) (told_of plan g past) running own refl refl refl refl tt refl
       (alone_rule r right fits is) refl fits.gone fits (member_fits plan.nodes g plan.me.number frames_from before m fits)
 
-  pub at_make : (reply : Reply) → version_at versions plan.me.number ≡ plan.version → is_stopped past ≡ false → is_own_request plan.me g past (asking_of token addr (Make spec)) ≡ true → reply ≡ admitted_answer plan past (AtGroup addr (Make spec)) → is_noticed_after plan past ≡ set.contains noticed → ((b : ℕ) → set.contains noticed b ≡ true → b < NODES)
+  pub at_make : (reply : Reply) → version_at versions plan.me.number ≡ plan.version → is_stopped past ≡ false → is_own_request plan.me g past (asking_of token addr (Make spec)) ≡ true → reply ≡ admitted_answer plan past (AtGroup addr (Make spec)) → is_suspected_after plan past ≡ set.contains noticed
       → Fits plan.nodes g plan.me.number frames_from before m → AskedGoes plan versions g past (asking_of token addr (Make spec)) reply frames_from group
-  at_make reply right running own is silent below fits =
+  at_make reply right running own is silent fits =
       let named = (and_parts (is_addr g addr) (has_group_token plan.me (tenants_in past) (asking_of token addr (Make spec))) own).0 in
-      made_by_reply reply right running own named (sym (is ∙ ap (λ (x : Addr). by_tenant (make_answer plan.version plan.nodes plan.me.number x (is_some (told_of plan x past)) (living_of x past) spec) (option_map reserve_of (row_of x.tenant (tenants_in past)))) (sym (addr_is g addr named)))) silent below fits
+      made_by_reply reply right running own named (sym (is ∙ ap (λ (x : Addr). by_tenant (make_answer plan.version plan.nodes plan.me.number x (is_some (told_of plan x past)) (living_of x past) spec) (option_map reserve_of (row_of x.tenant (tenants_in past)))) (sym (addr_is g addr named)))) silent fits

@@ -126,27 +126,10 @@ notices_keep me (b ∷ bs) m =
       stopped = rest.stopped ∙ one.stopped;
     }
 
--- the nodes are noticed then
-pub notices_mark : (me low : ℕ) (bs : List ℕ) (m : Member) (x : ℕ) → AreRising low bs → is_marked x (all_noticed me bs m).noticed ≡ (is_marked x bs || is_marked x m.noticed)
-notices_mark me low [] m x rise = refl
-notices_mark me low (b ∷ bs) m x rise =
-    notices_mark me (b + 1) bs (node_noticed me (node_numbered b) m) x rise.2
-    ∙ (ap (λ k. is_marked x bs || (nat_eq k x || is_marked x m.noticed)) (numbered_is b rise.1) ∙ or_turned (is_marked x bs) (nat_eq b x) (is_marked x m.noticed))
-
--- each of them may be noticed, where none was before
-pub notices_legal : (bounds : Bounds) (addr : Addr) (a : NodeId) (low : ℕ) (bs : List ℕ) (group : Group) → AreRising low bs → (group a.number).stopped ≡ false → ((x : ℕ) → is_marked x bs ≡ true → is_marked x (group a.number).noticed ≡ false) → IsLegalFrom bounds addr group (notices_of a bs)
-notices_legal bounds addr a low [] group rise running new = tt
-notices_legal bounds addr a low (b ∷ bs) group rise running new =
+-- each of them may be noticed at a running node, whether it was before or not
+pub notices_legal : (bounds : Bounds) (addr : Addr) (a : NodeId) (low : ℕ) (bs : List ℕ) (group : Group) → AreRising low bs → (group a.number).stopped ≡ false → IsLegalFrom bounds addr group (notices_of a bs)
+notices_legal bounds addr a low [] group rise running = tt
+notices_legal bounds addr a low (b ∷ bs) group rise running =
     let next : Group = after bounds addr group (record { node = a; event = Notice (node_numbered b) }) in
-    let there : next a.number ≡ node_noticed a.number (node_numbered b) (group a.number) = after_there bounds addr group a (Notice (node_numbered b)) in (
-      (running, ap (λ k. is_marked k (group a.number).noticed) (numbered_is b rise.1) ∙ new b (ap (λ c. c || is_marked b bs) (eq-eqb b b refl))),
-      notices_legal bounds addr a (b + 1) bs next rise.2 (ap (λ (m : Member). m.stopped) there ∙ ((notice_keeps a.number (node_numbered b) (group a.number)).stopped ∙ running))
-          (λ x is. ap (λ (m : Member). is_marked x m.noticed) there ∙ (ap (λ k. nat_eq k x || is_marked x (group a.number).noticed) (numbered_is b rise.1) ∙ later x is)),
-    )
-  where
-    differs : (x : ℕ) → is_marked x bs ≡ true → ((b ≡ x) ⊎ (b ≡ x → ⊥)) → nat_eq b x ≡ false
-    differs x is (inl same) = let none : is_marked x bs ≡ false = unmarked_below (b + 1) x bs (omega arith) rise.2 in cc
-    differs x is (inr other) = grind (arith, nat_tests)
-
-    later : (x : ℕ) → is_marked x bs ≡ true → (nat_eq b x || is_marked x (group a.number).noticed) ≡ false
-    later x is = ap (λ c. c || is_marked x (group a.number).noticed) (differs x is (cases_eq b x)) ∙ new x (or_second (nat_eq b x) (is_marked x bs) is)
+    let there : next a.number ≡ node_noticed a.number (node_numbered b) (group a.number) = after_there bounds addr group a (Notice (node_numbered b)) in
+    (running, notices_legal bounds addr a (b + 1) bs next rise.2 (ap (λ (m : Member). m.stopped) there ∙ ((notice_keeps a.number (node_numbered b) (group a.number)).stopped ∙ running)))

@@ -10,7 +10,7 @@ use Rattle.gb_rules.specs.Common.{said_in, is_over_limits, reserve_of, reserved,
 use Rattle.gb_alone.specs.Common.{Group, MayHappen, member_after}
 use Rattle.gb_alone.specs.Alone as alone
 use Rattle.gb_alone.specs.declared.{event.GroupEvent.GroupEvent, event.GroupEvent.TheVariants.Tenant, event.GroupEvent.TheVariants.OtherMade, event.GroupEvent.TheVariants.OtherDropped}
-use Rattle.gb_node.specs.Common.{Happened, added, added_by, frames_to, is_stopped, tenants_in, Told, noticed_after, told_first, asked_told, told_of, living_after, living_done, living_of, IsAsked, admitted_answer, is_admitted_by, past_answer, has_group_token}
+use Rattle.gb_node.specs.Common.{Happened, added, added_by, frames_to, is_stopped, tenants_in, Told, suspected_after, told_first, asked_told, told_of, living_after, living_done, living_of, IsAsked, admitted_answer, is_admitted_by, past_answer, has_group_token}
 use Rattle.gb_node.specs.declared.{answer.NodeAnswer.TheVariants.Reply as Replied, event.NodeEvent.TheVariants.Request as Asked, plan.NodePlan.NodePlan}
 use Rattle.gb_isolation.specs.Project.{is_met, is_named, is_own_request, is_starved_by, group_items_of, makes, made_by, made_with, replies_in, tenant_of, tenant_given, other_of, other_given}
 use Rattle.gb_isolation.specs.RunLaws.{drops, is_dropped, is_dropped_by}
@@ -22,7 +22,7 @@ use Rattle.gb_isolation.proofs.MakeLemmas.{at_make}
 use Rattle.gb_isolation.proofs.MemberLemmas.{same_member}
 use Rattle.gb_isolation.proofs.RoomLemmas.{other_address, reached_later, unreached}
 use Rattle.gb_isolation.proofs.StoppedLemmas.{stopped_goes}
-use Rattle.gb_isolation.proofs.View.{View, view_of, Fits, Goes, bounds_with, asked_by, is_noticed_after, own_requested_by, requested_by}
+use Rattle.gb_isolation.proofs.View.{View, view_of, Fits, Goes, bounds_with, asked_by, is_suspected_after, own_requested_by, requested_by}
 
 -- Tenants.
 
@@ -88,7 +88,7 @@ module _ (plan : NodePlan) (versions : List Version) (g : Addr) (past : List Hap
 
   passes : (request : Request) (reply : Reply) → is_stopped past ≡ false → is_own_request plan.me g past request ≡ false
       → added (Asked request) (Replied reply) ≡ []
-      → asked_told g plan.me (noticed_after plan past) reply request.what (told_of plan g past) ≡ told_of plan g past
+      → asked_told g plan.me (suspected_after plan past) reply request.what (told_of plan g past) ≡ told_of plan g past
       → living_after g (Asked request) (Replied reply) (living_of g past) ≡ living_of g past
       → made_by g (Asked request) (Replied reply) ≡ None
       → is_dropped_by g (Asked request) (Replied reply) ≡ false
@@ -102,7 +102,7 @@ module _ (plan : NodePlan) (versions : List Version) (g : Addr) (past : List Hap
   -- and so where what is done makes nothing of it
   idle : (request : Request) (reply : Reply) → is_stopped past ≡ false → is_own_request plan.me g past request ≡ false
       → added_by request.what ≡ []
-      → asked_told g plan.me (noticed_after plan past) reply request.what (told_of plan g past) ≡ told_of plan g past
+      → asked_told g plan.me (suspected_after plan past) reply request.what (told_of plan g past) ≡ told_of plan g past
       → living_done g request.what (living_of g past) ≡ living_of g past
       → makes g request.what ≡ None
       → drops g request.what ≡ false
@@ -134,7 +134,6 @@ module _ (plan : NodePlan) (versions : List Version) (g : Addr) (past : List Hap
         replies = fits.replies;
         spec = fits.spec;
         gone = fits.gone;
-        noticed = fits.noticed;
         stopped = fits.stopped;
         come = fits.come;
         done = fits.done;
@@ -186,7 +185,7 @@ module _ (plan : NodePlan) (versions : List Version) (g : Addr) (past : List Hap
   -- the request changes what is told and how many live
   generation_goes : (request : Request) (event : GroupEvent) (told : Option (Option Told)) (living : ℕ) → is_stopped past ≡ false → is_own_request plan.me g past request ≡ false
       → added (Asked request) (Replied Done) ≡ []
-      → asked_told g plan.me (noticed_after plan past) Done request.what (told_of plan g past) ≡ told
+      → asked_told g plan.me (suspected_after plan past) Done request.what (told_of plan g past) ≡ told
       → living_after g (Asked request) (Replied Done) (living_of g past) ≡ living
       → made_by g (Asked request) (Replied Done) ≡ None
       → is_dropped_by g (Asked request) (Replied Done) ≡ false
@@ -210,7 +209,7 @@ module _ (plan : NodePlan) (versions : List Version) (g : Addr) (past : List Hap
       → AskedGoes plan versions g past (asking_of token addr (Make spec)) Done frames_from group
   generation_made token addr spec running foreign other fits =
       generation_goes (asking_of token addr (Make spec)) (OtherMade addr.generation) (where_so later passed (told_of plan g past)) (living_of g past + 1) running foreign refl
-      (ap (λ b. if b then or_added (told_of plan g past) (Some (Some (told_first spec plan.me (noticed_after plan past)))) else where_so (is_reached_by g addr) passed (told_of plan g past)) (other_address g addr other)
+      (ap (λ b. if b then or_added (told_of plan g past) (Some (Some (told_first spec plan.me (suspected_after plan past)))) else where_so (is_reached_by g addr) passed (told_of plan g past)) (other_address g addr other)
       ∙ ap (λ b. where_so b passed (told_of plan g past)) (reached_later g addr other))
       (ap (λ b. if b then living_of g past + 1 else living_of g past) other)
       (ap (λ b. if b then Some spec else None) (other_address g addr other)) refl refl
@@ -225,7 +224,6 @@ module _ (plan : NodePlan) (versions : List Version) (g : Addr) (past : List Hap
         replies = fits.replies;
         spec = fits.spec;
         gone = fits.gone;
-        noticed = fits.noticed;
         stopped = fits.stopped;
         come = fits.come;
         done = fits.done;
@@ -255,7 +253,6 @@ module _ (plan : NodePlan) (versions : List Version) (g : Addr) (past : List Hap
         replies = fits.replies;
         spec = fits.spec;
         gone = fits.gone;
-        noticed = fits.noticed;
         stopped = fits.stopped;
         come = fits.come;
         done = fits.done;
@@ -270,7 +267,7 @@ module _ (plan : NodePlan) (versions : List Version) (g : Addr) (past : List Hap
       go : ((is_other_generation g addr ≡ true) ⊎ (is_other_generation g addr ≡ false)) → AskedGoes plan versions g past (asking_of token addr (Make spec)) Done frames_from group
       go (inl other) = generation_made token addr spec running foreign other fits
       go (inr apart) = passes (asking_of token addr (Make spec)) Done running foreign refl
-          (ap (λ b. if b then or_added (told_of plan g past) (Some (Some (told_first spec plan.me (noticed_after plan past)))) else where_so (is_reached_by g addr) passed (told_of plan g past)) unnamed
+          (ap (λ b. if b then or_added (told_of plan g past) (Some (Some (told_first spec plan.me (suspected_after plan past)))) else where_so (is_reached_by g addr) passed (told_of plan g past)) unnamed
           ∙ ap (λ b. where_so b passed (told_of plan g past)) (unreached g addr unnamed apart))
           (ap (λ b. if b then living_of g past + 1 else living_of g past) apart)
           (ap (λ b. if b then Some spec else None) unnamed) refl refl
@@ -288,7 +285,7 @@ module _ (plan : NodePlan) (versions : List Version) (g : Addr) (past : List Hap
           (ap (λ b. if b then record { node = plan.me; event = OtherDropped } ∷ [] else []) apart) fits
   other_drop token addr r running foreign unnamed fits = passes (asking_of token addr Drop) r running foreign refl refl refl refl refl refl refl fits
 
-  other_told : (addr : Addr) (command : GroupCommand) (r : Reply) → is_addr g addr ≡ false → IsIdle command → asked_told g plan.me (noticed_after plan past) r (AtGroup addr command) (told_of plan g past) ≡ told_of plan g past
+  other_told : (addr : Addr) (command : GroupCommand) (r : Reply) → is_addr g addr ≡ false → IsIdle command → asked_told g plan.me (suspected_after plan past) r (AtGroup addr command) (told_of plan g past) ≡ told_of plan g past
   other_told addr Open Done other idle = rw other refl
   other_told addr Shut Done other idle = rw other refl
   other_told addr (Say message) (Said seq) other idle = rw other refl
@@ -320,8 +317,8 @@ module _ (plan : NodePlan) (versions : List Version) (g : Addr) (past : List Hap
   -- The group's own request.
 
   own_goes : (request : Request) (reply : Reply) → version_at versions plan.me.number ≡ plan.version → plan.nodes ≤ NODES
-      → is_noticed_after plan past ≡ set.contains (noticed_after plan past)
-      → ((b : ℕ) → set.contains (noticed_after plan past) b ≡ true → b < NODES)
+      → is_suspected_after plan past ≡ set.contains (suspected_after plan past)
+      → ((b : ℕ) → set.contains (suspected_after plan past) b ≡ true → b < NODES)
       → ((t : Told) → told_of plan g past ≡ Some (Some t) → (b : ℕ) → b < plan.nodes → list_any (alone.is_message plan.me.number (said_in t.calls + 1)) (group_items_of g (frames_to plan.cluster_key b past)) ≡ false)
       → is_stopped past ≡ false → is_own_request plan.me g past request ≡ true → reply ≡ admitted_answer plan past request.what → FitsBefore → AskedGoes plan versions g past request reply frames_from group
   own_goes request reply right few silent below fresh running own is fits = by request.what own is
@@ -365,8 +362,8 @@ module _ (plan : NodePlan) (past : List Happened) (request : Request) (reply : R
 pub asked_goes : (plan : NodePlan) (versions : List Version) (g : Addr) (past : List Happened) (request : Request) (reply : Reply) (frames_from : ℕ → List (List Item)) (group : Group)
     → version_at versions plan.me.number ≡ plan.version
     → plan.nodes ≤ NODES
-    → is_noticed_after plan past ≡ set.contains (noticed_after plan past)
-    → ((b : ℕ) → set.contains (noticed_after plan past) b ≡ true → (b < plan.nodes) × (b ≢ plan.me.number))
+    → is_suspected_after plan past ≡ set.contains (suspected_after plan past)
+    → ((b : ℕ) → set.contains (suspected_after plan past) b ≡ true → (b < plan.nodes) × (b ≢ plan.me.number))
     → ((t : Told) → told_of plan g past ≡ Some (Some t) → (b : ℕ) → b < plan.nodes → list_any (alone.is_message plan.me.number (said_in t.calls + 1)) (group_items_of g (frames_to plan.cluster_key b past)) ≡ false)
     → IsAsked plan past request reply
     → is_starved_by plan.me g past (Asked request) (Replied reply) ≡ false
@@ -377,7 +374,7 @@ asked_goes plan versions g past request reply frames_from group right few silent
     Wanted : Reply → Type 0
     Wanted r = AskedGoes plan versions g past request r frames_from group
 
-    below : (b : ℕ) → set.contains (noticed_after plan past) b ≡ true → b < NODES
+    below : (b : ℕ) → set.contains (suspected_after plan past) b ≡ true → b < NODES
     below b is = let low = (noticed b is).0 in omega (arith, low, few)
 
     starved : is_own_request plan.me g past request ≡ true → reply ≡ Refused OutOfMemory → ⊥

@@ -113,11 +113,6 @@ module _ (isolated : GroupsAreIsolated) (behave : AllBehave) (plan : Plan) (run 
       ap (λ k. is_gone (group k).phase) (sym (is_number a run_a.0))
       ∙ ((behaves.fits (node_numbered a) (there a run_a.0)).gone ∙ settled.kept a run_a)
 
-  marks : (a : ℕ) → is_member spec a ≡ true → (b : ℕ) → is_marked b (group a).noticed ≡ (is_other spec a b && is_noticed_in plan run (node_numbered a) b)
-  marks a in_a b =
-      subst (λ k. is_marked b (group k).noticed ≡ (is_other spec k b && is_noticed_in plan run (node_numbered a) b)) (is_number a in_a)
-      (noticed_is plan run v g few least alike behaves told (node_numbered a) (there a in_a) spec (made_now a in_a) b)
-
   -- the frames from one node to another
   abbrev frames : ℕ → ℕ → List (List Item)
   frames a b = frames_to plan.cluster_key b (past_at (node_numbered a) run)
@@ -146,20 +141,12 @@ module _ (isolated : GroupsAreIsolated) (behave : AllBehave) (plan : Plan) (run 
       let at = stands_in g (frames a b) place some (omega (arith, most, count)) in
       (come a b run_a.0 run_b.0).each at.number place at.above at.within ∙ settled.came a b run_a run_b other at.number at.frame at.there at.some
 
+  -- of whom the group was notified is read from the projection in both
   noticed : (a b : ℕ) → IsRunning runs spec a → is_member spec b ≡ true → runs b ≡ false → has_noticed (group a).told b ≡ true
-  noticed a b run_a in_b stopped =
-      seen_noticed a (group a) spec (made a run_a.0) (told a) (is_noticed_in plan run (node_numbered a)) (marks a run_a.0) b (here a run_a) (and_both in_b (apart (nat_eq b a) refl)) (settled.noticed a b run_a in_b stopped)
-    where
-      apart : (t : Bool) → nat_eq b a ≡ t → not t ≡ true
-      apart true is = let e : runs b ≡ true = ap runs (eqb-true b a is) ∙ run_a.1 in absurd (cc)
-      apart false is = refl
+  noticed a b run_a in_b stopped = ap (λ k. has_noticed (group k).told b) (sym (is_number a run_a.0)) ∙ settled.notified a b run_a in_b stopped
 
   unnoticed : (a b : ℕ) → is_member spec a ≡ true → IsRunning runs spec b → has_noticed (group a).told b ≡ false
-  unnoticed a b in_a run_b = go (has_noticed (group a).told b) refl
-    where
-      go : (t : Bool) → has_noticed (group a).told b ≡ t → t ≡ false
-      go true h = let e = noticed_seen a (group a) spec (made a in_a) (told a) (is_noticed_in plan run (node_numbered a)) (marks a in_a) b h in let f = settled.unnoticed a b in_a run_b in absurd (cc)
-      go false h = refl
+  unnoticed a b in_a run_b = ap (λ k. has_noticed (group k).told b) (sym (is_number a in_a)) ∙ settled.unnotified a b in_a run_b
 
   settled_alone : IsSettled bounds g (project plan g run) runs spec
   settled_alone = record {

@@ -17,15 +17,15 @@ use Rattle.gb_cluster.proofs.NodesLemmas.{past_same, past_other}
 use Rattle.gb_isolation.specs.Project.{event_of, group_items_of, is_named, is_own_request, command_for, made_by, made_with, tenant_given, other_given, is_met, with_stop, if_any, arrived, ticked, gives, project, reply_in, replies_in}
 use Rattle.gb_isolation.specs.RunLaws.{said_by, accepted_by, accepted_in_past}
 use Rattle.gb_isolation.proofs.GivenLemmas.{carried_any, carried_packets, given_at, no_commands_elsewhere, no_commands_carried, no_commands_ticked, no_commands_tenant, no_commands_other, commands_stopped}
-use Rattle.gb_isolation.proofs.View.{asked_by, is_noticed_after, own_requested_by}
+use Rattle.gb_isolation.proofs.View.{asked_by, is_suspected_after, own_requested_by}
 use Rattle.gb_frame.specs.Common.{Content}
 
 -- what a request gives besides the command is no command
 commands_own : (plan : NodePlan) (g : Addr) (past : List Happened) (s : ℕ) (request : Request) (reply : Reply) → commands s (own_requested_by plan g past request reply) ≡ commands s (command_for plan.me request.what)
 unfolding commands
 commands_own plan g past s request reply =
-    commands-append s (command_for plan.me request.what) (ticked plan.me (is_noticed_after plan past) (made_by g (Asked request) (Replied reply)))
-    ∙ (ap (λ es. commands s (command_for plan.me request.what) ++ es) (no_commands_ticked s plan.me (is_noticed_after plan past) (made_by g (Asked request) (Replied reply)))
+    commands-append s (command_for plan.me request.what) (ticked plan.me (is_suspected_after plan past) (made_by g (Asked request) (Replied reply)))
+    ∙ (ap (λ es. commands s (command_for plan.me request.what) ++ es) (no_commands_ticked s plan.me (is_suspected_after plan past) (made_by g (Asked request) (Replied reply)))
     ∙ append-nil (commands s (command_for plan.me request.what)))
 
 commands_asked : (plan : NodePlan) (g : Addr) (past : List Happened) (s : ℕ) (request : Request) (reply : Reply) → commands s (asked_by plan g past request reply) ≡ commands s (if is_own_request plan.me g past request then command_for plan.me request.what else [])

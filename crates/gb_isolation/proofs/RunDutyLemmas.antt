@@ -36,12 +36,6 @@ module _ (plan : Plan) (run : List NodeStep) (v : ClusterValue) (g : Addr) (few 
     pub made : (alone (bounds_of plan) g (project plan g run) b.number).spec ≡ Some spec
     made = (behaves.fits b in_b).spec ∙ made_there
 
-    pub noticed_is : (c : ℕ) → is_marked c (alone (bounds_of plan) g (project plan g run) b.number).noticed ≡ (is_other spec b.number c && is_noticed_in plan run b c)
-    noticed_is c =
-        (behaves.fits b in_b).noticed c
-        ∙ (ap (λ (o : Option Spec). is_concerned b.number c o && set.contains (noticed_after (node_plan plan b) (past_at b run)) c) made_there
-        ∙ ap (λ (t : Bool). is_other spec b.number c && t) (noticed_is_silent (node_plan plan b) (past_at b run) few least c))
-
     put_there : (c : ℕ) → is_member spec c ≡ true → (group b.number).put c ≡ (seen_in plan run v g b (node_numbered c)).put
     put_there c in_c =
         let within : c < plan.nodes = inside b.number spec made c in_c in
@@ -51,7 +45,7 @@ module _ (plan : Plan) (run : List NodeStep) (v : ClusterValue) (g : Addr) (few 
     seen : is_gone (group b.number).phase ≡ false → (messages : MsgId → Bool) → ((m : MsgId) → messages m ≡ true → is_member spec m.origin.number ≡ true) → KeepsDuties spec b.number (noticed_at (group b.number)) (group b.number).put (HasHad group) messages
         → KeepsRunDuties plan run v g b spec messages
     seen here messages origins done =
-        duties_seen spec b.number (group b.number) made here (told b.number) (is_noticed_in plan run b) noticed_is (λ c. (seen_in plan run v g b (node_numbered c)).put) put_there (HasHad group) messages origins done
+        duties_put spec b.number (noticed_at (group b.number)) (group b.number).put (λ c. (seen_in plan run v g b (node_numbered c)).put) put_there (HasHad group) messages done
 
     delivered : DutyLaws → is_gone (group b.number).phase ≡ false → KeepsRunDuties plan run v g b spec (delivered_at spec b.number (group b.number))
     delivered laws here =

@@ -51,7 +51,6 @@ module _ (bounds : Bounds) (g : Addr) (a : NodeId) (frames_from : ℕ → List (
     replies = fits.replies;
     spec = fits.spec;
     gone = fits.gone;
-    noticed = fits.noticed;
     stopped = refl;
     come = fits.come;
     done = fits.done;
@@ -71,7 +70,6 @@ module _ (bounds : Bounds) (g : Addr) (a : NodeId) (frames_from : ℕ → List (
     replies = ap (λ rs. rs ++ refused ∷ []) fits.replies;
     spec = fits.spec;
     gone = fits.gone;
-    noticed = fits.noticed;
     stopped = fits.stopped;
     come = fits.come;
     done = fits.done;

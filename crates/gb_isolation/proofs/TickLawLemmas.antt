@@ -10,7 +10,7 @@ use Rattle.gb_cluster.specs.Common.{ClusterValue, IsClusterPlan, node_at, node_p
 use Rattle.gb_cluster.proofs.NodesLemmas.{have_pasts, past_same, stays}
 use Rattle.gb_isolation.specs.RunLaws.{AnswersNewNotices, TicksAnswerNewNotices, is_noticed_in}
 use Rattle.gb_isolation.proofs.MomentLemmas.{placed}
-use Rattle.gb_isolation.proofs.SilenceLemmas.{noticed_is_silent}
+use Rattle.gb_isolation.proofs.SilenceLemmas.{noticed_is_reported}
 
 -- at a node that runs
 tick_answer : (old new : NodeValue) (answer : NodeAnswer) → old.stopped ≡ false → IsTurn old Tick answer new → answer ≡ Ticked (Noticed (due old.watch))
@@ -62,8 +62,8 @@ new_notices pasts answers plan earlier a answer v goes tick running = (found, to
 
     new : (b : ℕ) → set.contains found b ≡ (is_noticed_in plan (d ∷ earlier) a b && not (is_noticed_in plan earlier a b))
     new b = fresh b
-        ∙ (ap (λ (t : Bool). t && not (set.contains (noticed_after (node_plan plan a) (past_at a earlier)) b)) (noticed_is_silent (node_plan plan a) (past_at a (d ∷ earlier)) right.few right.least b)
-        ∙ ap (λ (t : Bool). is_noticed_in plan (d ∷ earlier) a b && not t) (noticed_is_silent (node_plan plan a) (past_at a earlier) right.few right.least b))
+        ∙ (ap (λ (t : Bool). t && not (set.contains (noticed_after (node_plan plan a) (past_at a earlier)) b)) (noticed_is_reported (node_plan plan a) (past_at a (d ∷ earlier)) right.few right.least b)
+        ∙ ap (λ (t : Bool). is_noticed_in plan (d ∷ earlier) a b && not t) (noticed_is_reported (node_plan plan a) (past_at a earlier) right.few right.least b))
 
 pub ticks_answer : PastsSay → AnswersSay → TicksAnswerNewNotices
 ticks_answer pasts answers plan earlier d v goes tick = by (subst (λ (e : NodeEvent). ComesTo plan (record { node = d.node; event = e; answer = d.answer } ∷ earlier) v) tick goes)

@@ -23,7 +23,7 @@ abbrev pub ticking : set.FinSet nat_cmp → Happened
 ticking found = record { event = Tick; answer = Ticked (Noticed found) }
 
 abbrev view_ticked : NodeId → set.FinSet nat_cmp → View → View
-view_ticked me found v = record v { told = fold (noticed_told me) v.told (rising found); noticed = λ b. set.contains found b || v.noticed b }
+view_ticked me found v = record v { told = fold (noticed_told me) v.told (rising found) }
 
 ticked_view : (plan : NodePlan) (g : Addr) (past : List Happened) (found : set.FinSet nat_cmp) → IsTicked plan past found → view_of plan g (ticking found ∷ past) ≡ view_ticked plan.me found (view_of plan g past)
 unfolding frames_to is_acked is_taken tenants_in told_of living_of made_with is_dropped replies_in is_met
@@ -33,7 +33,6 @@ ticked_view plan g past found right = λ i. record {
   living = living_of g past;
   made = made_with g past;
   dropped = is_dropped g past;
-  noticed = λ b. right.later b i;
   replies = append-nil (replies_in plan.me g past) i;
   met = is_met plan.me g past;
   frames = λ x. append-nil (frames_to plan.cluster_key x past) i;
@@ -169,13 +168,9 @@ module _ (plan : NodePlan) (versions : List Version) (g : Addr) (past : List Hap
           spec_or None = spec
           spec_or (Some x) = x
 
-  -- a node that is found is a node's number
-  node_found : (b : ℕ) → set.contains found b ≡ true → b < NODES
-  node_found b is = let low = (right.inside b is).0 in omega (arith, low, few)
-
   goes_made : (spec : Spec) → v.made ≡ Some spec → Goes (bounds_with plan versions) g plan.me frames_from (view_ticked plan.me found v) group (notices_of plan.me (bs spec))
   goes_made spec is = record {
-    legal = notices_legal (bounds_with plan versions) g plan.me 0 (bs spec) group (passing_rising (test spec) 0 NODES (omega arith)) (was.stopped ∙ running_unmet plan g past right.running) fresh;
+    legal = notices_legal (bounds_with plan versions) g plan.me 0 (bs spec) group (passing_rising (test spec) 0 NODES (omega arith)) (was.stopped ∙ running_unmet plan g past right.running);
     elsewhere = λ x other. notices_elsewhere (bounds_with plan versions) g plan.me (bs spec) group x other;
     there = subst (Fits plan.nodes g plan.me.number frames_from (view_ticked plan.me found v)) (sym (notices_there (bounds_with plan versions) g plan.me (bs spec) group)) (record {
       reserve = keeps.reserve ∙ was.reserve;
@@ -187,7 +182,6 @@ module _ (plan : NodePlan) (versions : List Version) (g : Addr) (past : List Hap
       replies = keeps.replies ∙ was.replies;
       spec = keeps.spec ∙ was.spec;
       gone = ap is_gone keeps.phase ∙ was.gone;
-      noticed = noticed_now;
       stopped = keeps.stopped ∙ was.stopped;
       come = λ b inside. subst (λ (c : ℕ → List ℕ). AreMarked g (frames_from b) (v.taken b) (c b)) (sym keeps.come) (was.come b inside);
       done = λ b inside. subst (λ (c : ℕ → List ℕ). AreMarked g (v.frames b) (v.acked b) (c b)) (sym keeps.done) (was.done b inside);
@@ -201,24 +195,6 @@ module _ (plan : NodePlan) (versions : List Version) (g : Addr) (past : List Hap
       now : MemberFits plan.nodes plan.me.number (fold (noticed_told plan.me) v.told (rising found)) (all_noticed plan.me.number (bs spec) m) carried
       now = told_now v.told spec (was.spec ∙ is) told_was
 
-      marked : (x : ℕ) → is_marked x (bs spec) ≡ test spec x
-      marked x = passing_marked (test spec) (λ y t. node_found y (and_parts (is_other spec plan.me.number y) (set.contains found y) t).1) x
-
-      fresh : (x : ℕ) → is_marked x (bs spec) ≡ true → is_marked x m.noticed ≡ false
-      fresh x there =
-          let new = (and_parts (is_other spec plan.me.number x) (set.contains found x) (sym (marked x) ∙ there)).1 in
-          was.noticed x ∙ and_right (is_concerned plan.me.number x v.made) (v.noticed x) (right.fresh x new)
-
-      noticed_now : (b : ℕ) → is_marked b (all_noticed plan.me.number (bs spec) m).noticed ≡ (is_concerned plan.me.number b v.made && (set.contains found b || v.noticed b))
-      noticed_now b =
-          notices_mark plan.me.number 0 (bs spec) m b (passing_rising (test spec) 0 NODES (omega arith))
-          ∙ ((λ i. marked b i || was.noticed b i)
-          ∙ (ap (λ o. test spec b || (is_concerned plan.me.number b o && v.noticed b)) is ∙ (by (is_other spec plan.me.number b) (set.contains found b) (v.noticed b) ∙ ap (λ o. is_concerned plan.me.number b o && (set.contains found b || v.noticed b)) (sym is))))
-        where
-          by : (o n w : Bool) → ((o && n) || (o && w)) ≡ (o && (n || w))
-          by true n w = refl
-          by false n w = refl
-
   goes_unmade : v.made ≡ None → Goes (bounds_with plan versions) g plan.me frames_from (view_ticked plan.me found v) group []
   goes_unmade none = goes_none (bounds_with plan versions) g plan.me frames_from (view_ticked plan.me found v) group (record {
     reserve = was.reserve;
@@ -230,7 +206,6 @@ module _ (plan : NodePlan) (versions : List Version) (g : Addr) (past : List Hap
     replies = was.replies;
     spec = was.spec;
     gone = was.gone;
-    noticed = λ b. was.noticed b ∙ ((λ i. is_concerned plan.me.number b (none i) && v.noticed b) ∙ ap (λ o. is_concerned plan.me.number b o && (set.contains found b || v.noticed b)) (sym none));
     stopped = was.stopped;
     come = was.come;
     done = was.done;

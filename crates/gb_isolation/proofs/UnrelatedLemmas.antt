@@ -36,7 +36,6 @@ unrelated_view plan g past e x q = λ i. record {
   living = q.same_living i;
   made = option_or (q.not_made i) (made_with g past);
   dropped = q.not_dropped i || is_dropped g past;
-  noticed = set.contains (replay (start plan.me.number plan.nodes plan.silence) (q.no_tick i ++ map (λ (c : Content). Heard c.from) (q.none_came i) ++ watched plan.cluster_key past)).noticed;
   replies = (ap (λ (rs : List Reply). replies_in plan.me g past ++ rs) q.no_reply ∙ append-nil (replies_in plan.me g past)) i;
   met = q.unmet i || is_met plan.me g past;
   frames = λ b. (ap (λ (fs : List (List Item)). frames_to plan.cluster_key b past ++ fs) (q.packed b) ∙ append-nil (frames_to plan.cluster_key b past)) i;

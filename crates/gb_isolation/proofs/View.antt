@@ -3,12 +3,13 @@ use Rattle.gb_types.specs.Common.{ℕ, ◌+◌, ◌≡◌, ◌≢◌, ◌≤◌,
 use Rattle.std.specs.FinSet as set
 use Rattle.gb_types.specs.declared.{address.Addr.Addr, entry.Entry.Entry, node.NodeId.NodeId, reply.Reply.Reply, request.Request.Request, spec.Spec.Spec, plan.Plan.Plan, plan.Bounds.Bounds, version.Version.Version}
 use Rattle.gb_frame.specs.declared.item.Item.{Item}
-use Rattle.gb_detect.specs.Silence.{is_noticed}
+use Rattle.gb_detect.specs.Suspicion.{is_suspected}
+use Rattle.gb_types.specs.Common.{limits_of}
 use Rattle.gb_rules.specs.Common.{said_in, is_gone, is_other, is_member, reserve_of, row_of}
 use Rattle.gb_rules.specs.declared.{phase.Phase.TheVariants.Made, reserve.Reserve.Reserve}
 use Rattle.gb_alone.specs.Common.{Member, Group, alone, alone_from, held_spec, is_marked, is_acknowledged, IsLegal, IsLegalFrom}
 use Rattle.gb_alone.specs.declared.event.GroupStep.{GroupStep}
-use Rattle.gb_node.specs.Common.{node_numbered, Happened, frames_to, is_acked, is_taken, tenants_in, watched, Told, noticed_after, waiting_of, told_of, living_of}
+use Rattle.gb_node.specs.Common.{node_numbered, Happened, frames_to, is_acked, is_taken, tenants_in, watched, Told, suspected_after, waiting_of, told_of, living_of}
 use Rattle.gb_node.specs.declared.{answer.NodeAnswer.TheVariants.Reply as Replied, event.NodeEvent.TheVariants.Request as Asked, plan.NodePlan.NodePlan}
 use Rattle.gb_cluster.specs.Common.{node_plan, NodeStep, past_at}
 use Rattle.gb_isolation.specs.Project.{project, asked, is_own_request, command_for, tenant_given, other_given, ticked, group_items_of, offset, made_by, made_with, replies_in, is_met}
@@ -26,8 +27,6 @@ pub record View : Type 0 where
   pub made : Option Spec
   -- whether it was dropped
   pub dropped : Bool
-  -- whether a node is noticed there
-  pub noticed : ℕ → Bool
   pub replies : List Reply
   -- a request of it met the node's stop
   pub met : Bool
@@ -44,7 +43,6 @@ view_of plan g past = record {
   living = living_of g past;
   made = made_with g past;
   dropped = is_dropped g past;
-  noticed = set.contains (noticed_after plan past);
   replies = replies_in plan.me g past;
   met = is_met plan.me g past;
   frames = λ b. frames_to plan.cluster_key b past;
@@ -104,11 +102,6 @@ pub record KeepsAcks (nodes me : ℕ) (o : Option (Option Told)) (carried : ℕ 
 abbrev pub IsInside : ℕ → Option (Option Told) → Type 0
 IsInside nodes o = (t : Told) → o ≡ Some (Some t) → (b : ℕ) → is_member t.spec b ≡ true → b < nodes
 
--- a node that was noticed is so in a group where it is another member
-abbrev pub is_concerned : ℕ → ℕ → Option Spec → Bool
-is_concerned me b None = false
-is_concerned me b (Some spec) = is_other spec me b
-
 -- The view is that of the group alone at the node me of this number of nodes. The other nodes packed these frames for it.
 pub record Fits (nodes : ℕ) (g : Addr) (me : ℕ) (frames_from : ℕ → List (List Item)) (v : View) (m : Member) : Type 0 where
   pub reserve : m.reserve ≡ v.reserve
@@ -120,7 +113,6 @@ pub record Fits (nodes : ℕ) (g : Addr) (me : ℕ) (frames_from : ℕ → List 
   pub replies : m.replies ≡ v.replies
   pub spec : m.spec ≡ v.made
   pub gone : is_gone m.phase ≡ v.dropped
-  pub noticed : (b : ℕ) → is_marked b m.noticed ≡ (is_concerned me b v.made && v.noticed b)
   pub stopped : m.stopped ≡ v.met
   -- the items of the frames that were taken have come, and those of the frames that were acknowledged are done
   pub come : (b : ℕ) → b < nodes → AreMarked g (frames_from b) (v.taken b) (m.come b)
@@ -156,15 +148,15 @@ pub record BehavesAlone (plan : Plan) (g : Addr) (run : List NodeStep) : Type 0 
 
 -- Requests, by the plan of a node.
 
-abbrev pub is_noticed_after : NodePlan → List Happened → ℕ → Bool
-is_noticed_after plan past b = (nat_lt b plan.nodes && not (nat_eq b plan.me.number)) && is_noticed plan.silence b (watched plan.cluster_key past)
+abbrev pub is_suspected_after : NodePlan → List Happened → ℕ → Bool
+is_suspected_after plan past b = (nat_lt b plan.nodes && not (nat_eq b plan.me.number)) && is_suspected (limits_of plan.version).has_ticks plan.silence b (watched plan.cluster_key past)
 
 abbrev pub own_requested_by : NodePlan → Addr → List Happened → Request → Reply → List GroupStep
-own_requested_by plan g past request reply = command_for plan.me request.what ++ ticked plan.me (is_noticed_after plan past) (made_by g (Asked request) (Replied reply))
+own_requested_by plan g past request reply = command_for plan.me request.what ++ ticked plan.me (is_suspected_after plan past) (made_by g (Asked request) (Replied reply))
 
 abbrev pub requested_by : NodePlan → Addr → List Happened → Request → Reply → List GroupStep
 requested_by plan g past request reply =
     tenant_given g plan.me reply request.what ++ other_given g plan.me reply request.what ++ (if is_own_request plan.me g past request then own_requested_by plan g past request reply else [])
 
 abbrev pub asked_by : NodePlan → Addr → List Happened → Request → Reply → List GroupStep
-asked_by plan g past request reply = asked plan.me g (is_noticed_after plan past) past request reply
+asked_by plan g past request reply = asked plan.me g (is_suspected_after plan past) past request reply
