@@ -1,10 +1,10 @@
 -- The set that a word represents.
 use Rattle.gb_types.specs.declared.limits.TheConstants.{NODES}
-use Rattle.std.proofs.Common.{◌≡◌, ℕ, zero, suc, ◌<◌, ◌^◌, ◌*◌, ◌%◌, Bool, true, false, nat_eq, nat_lt, bit_or, ◌||◌, ◌&&◌, refl, ap, sym, ◌∙◌, arith, inl, inr, w32, ◌≢◌}
-use Rattle.std.specs.{Int.bit_at, Ordering.nat_cmp, Ordering.eq_by_cmp, List.list_any, FinSet.nat_cmp-IsAntisymmetric, Cmp.nat_cmp_total, Cmp.unsigned_tied}
+use Rattle.std.proofs.Common.{◌≡◌, ℕ, zero, suc, ◌<◌, ◌^◌, ◌*◌, ◌%◌, Bool, true, false, nat_eq, nat_lt, bit_or, bit_and, not, ◌||◌, ◌&&◌, refl, ap, sym, ◌∙◌, arith, inl, inr, w32, ◌≢◌}
+use Rattle.std.specs.{Int.bit_at, Int.bit_not, Ordering.nat_cmp, Ordering.eq_by_cmp, List.list_any, FinSet.nat_cmp-IsAntisymmetric, Cmp.nat_cmp_total, Cmp.unsigned_tied}
 use Rattle.std.specs.FinSet as fin
 use Rattle.std.proofs.{lemmas.Bool.cases_lt, lemmas.Bool.Decides.nat_tests}
-use Rattle.std.proofs.lemmas.Nat.Bits.{bit_at-zero, bit_at_above, bit_at_set_same, bit_at_set_other}
+use Rattle.std.proofs.lemmas.Nat.Bits.{bit_at-zero, bit_at_above, bit_at_set_same, bit_at_set_other, bit_at_clear_same, bit_at_clear_other}
 use Rattle.gb_types.specs.Places.{of_bits, below}
 
 pub any-below : (n q : ℕ) → list_any (λ y. nat_eq y q) (below n) ≡ nat_lt q n
@@ -55,3 +55,20 @@ pub of_bits-set : (bits k : ℕ) → k < NODES → of_bits (bit_or bits (1 * 2 ^
 of_bits-set bits k lt =
     fin.same_set nat_cmp_total nat_cmp-IsAntisymmetric _ _
     (λ q. contains-of_bits _ q ∙ (after_set bits k q lt ∙ (ap (λ b. b || (nat_lt q NODES && nat_eq (bit_at bits q) 1)) (sym (unsigned_tied q k)) ∙ (ap (λ b. eq_by_cmp nat_cmp q k || b) (sym (contains-of_bits bits q)) ∙ sym (fin.contains-insert nat_cmp_total _ k q)))))
+
+after_cleared : (bits k q : ℕ) → k < NODES → (nat_lt q NODES && nat_eq (bit_at (bit_and bits (bit_not w32 (1 * 2 ^ k % 2 ^ 32))) q) 1) ≡ (not (nat_eq q k) && (nat_lt q NODES && nat_eq (bit_at bits q) 1))
+after_cleared bits k q lt =
+    elim (nat_eq q k) as (λ b. nat_eq q k ≡ b → (nat_lt q NODES && nat_eq (bit_at (bit_and bits (bit_not w32 (1 * 2 ^ k % 2 ^ 32))) q) 1) ≡ (not b && (nat_lt q NODES && nat_eq (bit_at bits q) 1))) [
+      | true ↦ λ e. let h : q ≡ k = grind (arith, nat_tests) in let within : nat_lt k NODES ≡ true = grind (arith, nat_tests) in
+          rw h (λ i. within i && nat_eq (bit_at_clear_same w32 bits k lt i) 1)
+      | false ↦ λ e. let h : q ≢ k = grind (arith, nat_tests) in elim (cases_lt q NODES) [
+          | inl low ↦ ap (λ d. nat_lt q NODES && nat_eq d 1) (bit_at_clear_other w32 bits k lt q low h)
+          | inr le ↦ let beyond : nat_lt q NODES ≡ false = grind (arith, nat_tests) in
+              ap (λ b. b && nat_eq (bit_at (bit_and bits (bit_not w32 (1 * 2 ^ k % 2 ^ 32))) q) 1) beyond ∙ ap (λ b. b && nat_eq (bit_at bits q) 1) (sym beyond)
+        ]
+    ] refl
+
+pub of_bits-cleared : (bits k : ℕ) → k < NODES → of_bits (bit_and bits (bit_not w32 (1 * 2 ^ k % 2 ^ 32))) ≡ fin.remove (of_bits bits) k
+of_bits-cleared bits k lt =
+    fin.same_set nat_cmp_total nat_cmp-IsAntisymmetric _ _
+    (λ q. contains-of_bits _ q ∙ (after_cleared bits k q lt ∙ (ap (λ b. not b && (nat_lt q NODES && nat_eq (bit_at bits q) 1)) (sym (unsigned_tied q k)) ∙ (ap (λ b. not (eq_by_cmp nat_cmp q k) && b) (sym (contains-of_bits bits q)) ∙ sym (fin.contains-remove nat_cmp_total (of_bits bits) k q)))))
