@@ -35,7 +35,7 @@ silent-noticed s b (call ∷ calls) h = ap (λ v. v || is_noticed s b calls) h
 pub noticed-heard : (s b c : ℕ) (pulse : Option Pulse) (calls : List Call) → 0 < s → is_noticed s b (Heard c pulse ∷ calls) ≡ is_noticed s b calls
 noticed-heard s b c pulse calls positive =
     elim (nat_eq c b) as (λ v. nat_eq c b ≡ v → is_noticed s b (Heard c pulse ∷ calls) ≡ is_noticed s b calls) [
-      | true ↦ λ e. let none = ticks_since-heard b c pulse calls e in let short : nat_le s (ticks_since b (Heard c ∷ calls)) ≡ false = grind (arith, nat_tests, none) in ap (λ v. v || is_noticed s b calls) short
+      | true ↦ λ e. let none = ticks_since-heard b c pulse calls e in let short : nat_le s (ticks_since b (Heard c pulse ∷ calls)) ≡ false = grind (arith, nat_tests, none) in ap (λ v. v || is_noticed s b calls) short
       | false ↦ λ e. ap (λ n. nat_le s n || is_noticed s b calls) (ticks_since-other b c pulse calls e) ∙ as_before s b calls
     ] refl
   where

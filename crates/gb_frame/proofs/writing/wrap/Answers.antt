@@ -14,7 +14,7 @@ returns-clause-written c = λ items t.
     let whole : c.append.new.text.items ≡ before ++ tagged_text content =
     c.append.ensures.items ∙ (ap (λ text. text ++ c.args.texts.now) header ∙ (append_assoc before (header_text content) c.args.texts.now ∙ ap (λ texts. before ++ (header_text content ++ texts)) t.parts)) in
     let behind = ap (drop c.len-start.result) whole ∙ drop_at before (tagged_text content) c.len-start.result (omega (arith, c.len-start.ensures, c.type_inv.packet)) in
-    c.put_tag.ensures.written ∙ ((λ i. whole i ++ tag_of c.args.key.now (behind i)) ∙ append_assoc before (tagged_text content) (tag_of c.args.key.now (tagged_text content)))
+    c.put_tag.ensures.written ∙ ((λ i. whole i ++ tag_of c.args.head.version c.args.key.now (behind i)) ∙ append_assoc before (tagged_text content) (tag_of c.args.head.version c.args.key.now (tagged_text content)))
 
 pub returns-clause-packet : goal.returns-clause-packet
 returns-clause-packet c = λ items t.
@@ -22,5 +22,6 @@ returns-clause-packet c = λ items t.
     record {
       limits = subst (λ (these : List Item). IsWithinLimits (packet_of c.args.head these)) same c.requires.packet.3;
       fields = c.put_header.ensures.fits items;
+      ticks = c.requires.ticks;
       items = t.fit;
     }
