@@ -11,7 +11,7 @@ use Rattle.gb_rules.specs.Common.{is_addr, is_too_long, stepped, dropped, or_add
 use Rattle.gb_rules.specs.declared.phase.Phase.TheVariants.{Opened, Shut as Closed}
 use Rattle.gb_rules.specs.declared.call.GroupCall.TheVariants.{Own}
 use Rattle.gb_slot.specs.Common.{SlotState, shown}
-use Rattle.gb_node.specs.Common.{Told, asked_told, came_told, done_told, items_freed, moved_to, finished_by, noticed_after, noticed_told, packed_told, shown_in, taken_told, told_after, told_first, took_from, unless_falls, if_other, with_call, node_numbered, read, is_first, Happened}
+use Rattle.gb_node.specs.Common.{Told, asked_told, came_told, done_told, items_freed, moved_to, finished_by, noticed_told, packed_told, shown_in, suspected_after, taken_told, told_after, told_first, took_from, unless_falls, if_other, with_call, node_numbered, read, is_first, Happened}
 use Rattle.gb_node.specs.PastGroups.{freed_by, command_done, asked_said}
 use Rattle.gb_node.specs.declared.{plan.NodePlan.NodePlan, answer.NodeAnswer.NodeAnswer, answer.PacketAnswer.TheVariants.Good as TakenGood, answer.Frame.Frame, answer.Sent.TheVariants.Packet as SentPacket, answer.Ticked.TheVariants.Noticed, event.NodeEvent.NodeEvent}
 use Rattle.gb_node.specs.declared.answer.NodeAnswer.TheVariants.{Reply as Replied, Taken, Sent, Ticked}
@@ -120,7 +120,7 @@ taken_goes version me key g past frame o c =
 
 -- Any event.
 pub told_goes : (plan : NodePlan) (g : Addr) (past : List Happened) (e : NodeEvent) (a : NodeAnswer) (o : Option (Option Told)) → Goes o (told_after plan g past e a o)
-told_goes plan g past (Asked request) (Replied reply) o = asked_goes g plan.me (noticed_after plan past) reply request.what o
+told_goes plan g past (Asked request) (Replied reply) o = asked_goes g plan.me (suspected_after plan past) reply request.what o
 told_goes plan g past (Came bytes) (Taken (TakenGood good)) o = goes_fold (taken_told plan.version plan.me plan.cluster_key g past good.frame) (taken_goes plan.version plan.me plan.cluster_key g past good.frame) o (read plan.cluster_key bytes)
 told_goes plan g past (Pack b) (Sent (SentPacket text)) o = goes_fold (packed_told g b) (λ p c. goes_stepped (took_from b.number (length (items_for g c.items))) p) o (read plan.cluster_key text)
 told_goes plan g past Tick (Ticked (Noticed found)) o = goes_fold (noticed_told plan.me) (λ p b. goes_stepped (if_other plan.me (node_numbered b)) p) o (rising found)

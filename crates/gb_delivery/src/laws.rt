@@ -7,7 +7,7 @@ ghost use Rattle.gb_delivery.specs.Rounds.{RoundsCarry, RoundTripsAreRounds};
 ghost use Rattle.gb_delivery.specs.RunDelivery.{WhatIsSaidIsDelivered};
 
 use gb_cluster::laws::{links_hold, nothing_is_outside};
-use gb_detect::laws::noticed_by_calls;
+use gb_detect::laws::suspected_by_calls;
 use gb_duties::laws::delivery;
 use gb_frame::laws::what_is_written_is_read;
 use gb_isolation::laws::groups_are_isolated;
@@ -61,7 +61,7 @@ pub fn nobody_starves_in_runs()
     what_is_written_is_read();
     each_group();
     stands();
-    noticed_by_calls();
+    suspected_by_calls();
 }
 
 /// A law of every run of a cluster, with nothing to run. In a round of a link some number of packets are packed, unless nothing of a group
@@ -105,6 +105,10 @@ pub fn rounds_make_a_phase()
 pub fn enough_rounds_deliver()
     ensures { EnoughRoundsDeliver }
 {
+    pasts_say();
+    answers_say();
+    links_hold();
+    nothing_is_outside();
     rounds_make_a_phase();
     what_is_said_is_delivered();
 }

@@ -10,7 +10,6 @@ mod MoveLemmas
 pub mod FlowLemmas
 mod AcceptedLemmas
 mod OrderLemmas
-pub mod NoticeLemmas
 pub mod SeenLemmas
 pub mod AgreementLemmas
 pub mod GrowLemmas

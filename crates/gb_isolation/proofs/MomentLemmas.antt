@@ -1,14 +1,12 @@
--- The moments of a run: how an earlier moment stands in a later one, and which notices the group is told of at each.
+-- The moments of a run: how an earlier moment stands in a later one.
 use Rattle.gb_types.specs.Common.{◌≡◌, ◌≢◌, ℕ, suc, ◌+◌, ◌-◌, ◌<◌, ◌≤◌, true, not, ◌⊎◌, inl, inr, List, [], ◌∷◌, ◌++◌, length, take, Some, refl, sym, ap, ◌∙◌, subst, arith, length-append, append_assoc, slice_get, and_parts, cases_eq, cases_lt, append-nil, fold-append, bounds_of}
 use Rattle.gb_types.specs.declared.{address.Addr.Addr, entry.Entry.Entry, node.NodeId.NodeId, spec.Spec.Spec, plan.Plan.Plan}
 use Rattle.gb_frame.specs.declared.item.Item.{Item}
 use Rattle.gb_alone.specs.Common.{Group, nobody, after, alone, alone_from}
 use Rattle.gb_alone.specs.declared.event.GroupStep.{GroupStep}
-use Rattle.gb_duties.proofs.NoticeLemmas.{AllMarked, run_marked, nobody_marked}
 use Rattle.gb_cluster.specs.Common.{ClusterValue, NodeStep, ComesTo, past_at}
 use Rattle.gb_cluster.proofs.NodesLemmas.{stays, past_same, past_other}
 use Rattle.gb_isolation.specs.Project.{group_items, group_items_of, offset, made_with, gives, project, is_starved_by, is_fed}
-use Rattle.gb_isolation.proofs.GivenLemmas.{given_due}
 use Rattle.gb_isolation.proofs.View.{BehavesAlone}
 
 -- each group of every run behaves as it does alone
@@ -57,32 +55,6 @@ project_continues plan g (d ∷ later) earlier =
     let more = project_continues plan g later earlier in
     let given : List GroupStep = gives plan g (later ++ earlier) d.node d.event d.answer in
     record { rest = more.rest ++ given; whole = ap (λ xs. xs ++ given) more.whole ∙ append_assoc (project plan g earlier) more.rest given }
-
--- the group's notices are marked as it is told of them
-pub marked : AllBehave → (plan : Plan) (g : Addr) (run : List NodeStep) (v : ClusterValue) → ComesTo plan run v → is_fed g run ≡ true → AllMarked (alone (bounds_of plan) g (project plan g run))
-unfolding ComesTo project
-marked behave plan g [] v comes fed = nobody_marked
-marked behave plan g (d ∷ run) v comes fed =
-    subst AllMarked (sym split)
-    (run_marked (bounds_of plan) g given group (given_due plan g run group d.node d.event d.answer before now) (marked behave plan g run comes.0 comes.1 (fed_before plan g d run fed)))
-  where
-    group : Group
-    group = alone (bounds_of plan) g (project plan g run)
-
-    given : List GroupStep
-    given = gives plan g run d.node d.event d.answer
-
-    split : alone (bounds_of plan) g (project plan g run ++ given) ≡ alone_from (bounds_of plan) g group given
-    split = fold-append (after (bounds_of plan) g) nobody (project plan g run) given
-
-    within : d.node.number < plan.nodes
-    within = placed plan d run v comes
-
-    before : (group d.node.number).spec ≡ made_with g (past_at d.node run)
-    before = ((behave plan g run comes.0 comes.1 (fed_before plan g d run fed)).fits d.node within).spec
-
-    now : (alone_from (bounds_of plan) g group given d.node.number).spec ≡ made_with g (record { event = d.event; answer = d.answer } ∷ past_at d.node run)
-    now = ap (λ (q : Group). (q d.node.number).spec) (sym split) ∙ (((behave plan g (d ∷ run) v comes fed).fits d.node within).spec ∙ ap (made_with g) (past_same d.node d run refl))
 
 -- The frame in which an item stands, counted from 1 among the items of these frames.
 pub record StandsIn (g : Addr) (fs : List (List Item)) (place : ℕ) : Type 0 where

@@ -179,7 +179,6 @@ module _ (plan : NodePlan) (versions : List Version) (g : Addr) (past : List Hap
     replies = was.replies;
     spec = was.spec;
     gone = was.gone;
-    noticed = was.noticed;
     stopped = was.stopped;
     come = was.come;
     done = λ x inside. marks_more g (v.frames x) (if nat_eq b.number x then f ∷ [] else []) (v.acked x) (m.done x) (none x) (was.done x inside);

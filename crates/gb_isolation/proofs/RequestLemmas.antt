@@ -318,10 +318,9 @@ module _ (plan : NodePlan) (versions : List Version) (g : Addr) (past : List Hap
 
   own_goes : (request : Request) (reply : Reply) → version_at versions plan.me.number ≡ plan.version → plan.nodes ≤ NODES
       → is_suspected_after plan past ≡ set.contains (suspected_after plan past)
-      → ((b : ℕ) → set.contains (suspected_after plan past) b ≡ true → b < NODES)
       → ((t : Told) → told_of plan g past ≡ Some (Some t) → (b : ℕ) → b < plan.nodes → list_any (alone.is_message plan.me.number (said_in t.calls + 1)) (group_items_of g (frames_to plan.cluster_key b past)) ≡ false)
       → is_stopped past ≡ false → is_own_request plan.me g past request ≡ true → reply ≡ admitted_answer plan past request.what → FitsBefore → AskedGoes plan versions g past request reply frames_from group
-  own_goes request reply right few silent below fresh running own is fits = by request.what own is
+  own_goes request reply right few silent fresh running own is fits = by request.what own is
     where
       token : List ℕ
       token = request.token
@@ -331,7 +330,7 @@ module _ (plan : NodePlan) (versions : List Version) (g : Addr) (past : List Hap
 
       by : (what : Action) → is_own_request plan.me g past (record { token = token; what = what }) ≡ true → reply ≡ admitted_answer plan past what → AskedGoes plan versions g past (record { token = token; what = what }) reply frames_from group
       by (AddTenant row) own is = absurd (clash own)
-      by (AtGroup addr (Make spec)) own is = at_make plan versions g past frames_from group token addr spec reply right running own is silent below fits
+      by (AtGroup addr (Make spec)) own is = at_make plan versions g past frames_from group token addr spec reply right running own is silent fits
       by (AtGroup addr Open) own is = at_open plan versions g past frames_from group reply token addr few running own is fits
       by (AtGroup addr Shut) own is = at_shut plan versions g past frames_from group reply token addr few running own is fits
       by (AtGroup addr Drop) own is = at_drop plan versions g past frames_from group reply token addr few running own is fits
@@ -363,19 +362,15 @@ pub asked_goes : (plan : NodePlan) (versions : List Version) (g : Addr) (past : 
     → version_at versions plan.me.number ≡ plan.version
     → plan.nodes ≤ NODES
     → is_suspected_after plan past ≡ set.contains (suspected_after plan past)
-    → ((b : ℕ) → set.contains (suspected_after plan past) b ≡ true → (b < plan.nodes) × (b ≢ plan.me.number))
     → ((t : Told) → told_of plan g past ≡ Some (Some t) → (b : ℕ) → b < plan.nodes → list_any (alone.is_message plan.me.number (said_in t.calls + 1)) (group_items_of g (frames_to plan.cluster_key b past)) ≡ false)
     → IsAsked plan past request reply
     → is_starved_by plan.me g past (Asked request) (Replied reply) ≡ false
     → Fits plan.nodes g plan.me.number frames_from (view_of plan g past) (group plan.me.number)
     → Goes (bounds_with plan versions) g plan.me frames_from (view_of plan g (record { event = Asked request; answer = Replied reply } ∷ past)) group (asked_by plan g past request reply)
-asked_goes plan versions g past request reply frames_from group right few silent noticed fresh answered fed fits = go (cases_Bool (is_stopped past)) (cases_Bool (is_own_request plan.me g past request)) answered
+asked_goes plan versions g past request reply frames_from group right few silent fresh answered fed fits = go (cases_Bool (is_stopped past)) (cases_Bool (is_own_request plan.me g past request)) answered
   where
     Wanted : Reply → Type 0
     Wanted r = AskedGoes plan versions g past request r frames_from group
-
-    below : (b : ℕ) → set.contains (suspected_after plan past) b ≡ true → b < NODES
-    below b is = let low = (noticed b is).0 in omega (arith, low, few)
 
     starved : is_own_request plan.me g past request ≡ true → reply ≡ Refused OutOfMemory → ⊥
     starved own is = clash (sym (ap (λ r. is_starved_by plan.me g past (Asked request) (Replied r)) is ∙ own) ∙ fed)
@@ -404,6 +399,6 @@ asked_goes plan versions g past request reply frames_from group right few silent
     go (inr running) (inl own) (inl wants) = absurd (starved own wants.0)
     go (inr running) (inl own) (inr is) =
         let parts = and_parts (is_named g request.what) (has_group_token plan.me (tenants_in past) request) own in
-        own_goes plan versions g past frames_from group request reply right few silent below fresh running own (is ∙ running_answer plan past request reply running true (sym (group_token_is plan g past request parts.0) ∙ parts.1)) fits
+        own_goes plan versions g past frames_from group request reply right few silent fresh running own (is ∙ running_answer plan past request reply running true (sym (group_token_is plan g past request parts.0) ∙ parts.1)) fits
     go (inr running) (inr other) (inl wants) = subst Wanted (sym wants.0) (refusal_passes plan versions g past frames_from group request OutOfMemory running other fits)
     go (inr running) (inr other) (inr is) = foreign running other is (cases_Bool (is_admitted_by plan past request))

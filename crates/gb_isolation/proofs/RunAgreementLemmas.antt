@@ -1,6 +1,6 @@
 -- If a group is settled in a run, the logs seen at its members agree.
 use Rattle.gb_types.specs.Common.{◌≡◌, ◌≢◌, ℕ, ◌<◌, ◌≤◌, Bool, true, false, not, ◌&&◌, nat_eq, List, [], ◌++◌, length, Some, refl, sym, ap, ◌∙◌, subst, arith, nat_lt, eqb-true, nat_tests, append-nil, fold-append, bounds_of}
-use Rattle.gb_types.specs.declared.{address.Addr.Addr, entry.Entry.Entry, limits.TheConstants.NODES, limits.TheConstants.SILENCE_MIN, spec.Spec.Spec, plan.Plan.Plan, plan.Bounds.Bounds}
+use Rattle.gb_types.specs.declared.{address.Addr.Addr, entry.Entry.Entry, limits.TheConstants.NODES, spec.Spec.Spec, plan.Plan.Plan, plan.Bounds.Bounds}
 use Rattle.gb_frame.specs.declared.item.Item.{Item}
 use Rattle.gb_rules.specs.Common.{is_gone, is_member, is_other, has_noticed}
 use Rattle.gb_alone.specs.Common.{Group, after, nobody, alone, is_marked, IsLegal, IsLegalFrom, accepted}
@@ -8,18 +8,18 @@ use Rattle.gb_alone.specs.declared.event.GroupStep.{GroupStep}
 use Rattle.gb_alone.proofs.InsideLemmas.{none_beyond}
 use Rattle.gb_duties.specs.Agreement.{IsRunning, AreEnough, IsSettled, IsAgreed, KeepsAgreement, logs_of}
 use Rattle.gb_duties.proofs.FlowLemmas.{nobody_flows, run_flows, legal_parts, made_stays}
-use Rattle.gb_duties.proofs.{NoticeLemmas.AllMarked, SeenLemmas.noticed_seen, SeenLemmas.seen_noticed, SeenLemmas.agreement_seen}
+use Rattle.gb_duties.proofs.SeenLemmas.{agreement_seen}
 use Rattle.gb_node.specs.Common.{waiting_at, node_numbered, frames_to, is_taken}
 use Rattle.gb_cluster.specs.Common.{ClusterValue, node_at, NodeStep, ComesTo, past_at}
 use Rattle.gb_types.proofs.BoolLemmas.{and_both}
 use Rattle.gb_cluster.proofs.NodesLemmas.{stays}
 use Rattle.gb_isolation.specs.Isolation.{Seen, IsIsolated, GroupsAreIsolated}
 use Rattle.gb_isolation.specs.Project.{project, group_items_of, is_fed}
-use Rattle.gb_isolation.specs.RunLaws.{accepted_there, is_noticed_in, log_seen, made_there, IsSettledIn, RunAgreement, OfGroupsInRuns}
+use Rattle.gb_isolation.specs.RunLaws.{accepted_there, log_seen, made_there, IsSettledIn, RunAgreement, OfGroupsInRuns}
 use Rattle.gb_isolation.proofs.View.{AreMarked, BehavesAlone}
-use Rattle.gb_isolation.proofs.MomentLemmas.{AllBehave, fed_back, back, made_inside, Continues, project_continues, marked, stands_in}
+use Rattle.gb_isolation.proofs.MomentLemmas.{AllBehave, fed_back, back, made_inside, Continues, project_continues, stands_in}
 use Rattle.gb_isolation.proofs.NoticeLemmas.{numbered_is}
-use Rattle.gb_isolation.proofs.RunDutyLemmas.{inside, noticed_is}
+use Rattle.gb_isolation.proofs.RunDutyLemmas.{inside}
 use Rattle.gb_isolation.proofs.RunIntegrityLemmas.{accepted_same}
 
 module _ (isolated : GroupsAreIsolated) (behave : AllBehave) (plan : Plan) (run : List NodeStep) (v : ClusterValue) (comes : ComesTo plan run v) (g : Addr) (fed : is_fed g run ≡ true) (runs : ℕ → Bool) (spec : Spec) (settled : IsSettledIn plan run v g runs spec) where
@@ -35,17 +35,11 @@ module _ (isolated : GroupsAreIsolated) (behave : AllBehave) (plan : Plan) (run 
   few : nodes ≤ NODES
   few = (stays plan run v comes).right.few
 
-  least : SILENCE_MIN ≤ plan.silence
-  least = (stays plan run v comes).right.least
-
   alike : IsIsolated plan run v g
   alike = isolated plan run v comes g fed
 
   behaves : BehavesAlone plan g run
   behaves = behave plan g run v comes fed
-
-  told : AllMarked group
-  told = marked behave plan g run v comes fed
 
   -- The moment before the first message was accepted.
 
@@ -66,7 +60,7 @@ module _ (isolated : GroupsAreIsolated) (behave : AllBehave) (plan : Plan) (run 
   made_at_node a in_a = (behaved.fits (node_numbered a) (made_inside plan g settled.earlier was.0 was.1 (node_numbered a) spec (settled.made a in_a))).spec ∙ settled.made a in_a
 
   within : (a : ℕ) → is_member spec a ≡ true → a < nodes
-  within a in_a = inside plan settled.earlier was.0 g few least alike_then behaved (marked behave plan g settled.earlier was.0 was.1 fed_then) (node_numbered a).number spec (made_at_node a in_a) a in_a
+  within a in_a = inside plan settled.earlier was.0 g few alike_then behaved (node_numbered a).number spec (made_at_node a in_a) a in_a
 
   is_number : (a : ℕ) → is_member spec a ≡ true → (node_numbered a).number ≡ a
   is_number a in_a = numbered_is a (omega (arith, within a in_a, few))

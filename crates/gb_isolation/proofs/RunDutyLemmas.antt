@@ -1,21 +1,19 @@
 -- The duties of a group's nodes in a run.
-use Rattle.std.specs.FinSet as set
-use Rattle.gb_node.specs.Common.{noticed_after, node_numbered}
-use Rattle.gb_isolation.proofs.SilenceLemmas.{noticed_is_silent}
+use Rattle.gb_node.specs.Common.{node_numbered}
 use Rattle.gb_types.specs.Common.{◌≡◌, ℕ, ◌<◌, ◌≤◌, Bool, true, false, ◌&&◌, List, Option, Some, None, sym, ap, ◌∙◌, subst, arith, if◌then◌else◌, bounds_of}
-use Rattle.gb_types.specs.declared.{address.Addr.Addr, limits.TheConstants.NODES, limits.TheConstants.SILENCE_MIN, message.MsgId.MsgId, node.NodeId.NodeId, spec.Spec.Spec, plan.Plan.Plan}
-use Rattle.gb_rules.specs.Common.{is_gone, is_member, is_other, has}
-use Rattle.gb_alone.specs.Common.{Group, nobody, alone, is_marked}
+use Rattle.gb_types.specs.declared.{address.Addr.Addr, limits.TheConstants.NODES, message.MsgId.MsgId, node.NodeId.NodeId, spec.Spec.Spec, plan.Plan.Plan}
+use Rattle.gb_rules.specs.Common.{is_gone, is_member, has}
+use Rattle.gb_alone.specs.Common.{Group, nobody, alone}
 use Rattle.gb_alone.proofs.InsideLemmas.{run_inside}
 use Rattle.gb_duties.specs.Duties.{HasHad, KeepsDuties, IsDutiful, DeliveredAreOfMembers, LoggedAreDelivered, noticed_at, delivered_at}
-use Rattle.gb_duties.proofs.{NoticeLemmas.AllMarked, SeenLemmas.duties_seen}
+use Rattle.gb_duties.proofs.SeenLemmas.{duties_put}
 use Rattle.gb_cluster.specs.Common.{ClusterValue, node_plan, NodeStep, past_at}
 use Rattle.gb_cluster.proofs.NodesLemmas.{stays}
 use Rattle.gb_isolation.specs.Isolation.{Seen, seen_in, IsIsolated, GroupsAreIsolated}
 use Rattle.gb_isolation.specs.Project.{project, made_with}
-use Rattle.gb_isolation.specs.RunLaws.{is_noticed_in, KeepsRunDuties, RunDuties, OfGroupsInRuns}
-use Rattle.gb_isolation.proofs.View.{BehavesAlone, is_concerned}
-use Rattle.gb_isolation.proofs.MomentLemmas.{AllBehave, marked}
+use Rattle.gb_isolation.specs.RunLaws.{KeepsRunDuties, RunDuties, OfGroupsInRuns}
+use Rattle.gb_isolation.proofs.View.{BehavesAlone}
+use Rattle.gb_isolation.proofs.MomentLemmas.{AllBehave}
 use Rattle.gb_isolation.proofs.NoticeLemmas.{numbered_is}
 
 -- the laws of a group's duties, and of what is delivered and logged
@@ -24,7 +22,7 @@ pub record DutyLaws : Type 0 where
   pub members : DeliveredAreOfMembers
   pub logged : LoggedAreDelivered
 
-module _ (plan : Plan) (run : List NodeStep) (v : ClusterValue) (g : Addr) (few : plan.nodes ≤ NODES) (least : SILENCE_MIN ≤ plan.silence) (alike : IsIsolated plan run v g) (behaves : BehavesAlone plan g run) (told : AllMarked (alone (bounds_of plan) g (project plan g run))) where
+module _ (plan : Plan) (run : List NodeStep) (v : ClusterValue) (g : Addr) (few : plan.nodes ≤ NODES) (alike : IsIsolated plan run v g) (behaves : BehavesAlone plan g run) where
   abbrev group : Group
   group = alone (bounds_of plan) g (project plan g run)
 
@@ -42,14 +40,13 @@ module _ (plan : Plan) (run : List NodeStep) (v : ClusterValue) (g : Addr) (few 
         let is : (node_numbered c).number ≡ c = numbered_is c (omega (arith, within, few)) in
         sym (ap (λ (s : Seen). s.put) (alike.same b (node_numbered c) in_b (subst (λ k. k < plan.nodes) (sym is) within)) ∙ ap (λ k. (group b.number).put k) is)
 
-    seen : is_gone (group b.number).phase ≡ false → (messages : MsgId → Bool) → ((m : MsgId) → messages m ≡ true → is_member spec m.origin.number ≡ true) → KeepsDuties spec b.number (noticed_at (group b.number)) (group b.number).put (HasHad group) messages
-        → KeepsRunDuties plan run v g b spec messages
-    seen here messages origins done =
+    seen : (messages : MsgId → Bool) → KeepsDuties spec b.number (noticed_at (group b.number)) (group b.number).put (HasHad group) messages → KeepsRunDuties plan run v g b spec messages
+    seen messages done =
         duties_put spec b.number (noticed_at (group b.number)) (group b.number).put (λ c. (seen_in plan run v g b (node_numbered c)).put) put_there (HasHad group) messages done
 
     delivered : DutyLaws → is_gone (group b.number).phase ≡ false → KeepsRunDuties plan run v g b spec (delivered_at spec b.number (group b.number))
     delivered laws here =
-        seen here (delivered_at spec b.number (group b.number)) (laws.members (bounds_of plan) g (project plan g run) b.number spec made)
+        seen (delivered_at spec b.number (group b.number))
         ((laws.dutiful (bounds_of plan) g (project plan g run) alike.legal).delivered b.number spec (ap (λ (gone : Bool). if gone then None else (group b.number).spec) here ∙ made))
 
     logged : DutyLaws → KeepsRunDuties plan run v g b spec (has (seen_in plan run v g b b).log)
@@ -69,4 +66,4 @@ module _ (plan : Plan) (run : List NodeStep) (v : ClusterValue) (g : Addr) (few 
 
 pub all_dutiful : DutyLaws → GroupsAreIsolated → AllBehave → OfGroupsInRuns RunDuties
 all_dutiful laws isolated behave plan run v comes g fed =
-    run_duties plan run v g (stays plan run v comes).right.few (stays plan run v comes).right.least (isolated plan run v comes g fed) (behave plan g run v comes fed) (marked behave plan g run v comes fed) laws
+    run_duties plan run v g (stays plan run v comes).right.few (isolated plan run v comes g fed) (behave plan g run v comes fed) laws

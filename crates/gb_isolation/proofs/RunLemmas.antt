@@ -130,7 +130,7 @@ module _ (laws : Laws) (plan : Plan) (g : Addr) (run : List NodeStep) (before : 
   step_goes a (Asked request) (Replied reply) v within goes answered fed =
       asked_goes (node_plan plan a) plan.versions g (past_at a run) request reply (frames_for plan run a) group refl few
       (silent_is (node_plan plan a) (past_at a run) few least)
-      (λ b is. laws.answers.suspected (node_plan plan a) (past_at a run) (node_at before a) b (have_pasts plan run before a comes within) is) (unsaid a within) answered fed (was.fits a within)
+      (unsaid a within) answered fed (was.fits a within)
   step_goes a (Pack b) (Sent (SentPacket text)) v within goes answered fed = packed_goes (node_plan plan a) plan.versions g (past_at a run) b text (frames_for plan run a) group few answered (was.fits a within)
   step_goes a Tick (Ticked (Noticed found)) v within goes answered fed = ticked_goes (node_plan plan a) plan.versions g (past_at a run) found (frames_for plan run a) group few answered (was.fits a within)
   step_goes a (Brought bytes) (Taken (TakenGood good)) v within goes answered fed =
