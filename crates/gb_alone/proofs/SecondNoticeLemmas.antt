@@ -1,15 +1,15 @@
 -- A second notice of a node changes nothing that is seen of a group.
-use Rattle.gb_types.specs.Common.{◌≡◌, ℕ, ◌+◌, ◌<◌, ◌≤◌, Bool, true, false, not, ◌&&◌, ◌||◌, nat_eq, take, length, map, filter, fold, List, [], ◌∷◌, ◌++◌, Option, Some, None, refl, sym, ap, ◌∙◌, arith, slice_get, if◌then◌else◌, list_all, nat_tests, append-nil, length-take, take_all, version_at, rising}
-use Rattle.gb_types.specs.declared.{address.Addr.Addr, entry.Entry.Entry, kind.Kind.Kind, kind.Module.Module, kind.Order.Order, message.MsgId.MsgId, node.NodeId.NodeId, plan.Bounds.Bounds, reply.Reply.Reply, reply.Reply.TheVariants.Done, reply.Reply.TheVariants.Said, spec.Spec.Spec, version.Version.Version}
+use Rattle.gb_types.specs.Common.{◌≡◌, ℕ, ◌+◌, ◌≤◌, Bool, true, false, not, ◌&&◌, ◌||◌, nat_eq, take, length, map, filter, List, [], ◌∷◌, ◌++◌, Option, Some, None, refl, sym, ap, ◌∙◌, arith, slice_get, if◌then◌else◌, list_all, nat_tests, append-nil, length-take, take_all, version_at, rising}
+use Rattle.gb_types.specs.declared.{address.Addr.Addr, entry.Entry.Entry, kind.Kind.Kind, kind.Module.Module, message.MsgId.MsgId, node.NodeId.NodeId, plan.Bounds.Bounds, reply.Reply.Reply, reply.Reply.TheVariants.Done, reply.Reply.TheVariants.Said, spec.Spec.Spec, version.Version.Version}
 use Rattle.gb_types.specs.declared.kind.Module.TheVariants.{BestEffort, Lazy, Eager, AllAck, Majority}
 use Rattle.gb_layer.specs.declared.{call.Call.Call, call.Call.TheVariants.Notice}
-use Rattle.gb_layer.specs.Common.{was_noticed, mentions, holds, is_broadcast, is_delivered, first_mentions, newly, now_broadcast, now_delivered, log, delivers, broadcasts}
-use Rattle.gb_kinds.specs.Kinds.{kind_log, kind_broadcasts, released}
+use Rattle.gb_layer.specs.Common.{was_noticed, mentions, holds, is_broadcast, is_delivered, first_mentions, now_broadcast, now_delivered, log, delivers, broadcasts}
+use Rattle.gb_kinds.specs.Kinds.{kind_log, released}
 use Rattle.std.specs.FinSet as set
 use Rattle.gb_rules.specs.Common.{calls_of, known, said_in, bytes_in, log_of, puts_of, is_gone, is_other, is_too_long}
 use Rattle.gb_rules.specs.declared.{call.GroupCall.GroupCall, call.GroupCall.TheVariants.Own, call.GroupCall.TheVariants.Other, call.GroupCall.TheVariants.Crashed, phase.Phase.Phase}
 use Rattle.gb_alone.specs.Alone.{Group, Member, held_spec, reply_to, put_to, called, did, falls, item_came, taken_in, cut, took_notice, node_noticed, member_after, after, nobody, alone, alone_from, usage_of, log_at, is_acknowledged, count_unfinished}
-use Rattle.gb_alone.specs.Laws.{log_of_member, IsSeenAsBefore, SecondNoticesChangeNothing}
+use Rattle.gb_alone.specs.Laws.{IsSeenAsBefore, SecondNoticesChangeNothing}
 use Rattle.gb_alone.specs.declared.{event.GroupEvent.GroupEvent, event.GroupStep.GroupStep}
 use Rattle.gb_alone.specs.declared.event.GroupEvent.TheVariants.{Tenant, Make as AskMake, Open as AskOpen, Shut as AskShut, Drop as AskDrop, Say as AskSay, OtherMade, OtherDropped, Took, Came, Done as Acknowledged, Notice as Noticing, Stop}
 

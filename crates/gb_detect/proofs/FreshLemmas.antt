@@ -1,11 +1,11 @@
 -- Fresh packets, and what they say of suspicions.
-use Rattle.gb_types.specs.Common.{◌≡◌, ℕ, ◌+◌, ◌<◌, ◌≤◌, Bool, true, false, cond, not, ◌&&◌, ◌||◌, nat_eq, nat_lt, nat_le, list_any, List, [], ◌∷◌, Option, Some, None, refl, ap, sym, ◌∙◌, arith, nat_tests, and-true, or-false, or-true}
+use Rattle.gb_types.specs.Common.{◌≡◌, ℕ, ◌<◌, Bool, true, false, cond, not, ◌&&◌, ◌||◌, nat_eq, nat_lt, nat_le, list_any, List, [], ◌∷◌, Option, Some, None, refl, ap, sym, ◌∙◌, arith, nat_tests, and-true, or-false}
 use Rattle.gb_types.specs.declared.pulse.Pulse.{Pulse}
 use Rattle.gb_types.proofs.BoolLemmas.{and_left}
 use Rattle.gb_detect.specs.Silence.{Call, Heard, Tick, is_silent, is_noticed}
 use Rattle.gb_detect.specs.Suspicion.{is_above, reaches, is_stale, newest_of, fresh_calls, says_unheard, is_flagged, is_doubted, is_doubted_since, is_suspected, is_reported}
 use Rattle.gb_detect.specs.Laws.{SuspicionsEnd}
-use Rattle.gb_detect.proofs.TickLemmas.{ticks_since, ticks_since-tick, ticks_since-other, ticks_since-heard}
+use Rattle.gb_detect.proofs.TickLemmas.{ticks_since-tick, ticks_since-other, ticks_since-heard}
 
 pub fresh_stale : (call : Call) (calls : List Call) → is_stale call calls ≡ true → fresh_calls (call ∷ calls) ≡ fresh_calls calls
 unfolding fresh_calls

@@ -1,11 +1,11 @@
 -- The state of a detector after any calls.
-use Rattle.gb_types.specs.Common.{◌≡◌, ℕ, ◌+◌, ◌<◌, ◌≤◌, Bool, true, false, not, ◌&&◌, ◌||◌, cond, if◌then◌else◌, nat_eq, nat_lt, nat_le, min, length, get_or, set, list_any, List, [], ◌∷◌, Option, Some, None, refl, ap, sym, ◌∙◌, subst, arith, inl, inr, cases_lt, get_or-set_same, get_or-set_other, ◌≢◌, nat_tests, length-map, length-set, get_or-replicate, length-replicate, nat_cmp, and-false, or-false}
+use Rattle.gb_types.specs.Common.{◌≡◌, ℕ, ◌+◌, ◌<◌, ◌≤◌, Bool, true, false, not, ◌&&◌, ◌||◌, if◌then◌else◌, nat_eq, nat_lt, nat_le, min, length, get_or, set, List, [], ◌∷◌, Option, Some, None, refl, ap, sym, ◌∙◌, subst, arith, get_or-set_same, get_or-set_other, ◌≢◌, nat_tests, length-map, length-set, get_or-replicate, length-replicate, nat_cmp, and-false}
 use Rattle.std.proofs.lemmas.List.{get_or-map}
 use Rattle.std.specs.FinSet as fin
 use Rattle.gb_types.specs.declared.{limits.TheConstants.NODES, limits.TheConstants.SILENCE_MIN, pulse.Pulse.Pulse}
 use Rattle.gb_types.proofs.InsertedLemmas.{contains-insert}
-use Rattle.gb_detect.specs.Silence.{Call, Heard, Tick, is_silent, is_noticed}
-use Rattle.gb_detect.specs.Suspicion.{is_above, reaches, is_stale, newest_of, fresh_calls, says_unheard, is_flagged, is_doubted_since, is_suspected, is_reported}
+use Rattle.gb_detect.specs.Silence.{Call, Heard, Tick, is_silent}
+use Rattle.gb_detect.specs.Suspicion.{is_above, is_stale, newest_of, fresh_calls, says_unheard, is_flagged, is_doubted_since, is_suspected, is_reported}
 use Rattle.gb_detect.specs.Watch.{Watch, start, is_due, is_fresh, with_newest, with_if, due, after_fresh, after_heard, after_tick, replay, suspected, StandsFor, AreNoticed, AreSuspected, AreNew}
 use Rattle.gb_detect.proofs.SetLemmas.{contains-either, contains-nodes_where, contains-removed}
 use Rattle.gb_detect.proofs.TickLemmas.{ticks_since, ticks_since-tick, ticks_since-other, ticks_since-heard, noticed-heard}

@@ -1,8 +1,7 @@
 -- The laws of a detector over any list of calls.
-use Rattle.std.specs.Prelude.{◌≡◌, ◌<◌, ◌≤◌, ◌↔◌, ℕ, Bool, true, false, List, ◌∷◌, ◌++◌, Option, Some, IsTrue}
-use Rattle.std.specs.List.{list_any}
+use Rattle.std.specs.Prelude.{◌≡◌, ◌<◌, ◌≤◌, ◌↔◌, ℕ, Bool, true, false, List, ◌∷◌, Option, IsTrue}
 use Rattle.gb_types.specs.declared.{limits.TheConstants.NODES, limits.TheConstants.SILENCE_MIN, pulse.Pulse.Pulse}
-use Rattle.gb_detect.specs.Silence.{Call, Heard, Tick, is_heard, is_noticed, is_silent, SilentStretch}
+use Rattle.gb_detect.specs.Silence.{Call, Heard, Tick, is_noticed, is_silent, SilentStretch}
 use Rattle.gb_detect.specs.Suspicion.{fresh_calls, is_stale, is_suspected, is_reported, says_unheard}
 use Rattle.gb_detect.specs.Watch.{start, replay, suspected, AreNoticed, AreSuspected}
 

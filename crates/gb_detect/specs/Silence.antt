@@ -1,7 +1,7 @@
 -- When a node has been silent for too long, over the calls on a detector, newest first
 -- (failure detection by timeout, as in Cachin, Guerraoui, Rodrigues 2011, Algorithm 2.5, with ticks for its timer; where a suspicion is taken back,
 -- Algorithm 2.7, whose delay is fixed here).
-use Rattle.std.specs.Prelude.{◌≡◌, ℕ, Bool, false, true, not, ◌&&◌, ◌||◌, nat_eq, nat_le, List, [], ◌∷◌, ◌++◌, count_by, Option, Some, None, if◌then◌else◌}
+use Rattle.std.specs.Prelude.{◌≡◌, ℕ, Bool, false, true, not, ◌||◌, nat_eq, nat_le, List, [], ◌∷◌, ◌++◌, count_by, Option}
 use Rattle.std.specs.List.{take_while, list_any}
 use Rattle.gb_types.specs.declared.pulse.Pulse.{Pulse}
 

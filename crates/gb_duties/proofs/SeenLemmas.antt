@@ -1,5 +1,5 @@
 -- Duties and agreement stated with other names for what the nodes hold.
-use Rattle.gb_types.specs.Common.{◌≡◌, ℕ, ◌⊎◌, inl, inr, Bool, true, List, sym, ap, ◌∙◌, subst, All}
+use Rattle.gb_types.specs.Common.{◌≡◌, ℕ, inl, inr, Bool, true, List, sym, ap, ◌∙◌, subst, All}
 use Rattle.gb_types.specs.declared.{entry.Entry.Entry, message.MsgId.MsgId, spec.Spec.Spec, kind.Module.Module}
 use Rattle.gb_types.proofs.BoolLemmas.{and_left}
 use Rattle.gb_types.specs.declared.kind.Module.TheVariants.{BestEffort, Lazy, Eager, AllAck, Majority}

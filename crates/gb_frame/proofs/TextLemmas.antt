@@ -1,5 +1,5 @@
 -- The position of each field in the text of a packet.
-use Rattle.gb_types.specs.Common.{◌≡◌, ℕ, ◌+◌, ◌-◌, ◌^◌, ◌<◌, List, [], length, take, drop, codes, ◌++◌, true, append_assoc, subst, Bool, Some, refl, sym, ap, ◌∙◌, arith, unwrap_or, w16, w64, take_at, drop_at, length-append, length-take, append-nil, limits_of, version_named}
+use Rattle.gb_types.specs.Common.{◌≡◌, ℕ, ◌+◌, ◌-◌, ◌^◌, ◌<◌, List, [], length, take, drop, codes, ◌++◌, true, append_assoc, subst, Some, refl, sym, ap, ◌∙◌, arith, unwrap_or, w16, w64, take_at, drop_at, length-append, length-take, append-nil, limits_of, version_named}
 use Rattle.gb_cap.specs.Hmac.{hmac_of, length-hmac_of}
 use Rattle.gb_types.specs.declared.{version.Version.Version, version.Version.TheVariants.One}
 use Rattle.gb_frame.specs.Packet.{Content}
@@ -13,7 +13,7 @@ use Rattle.gb_frame.proofs.VersionLemmas.{room_within, tag_most}
 use Rattle.gb_frame.proofs.RoomLemmas.{count_fits}
 use Rattle.gb_frame.proofs.NumberLemmas.{wide16, wide64, number_again}
 use Rattle.gb_frame.proofs.ItemLemmas.{items_again}
-use Rattle.gb_frame.proofs.TickLemmas.{AreAgain, length-fields_text, length-header_text, ticks_again}
+use Rattle.gb_frame.proofs.TickLemmas.{length-fields_text, length-header_text, ticks_again}
 
 pub length-tag_of : (version : Version) (key text : List ℕ) → length (tag_of version key text) ≡ (limits_of version).tag
 unfolding tag_of

@@ -1,5 +1,5 @@
 -- The tick number and the flags of a packet, behind the fields that each version has.
-use Rattle.gb_types.specs.Common.{◌≡◌, ℕ, ◌+◌, ◌^◌, ◌<◌, ◌≤◌, Bool, true, false, not, ◌==◌, ◌||◌, ◌&&◌, nat_lt, List, [], ◌∷◌, ◌++◌, length, get_or, take, drop, refl, sym, ap, ◌∙◌, arith, w64, to_be_bytes, drop-cons, drop_at, get_or-drop, nat_tests, length-append, limits_of}
+use Rattle.gb_types.specs.Common.{◌≡◌, ℕ, ◌+◌, ◌^◌, ◌<◌, ◌≤◌, Bool, true, false, ◌==◌, nat_lt, List, ◌∷◌, ◌++◌, length, get_or, take, drop, refl, sym, ap, ◌∙◌, arith, w64, to_be_bytes, drop-cons, get_or-drop, nat_tests, length-append, limits_of}
 use Rattle.gb_types.specs.declared.{version.Version.Version, version.Version.TheVariants.One, version.Version.TheVariants.Two, version.Version.TheVariants.Three, version.Version.TheVariants.Four}
 use Rattle.gb_frame.specs.Packet.{Content}
 use Rattle.gb_frame.specs.Spelling.{fields_text, flags_of, header_text, ticks_text, HasTicks, IsBytes}

@@ -1,11 +1,10 @@
 -- What a packet that is taken does to a group.
-use Rattle.gb_types.specs.Common.{◌≡◌, ◌≢◌, ℕ, ◌+◌, ◌-◌, ◌<◌, ◌≤◌, List, [], ◌∷◌, ◌++◌, length, map, fold, option_map, Some, Bool, true, false, not, ◌&&◌, ◌||◌, refl, sym, ◌∙◌, ap, subst, arith, nat_eq, nat_le, slice_get, All, if◌then◌else◌, list_any, flat_map, or-false, false_from_ne_true, append-nil, bounds_of, version_at}
+use Rattle.gb_types.specs.Common.{◌≡◌, ◌≢◌, ℕ, ◌+◌, ◌-◌, ◌<◌, ◌≤◌, List, [], ◌∷◌, ◌++◌, length, fold, option_map, Some, Bool, true, false, not, ◌&&◌, ◌||◌, refl, sym, ◌∙◌, ap, subst, arith, nat_eq, nat_le, slice_get, All, if◌then◌else◌, list_any, flat_map, or-false, false_from_ne_true, append-nil, bounds_of, version_at}
 use Rattle.std.specs.FinSet as set
 use Rattle.gb_types.specs.declared.{address.Addr.Addr, limits.TheConstants.NODES, node.NodeId.NodeId, plan.Plan.Plan, version.Version.Version}
 use Rattle.gb_frame.specs.declared.item.Item.{Item}
 use Rattle.gb_frame.specs.Common.{Content, items_for}
 use Rattle.gb_link.specs.Common.{covers}
-use Rattle.gb_detect.specs.{Silence.Heard, Watch.start, Watch.replay}
 use Rattle.gb_rules.specs.Common.{reserve_of, row_of}
 use Rattle.gb_alone.specs.Common.{Member, Group, alone_from}
 use Rattle.gb_node.specs.Common.{node_numbered, Happened, read, frames_to, is_ack, is_acked, is_frame, is_first, is_taken, is_stopped, tenants_in, watched, waiting_of, came_told, taken_told, told_of, living_of, IsTakenIn}

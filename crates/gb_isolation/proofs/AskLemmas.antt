@@ -7,7 +7,7 @@ use Rattle.gb_rules.specs.Common.{is_gone, passed, where_so, reserve_of, row_of}
 use Rattle.gb_rules.specs.declared.reserve.Reserve.{Reserve}
 use Rattle.gb_alone.specs.declared.event.GroupEvent.{GroupEvent}
 use Rattle.gb_alone.specs.declared.event.GroupEvent.TheVariants.{Make as AskMake, Open as AskOpen, Shut as AskShut, Drop as AskDrop, Say as AskSay}
-use Rattle.gb_alone.specs.Common.{Member, Group, did, commanded, member_after, is_marked, MayHappen}
+use Rattle.gb_alone.specs.Common.{Member, Group, did, commanded, member_after, MayHappen}
 use Rattle.gb_node.specs.Common.{Happened, frames_to, is_acked, is_taken, watched, added, tenants_in, is_stopped, Told, suspected_after, waiting_of, asked_told, told_of, living_after, living_done, living_of, has_group_token}
 use Rattle.gb_node.specs.declared.{answer.NodeAnswer.TheVariants.Reply as Replied, event.NodeEvent.TheVariants.Request as Asked, plan.NodePlan.NodePlan}
 use Rattle.gb_isolation.specs.Project.{group_items_of, is_named, is_own_request, made_by, made_with, is_met_by, is_met, reply_in, replies_in}

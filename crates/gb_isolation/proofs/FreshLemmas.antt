@@ -1,14 +1,14 @@
 -- The notices of a group that was just made.
-use Rattle.gb_types.specs.Common.{◌≡◌, ℕ, zero, suc, ◌+◌, ◌<◌, ◌≤◌, List, [], ◌∷◌, ◌++◌, length, take, Option, Some, Bool, true, false, not, ◌&&◌, refl, sym, ◌∙◌, ap, arith, None, nat_eq, map, filter, if◌then◌else◌, AllByRecursion, range_with_len, take-length, append-nil, nat_cmp, and_parts}
+use Rattle.gb_types.specs.Common.{◌≡◌, ℕ, zero, suc, ◌+◌, ◌<◌, ◌≤◌, List, [], ◌∷◌, ◌++◌, length, take, Option, Some, Bool, true, false, not, ◌&&◌, refl, sym, ◌∙◌, ap, arith, None, nat_eq, map, filter, if◌then◌else◌, AllByRecursion, range_with_len, take-length, append-nil, nat_cmp}
 use Rattle.gb_types.specs.declared.{limits.TheConstants.NODES, node.NodeId.NodeId, spec.Spec.Spec}
 use Rattle.std.specs.FinSet as set
 use Rattle.gb_rules.specs.Common.{puts_of, has_noticed, is_other, is_gone}
 use Rattle.gb_rules.specs.declared.{phase.Phase.TheVariants.Made, call.GroupCall.TheVariants.Crashed}
 use Rattle.gb_rules.proofs.PutLemmas.{none_put}
-use Rattle.gb_alone.specs.Common.{Member, called, cut, took_notice, node_noticed, put_to, is_marked, held_spec}
+use Rattle.gb_alone.specs.Common.{Member, called, cut, took_notice, node_noticed, put_to, held_spec}
 use Rattle.gb_node.specs.Common.{node_numbered, noticed_members, crashed_onto, told_first}
 use Rattle.gb_isolation.proofs.View.{IsThere}
-use Rattle.gb_isolation.proofs.NoticeLemmas.{AreRising, numbered_is, all_noticed, notices_keep, passing_rising, passing_marked}
+use Rattle.gb_isolation.proofs.NoticeLemmas.{AreRising, numbered_is, all_noticed, notices_keep, passing_rising}
 
 -- The nodes.
 

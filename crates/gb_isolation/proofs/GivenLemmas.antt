@@ -1,25 +1,21 @@
--- What an event of a run adds to the projection on a group: the node, its commands, and its notices.
-use Rattle.gb_types.specs.Common.{◌≡◌, ◌≢◌, ℕ, zero, suc, ◌+◌, ◌-◌, Bool, true, false, ◌&&◌, nat_eq, List, [], ◌∷◌, ◌++◌, length, Option, Some, None, refl, sym, ap, ◌∙◌, subst, map, option_or, is_some, filter, if◌then◌else◌, range_with_len, flat_map, and_parts, ne_eqb, bounds_of}
+-- What an event of a run adds to the projection on a group: the node, and its commands.
+use Rattle.gb_types.specs.Common.{◌≡◌, ◌≢◌, ℕ, zero, suc, ◌+◌, ◌-◌, Bool, true, false, ◌&&◌, nat_eq, List, [], ◌∷◌, ◌++◌, length, Option, Some, None, refl, ap, ◌∙◌, map, filter, range_with_len, flat_map, ne_eqb}
 use Rattle.std.specs.FinSet as set
-use Rattle.gb_types.specs.declared.{address.Addr.Addr, limits.TheConstants.NODES, node.NodeId.NodeId, reply.Reply.Reply, reply.Reply.TheVariants.Done, request.Request.Request, request.Action.Action, request.Action.TheVariants.AddTenant, request.Action.TheVariants.Group as AtGroup, request.GroupCommand.GroupCommand, spec.Spec.Spec, plan.Plan.Plan, plan.Bounds.Bounds}
-use Rattle.gb_types.specs.declared.request.GroupCommand.TheVariants.{Make, Open, Shut, Drop, Say, Fetch}
+use Rattle.gb_types.specs.declared.{address.Addr.Addr, limits.TheConstants.NODES, node.NodeId.NodeId, reply.Reply.Reply, reply.Reply.TheVariants.Done, request.Request.Request, request.Action.Action, request.Action.TheVariants.AddTenant, request.Action.TheVariants.Group as AtGroup, spec.Spec.Spec, plan.Plan.Plan}
+use Rattle.gb_types.specs.declared.request.GroupCommand.TheVariants.{Make, Drop}
 use Rattle.gb_frame.specs.declared.item.Item.{Item}
 use Rattle.gb_frame.specs.Common.{Content}
 use Rattle.gb_rules.specs.Common.{is_other, is_other_generation, reserve_of}
-use Rattle.gb_alone.specs.Common.{Group, after, alone_from}
 use Rattle.gb_alone.specs.declared.{event.GroupEvent.GroupEvent, event.GroupStep.GroupStep}
-use Rattle.gb_alone.specs.declared.event.GroupEvent.TheVariants.{Tenant, Make as AskMake, OtherMade, OtherDropped, Took, Came, Done as Acknowledged, Notice, Stop as Ends}
+use Rattle.gb_alone.specs.declared.event.GroupEvent.TheVariants.{Tenant, OtherMade, OtherDropped, Took, Came, Done as Acknowledged, Notice, Stop as Ends}
 use Rattle.gb_alone.proofs.CommandLemmas.{command_in, commands_at, commands}
-use Rattle.gb_duties.proofs.NoticeLemmas.{IsDue, AreDue}
-use Rattle.gb_node.specs.Common.{has_group_token, node_numbered, if_done, Happened, frames_to, read, is_stopped, tenants_in}
+use Rattle.gb_node.specs.Common.{node_numbered, Happened, frames_to, read, is_stopped}
 use Rattle.gb_node.specs.declared.{answer.NodeAnswer.NodeAnswer, answer.PacketAnswer.TheVariants.Good as TakenGood, answer.Sent.TheVariants.Packet as SentPacket, answer.Ticked.TheVariants.Noticed, event.NodeEvent.NodeEvent, plan.NodePlan.NodePlan}
 use Rattle.gb_node.specs.declared.answer.NodeAnswer.TheVariants.{Reply as Replied, Taken, Sent, Ticked}
 use Rattle.gb_node.specs.declared.event.NodeEvent.TheVariants.{Request as Asked, Packet as Brought, Pack, Tick}
 use Rattle.gb_cluster.specs.Common.{node_plan, NodeStep, past_at}
-use Rattle.gb_isolation.specs.Project.{group_items, group_items_of, offset, is_named, is_own_request, event_of, command_for, makes, made_by, made_with, notices, tenant_given, other_given, is_met, with_stop, if_any, comes, all_acknowledged, is_new_ack, is_new_frame, acknowledges, brings, arrived, ticked, gives}
-use Rattle.gb_isolation.proofs.NoticeLemmas.{notices_of, notices_there, notices_keep}
-use Rattle.gb_isolation.proofs.GoesLemmas.{after_there}
-use Rattle.gb_isolation.proofs.RoomLemmas.{own_given}
+use Rattle.gb_isolation.specs.Project.{group_items, group_items_of, offset, is_own_request, command_for, made_by, made_with, notices, tenant_given, other_given, is_met, with_stop, if_any, comes, all_acknowledged, is_new_ack, is_new_frame, acknowledges, brings, arrived, ticked, gives}
+use Rattle.gb_isolation.proofs.NoticeLemmas.{notices_of}
 use Rattle.gb_isolation.proofs.View.{asked_by, is_suspected_after, own_requested_by}
 
 -- each of these events is so
@@ -149,133 +145,6 @@ given_at plan g run a (Pack b) (Sent (SentPacket text)) =
 given_at plan g run a (Brought bytes) (Taken (TakenGood good)) = at_carried a (flat_map (arrived plan g run a) (read plan.cluster_key bytes)) (carried_packets plan g run a (read plan.cluster_key bytes))
 given_at plan g run a Tick (Ticked (Noticed found)) = at_ticked a (set.contains found) (made_with g (past_at a run))
 given_at plan g run a e x = tt
-
--- Notices.
-
-abbrev is_notice : GroupEvent → Bool
-is_notice (Notice q) = true
-is_notice event = false
-
--- it is no notice
-abbrev IsPlain : GroupStep → Type 0
-IsPlain step = is_notice step.event ≡ false
-
-plain_due : (event : GroupEvent) → is_notice event ≡ false → (bounds : Bounds) (addr : Addr) (group : Group) (a : NodeId) → IsDue event (group a.number)
-plain_due (Notice q) plain bounds addr group a = absurd (cc)
-plain_due event plain bounds addr group a = tt
-
-all_due : (bounds : Bounds) (addr : Addr) (steps : List GroupStep) (group : Group) → AllAre IsPlain steps → AreDue bounds addr group steps
-all_due bounds addr [] group plain = tt
-all_due bounds addr (step ∷ steps) group plain = (plain_due step.event plain.0 bounds addr group step.node, all_due bounds addr steps (after bounds addr group step) plain.1)
-
-carried_plain : (event : GroupEvent) → is_carrying event ≡ true → is_notice event ≡ false
-carried_plain (Notice q) is = absurd (cc)
-carried_plain event is = refl
-
-plain_carried : (a : NodeId) (xs : List GroupStep) → AllAre (IsCarried a) xs → AllAre IsPlain xs
-plain_carried a xs all = all_weaker (IsCarried a) IsPlain (λ x is. carried_plain x.event is.1) xs all
-
-plain_event : (command : GroupCommand) → is_notice (event_of command) ≡ false
-plain_event (Make spec) = refl
-plain_event Open = refl
-plain_event Shut = refl
-plain_event Drop = refl
-plain_event (Say message) = refl
-plain_event (Fetch from most) = refl
-
-plain_command : (a : NodeId) (what : Action) → AllAre IsPlain (command_for a what)
-plain_command a (AddTenant row) = tt
-plain_command a (AtGroup addr command) = (plain_event command, tt)
-
-plain_stop : (a : NodeId) (met : Bool) (xs : List GroupStep) → AllAre IsPlain xs → AllAre IsPlain (with_stop a met xs)
-plain_stop a met [] plain = tt
-plain_stop a true (c ∷ xs) plain = plain
-plain_stop a false (c ∷ xs) plain = (refl, plain)
-
-plain_tenant : (g : Addr) (a : NodeId) (reply : Reply) (what : Action) → AllAre IsPlain (tenant_given g a reply what)
-plain_tenant g a Done (AddTenant row) = elim (nat_eq row.tenant g.tenant) as (λ t. AllAre IsPlain (if t then record { node = a; event = Tenant (reserve_of row) } ∷ [] else [])) [ true ↦ (refl, tt) | false ↦ tt ]
-plain_tenant g a Done (AtGroup addr command) = tt
-plain_tenant g a reply what = tt
-
-plain_other : (g : Addr) (a : NodeId) (reply : Reply) (what : Action) → AllAre IsPlain (other_given g a reply what)
-plain_other g a Done (AtGroup addr (Make spec)) = elim (is_other_generation g addr) as (λ t. AllAre IsPlain (if t then record { node = a; event = OtherMade addr.generation } ∷ [] else [])) [ true ↦ (refl, tt) | false ↦ tt ]
-plain_other g a Done (AtGroup addr Drop) = elim (is_other_generation g addr) as (λ t. AllAre IsPlain (if t then record { node = a; event = OtherDropped } ∷ [] else [])) [ true ↦ (refl, tt) | false ↦ tt ]
-plain_other g a Done what = tt
-plain_other g a reply what = tt
-
-notices_due : (bounds : Bounds) (addr : Addr) (a : NodeId) (bs : List ℕ) (group : Group) → is_some (group a.number).spec ≡ true → AreDue bounds addr group (notices_of a bs)
-notices_due bounds addr a [] group made = tt
-notices_due bounds addr a (b ∷ bs) group made =
-    (made, notices_due bounds addr a bs next (ap (λ m. is_some m.spec) (after_there bounds addr group a (Notice (node_numbered b))) ∙ (ap is_some (notices_keep a.number (b ∷ []) (group a.number)).spec ∙ made)))
-  where
-    next : Group
-    next = after bounds addr group (record { node = a; event = Notice (node_numbered b) })
-
--- the group is made, and then told of the nodes that were noticed before
-making_due : (bounds : Bounds) (addr : Addr) (a : NodeId) (spec : Spec) (bs : List ℕ) (group : Group) → is_some (alone_from bounds addr group (record { node = a; event = AskMake spec } ∷ notices_of a bs) a.number).spec ≡ true
-    → AreDue bounds addr group (record { node = a; event = AskMake spec } ∷ notices_of a bs)
-making_due bounds addr a spec bs group made =
-    (tt, notices_due bounds addr a bs next (ap is_some (sym (ap (λ m. m.spec) (notices_there bounds addr a bs next) ∙ (notices_keep a.number bs (next a.number)).spec)) ∙ made))
-  where
-    next : Group
-    next = after bounds addr group (record { node = a; event = AskMake spec })
-
-module _ (bounds : Bounds) (plan : NodePlan) (g : Addr) (past : List Happened) (group : Group) where
-  -- where the request is the group's own and the node runs
-  own_due : (request : Request) (reply : Reply) → is_named g request.what ≡ true
-      → (alone_from bounds g group (tenant_given g plan.me reply request.what ++ own_requested_by plan g past request reply) plan.me.number).spec ≡ made_with g (record { event = Asked request; answer = Replied reply } ∷ past)
-      → AreDue bounds g group (tenant_given g plan.me reply request.what ++ own_requested_by plan g past request reply)
-  unfolding made_with
-  own_due request reply named made = by request.what reply named made
-    where
-      given_by : Reply → Action → List GroupStep
-      given_by reply what = tenant_given g plan.me reply what ++ (command_for plan.me what ++ ticked plan.me (is_suspected_after plan past) (if_done reply (makes g what) None))
-
-      by : (what : Action) (reply : Reply) → is_named g what ≡ true → (alone_from bounds g group (given_by reply what) plan.me.number).spec ≡ option_or (if_done reply (makes g what) None) (made_with g past) → AreDue bounds g group (given_by reply what)
-      by (AddTenant row) reply named made = absurd (cc)
-      by (AtGroup addr (Make spec)) Done named made =
-          let given : Bool → List GroupStep = λ t. record { node = plan.me; event = AskMake spec } ∷ ticked plan.me (is_suspected_after plan past) (if t then Some spec else None) in
-          subst (λ t. AreDue bounds g group (given t)) (sym named)
-          (making_due bounds g plan.me spec (filter (λ b. is_other spec plan.me.number b && is_suspected_after plan past b) (range_with_len 0 NODES)) group
-          (ap (λ (t : Bool). is_some (alone_from bounds g group (given t) plan.me.number).spec) (sym named) ∙ (ap is_some made ∙ ap (λ (t : Bool). is_some (option_or (if t then Some spec else None) (made_with g past))) named)))
-      by (AtGroup addr command) Done named made = all_due bounds g (record { node = plan.me; event = event_of command } ∷ []) group (plain_event command, tt)
-      by (AtGroup addr command) reply named made = all_due bounds g (record { node = plan.me; event = event_of command } ∷ []) group (plain_event command, tt)
-
-  asked_due : (request : Request) (reply : Reply) → (alone_from bounds g group (asked_by plan g past request reply) plan.me.number).spec ≡ made_with g (record { event = Asked request; answer = Replied reply } ∷ past)
-      → AreDue bounds g group (asked_by plan g past request reply)
-  asked_due request reply = by (is_stopped past) (is_own_request plan.me g past request) refl
-    where
-      by : (stopped own : Bool) → is_own_request plan.me g past request ≡ own
-          → (alone_from bounds g group (if stopped then (if own then with_stop plan.me (is_met plan.me g past) (command_for plan.me request.what) else []) else tenant_given g plan.me reply request.what ++ other_given g plan.me reply request.what ++ (if own then own_requested_by plan g past request reply else [])) plan.me.number).spec ≡ made_with g (record { event = Asked request; answer = Replied reply } ∷ past)
-          → AreDue bounds g group (if stopped then (if own then with_stop plan.me (is_met plan.me g past) (command_for plan.me request.what) else []) else tenant_given g plan.me reply request.what ++ other_given g plan.me reply request.what ++ (if own then own_requested_by plan g past request reply else []))
-      by true true is made = all_due bounds g (with_stop plan.me (is_met plan.me g past) (command_for plan.me request.what)) group (plain_stop plan.me (is_met plan.me g past) (command_for plan.me request.what) (plain_command plan.me request.what))
-      by true false is made = tt
-      by false true is made =
-          let named = (and_parts (is_named g request.what) (has_group_token plan.me (tenants_in past) request) is).0 in
-          let alone : tenant_given g plan.me reply request.what ++ other_given g plan.me reply request.what ≡ tenant_given g plan.me reply request.what = own_given g plan.me reply request.what named in
-          subst (λ es. AreDue bounds g group (es ++ own_requested_by plan g past request reply)) (sym alone)
-          (own_due request reply named (ap (λ es. (alone_from bounds g group (es ++ own_requested_by plan g past request reply) plan.me.number).spec) (sym alone) ∙ made))
-      by false false is made =
-          all_due bounds g (tenant_given g plan.me reply request.what ++ other_given g plan.me reply request.what ++ []) group
-          (all_both IsPlain (tenant_given g plan.me reply request.what ++ other_given g plan.me reply request.what) []
-          (all_both IsPlain (tenant_given g plan.me reply request.what) (other_given g plan.me reply request.what) (plain_tenant g plan.me reply request.what) (plain_other g plan.me reply request.what)) tt)
-
-ticked_due : (bounds : Bounds) (addr : Addr) (a : NodeId) (found : ℕ → Bool) (o : Option Spec) (group : Group) → (group a.number).spec ≡ o → AreDue bounds addr group (ticked a found o)
-ticked_due bounds addr a found None group made = tt
-ticked_due bounds addr a found (Some spec) group made = notices_due bounds addr a (filter (λ b. is_other spec a.number b && found b) (range_with_len 0 NODES)) group (ap is_some made)
-
--- the notices that an event gives come where the group was made
-pub given_due : (plan : Plan) (g : Addr) (run : List NodeStep) (group : Group) (a : NodeId) (e : NodeEvent) (x : NodeAnswer) → (group a.number).spec ≡ made_with g (past_at a run)
-    → (alone_from (bounds_of plan) g group (gives plan g run a e x) a.number).spec ≡ made_with g (record { event = e; answer = x } ∷ past_at a run) → AreDue (bounds_of plan) g group (gives plan g run a e x)
-given_due plan g run group a (Asked request) (Replied reply) before now = asked_due (bounds_of plan) (node_plan plan a) g (past_at a run) group request reply now
-given_due plan g run group a (Pack b) (Sent (SentPacket text)) before now =
-    let k : ℕ = length (group_items_of g (map (λ (c : Content). c.items) (read plan.cluster_key text))) in
-    all_due (bounds_of plan) g (if_any a k (Took b k)) group (plain_carried a (if_any a k (Took b k)) (carried_any a k (Took b k) refl))
-given_due plan g run group a (Brought bytes) (Taken (TakenGood good)) before now =
-    let given : List GroupStep = flat_map (arrived plan g run a) (read plan.cluster_key bytes) in
-    all_due (bounds_of plan) g given group (plain_carried a given (carried_packets plan g run a (read plan.cluster_key bytes)))
-given_due plan g run group a Tick (Ticked (Noticed found)) before now = ticked_due (bounds_of plan) g a (set.contains found) (made_with g (past_at a run)) group before
-given_due plan g run group a e x before now = tt
 
 -- Commands.
 

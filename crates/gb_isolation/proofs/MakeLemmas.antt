@@ -1,14 +1,14 @@
 -- What making a group at a running node does to it: the group learns which members were noticed before.
 use Rattle.gb_isolation.specs.Project.{notices, ticked}
-use Rattle.gb_types.specs.Common.{◌≡◌, ℕ, ◌<◌, List, [], ◌∷◌, ◌++◌, length, Option, Some, None, Bool, true, false, ◌&&◌, ◌||◌, refl, sym, ◌∙◌, ap, subst, arith, option_or, if◌then◌else◌, is_some, nat_le, option_map, nat_cmp, or-false, and_parts, append-nil, version_at}
+use Rattle.gb_types.specs.Common.{◌≡◌, ℕ, ◌<◌, List, [], ◌∷◌, ◌++◌, length, Option, Some, None, Bool, true, false, refl, sym, ◌∙◌, ap, subst, arith, option_or, if◌then◌else◌, is_some, nat_le, option_map, nat_cmp, and_parts, append-nil, version_at}
 use Rattle.std.specs.FinSet as set
-use Rattle.gb_types.specs.declared.{address.Addr.Addr, limits.TheConstants.NODES, node.NodeId.NodeId, refusal.Refusal.TheVariants.NoGroup, refusal.Refusal.TheVariants.Spent, reply.Reply.Reply, reply.Reply.TheVariants.Done, reply.Reply.TheVariants.Refused, request.Action.TheVariants.Group as AtGroup, request.GroupCommand.TheVariants.Make, spec.Spec.Spec, plan.Bounds.Bounds, version.Version.Version}
+use Rattle.gb_types.specs.declared.{address.Addr.Addr, node.NodeId.NodeId, refusal.Refusal.TheVariants.NoGroup, refusal.Refusal.TheVariants.Spent, reply.Reply.Reply, reply.Reply.TheVariants.Done, reply.Reply.TheVariants.Refused, request.Action.TheVariants.Group as AtGroup, request.GroupCommand.TheVariants.Make, spec.Spec.Spec, plan.Bounds.Bounds, version.Version.Version}
 use Rattle.gb_frame.specs.declared.item.Item.{Item}
 use Rattle.gb_rules.specs.declared.{call.GroupCall.GroupCall, call.GroupCall.TheVariants.Crashed, reserve.Reserve.Reserve}
 use Rattle.gb_rules.specs.Common.{said_in, is_addr, is_gone, is_member, make_answer, by_tenant, reserve_of, row_of, or_added, passed, where_so, is_reached_by}
 use Rattle.gb_alone.proofs.InsideLemmas.{step_inside}
 use Rattle.gb_alone.specs.declared.event.GroupEvent.TheVariants.{Make as AskMake}
-use Rattle.gb_alone.specs.Common.{Member, Group, after, commanded, is_marked, reply_to, running_reply}
+use Rattle.gb_alone.specs.Common.{Member, Group, after, commanded, reply_to, running_reply}
 use Rattle.gb_node.specs.Common.{node_numbered, Happened, is_stopped, tenants_in, Told, suspected_after, waiting_of, noticed_members, crashed_onto, told_first, told_of, living_of, admitted_answer, has_group_token}
 use Rattle.gb_node.specs.declared.plan.NodePlan.{NodePlan}
 use Rattle.gb_rules.proofs.AddressLemmas.{addr_is}
@@ -16,12 +16,12 @@ use Rattle.gb_isolation.specs.Project.{is_met, is_own_request, made_with, replie
 use Rattle.gb_isolation.specs.RunLaws.{is_dropped}
 use Rattle.gb_isolation.proofs.AskLemmas.{asking, carried_in, member_fits, view_own}
 use Rattle.gb_isolation.proofs.CommandLemmas.{AskedGoes, asking_of, given_own, inside_some, own_command, replies_running}
-use Rattle.gb_isolation.proofs.FreshLemmas.{before_rising, marked_before, fresh_there, fresh_put}
+use Rattle.gb_isolation.proofs.FreshLemmas.{before_rising, fresh_there, fresh_put}
 use Rattle.gb_isolation.proofs.GoesLemmas.{after_there, after_elsewhere}
 use Rattle.gb_isolation.proofs.MemberLemmas.{made-is, KeepsRest}
-use Rattle.gb_isolation.proofs.NoticeLemmas.{all_noticed, notices_of, notices_there, notices_elsewhere, notices_keep, notices_mark, notices_legal}
+use Rattle.gb_isolation.proofs.NoticeLemmas.{all_noticed, notices_of, notices_there, notices_elsewhere, notices_keep, notices_legal}
 use Rattle.gb_isolation.proofs.PastLemmas.{running_unmet}
-use Rattle.gb_isolation.proofs.View.{View, view_of, AreMarked, Fits, Goes, NotMade, IsThere, MemberIs, is_concerned, said_of, bounds_with, is_suspected_after}
+use Rattle.gb_isolation.proofs.View.{View, view_of, AreMarked, Fits, Goes, NotMade, MemberIs, said_of, bounds_with, is_suspected_after}
 
 -- notices say nothing
 none_said : (bs : List ℕ) (calls : List GroupCall) → said_in calls ≡ 0 → said_in (crashed_onto calls bs) ≡ 0

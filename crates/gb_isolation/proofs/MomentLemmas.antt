@@ -1,11 +1,11 @@
 -- The moments of a run: how an earlier moment stands in a later one.
-use Rattle.gb_types.specs.Common.{◌≡◌, ◌≢◌, ℕ, suc, ◌+◌, ◌-◌, ◌<◌, ◌≤◌, true, not, ◌⊎◌, inl, inr, List, [], ◌∷◌, ◌++◌, length, take, Some, refl, sym, ap, ◌∙◌, subst, arith, length-append, append_assoc, slice_get, and_parts, cases_eq, cases_lt, append-nil, fold-append, bounds_of}
+use Rattle.gb_types.specs.Common.{◌≡◌, ◌≢◌, ℕ, suc, ◌+◌, ◌-◌, ◌<◌, ◌≤◌, true, not, ◌⊎◌, inl, inr, List, [], ◌∷◌, ◌++◌, length, take, Some, refl, sym, ap, ◌∙◌, subst, arith, length-append, append_assoc, slice_get, and_parts, cases_eq, cases_lt, append-nil}
 use Rattle.gb_types.specs.declared.{address.Addr.Addr, entry.Entry.Entry, node.NodeId.NodeId, spec.Spec.Spec, plan.Plan.Plan}
 use Rattle.gb_frame.specs.declared.item.Item.{Item}
-use Rattle.gb_alone.specs.Common.{Group, nobody, after, alone, alone_from}
+use Rattle.gb_alone.specs.Common.{alone}
 use Rattle.gb_alone.specs.declared.event.GroupStep.{GroupStep}
 use Rattle.gb_cluster.specs.Common.{ClusterValue, NodeStep, ComesTo, past_at}
-use Rattle.gb_cluster.proofs.NodesLemmas.{stays, past_same, past_other}
+use Rattle.gb_cluster.proofs.NodesLemmas.{stays, past_other}
 use Rattle.gb_isolation.specs.Project.{group_items, group_items_of, offset, made_with, gives, project, is_starved_by, is_fed}
 use Rattle.gb_isolation.proofs.View.{BehavesAlone}
 

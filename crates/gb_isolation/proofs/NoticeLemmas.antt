@@ -1,7 +1,6 @@
 -- Notices at one node, one after another.
-use Rattle.gb_types.specs.Common.{◌≡◌, ◌≢◌, ℕ, zero, suc, ◌+◌, ◌<◌, ◌≤◌, List, [], ◌∷◌, Some, None, Bool, true, false, ◌||◌, ◌⊎◌, inl, inr, refl, sym, ◌∙◌, ap, subst, arith, Option, nat_eq, map, filter, if◌then◌else◌, range_with_len, cases_eq, cases_lt, eq-eqb, nat_tests}
+use Rattle.gb_types.specs.Common.{◌≡◌, ◌≢◌, ℕ, zero, suc, ◌+◌, ◌<◌, ◌≤◌, List, [], ◌∷◌, Some, None, Bool, true, false, ◌||◌, ◌⊎◌, inl, inr, refl, sym, ◌∙◌, ap, subst, arith, Option, nat_eq, map, filter, if◌then◌else◌, range_with_len, cases_eq, cases_lt, nat_tests}
 use Rattle.gb_types.specs.declared.{limits.TheConstants.NODES, node.NodeId.NodeId, spec.Spec.Spec, plan.Bounds.Bounds, address.Addr.Addr}
-use Rattle.gb_types.proofs.BoolLemmas.{or_second, or_turned}
 use Rattle.gb_rules.specs.Common.{is_other}
 use Rattle.gb_rules.specs.declared.call.GroupCall.TheVariants.{Crashed}
 use Rattle.gb_alone.specs.Common.{Member, Group, after, alone_from, called, cut, took_notice, node_noticed, is_marked, IsLegalFrom, held_spec}

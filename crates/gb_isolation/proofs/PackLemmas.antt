@@ -8,7 +8,7 @@ use Rattle.gb_rules.specs.Common.{is_member, reserve_of, row_of, stepped}
 use Rattle.gb_alone.specs.Common.{Member, Group, is_acknowledged, is_marked, MayHappen}
 use Rattle.gb_alone.specs.declared.event.GroupEvent.TheVariants.{Took}
 use Rattle.gb_alone.proofs.MarkLemmas.{none_acknowledged, acknowledged-append}
-use Rattle.gb_node.specs.Common.{Happened, read, frames_to, is_acked, is_taken, watched, tenants_in, Told, suspected_after, waiting_of, took_from, packed_told, told_of, living_of, IsPacked}
+use Rattle.gb_node.specs.Common.{Happened, read, frames_to, is_acked, is_taken, watched, tenants_in, Told, waiting_of, took_from, packed_told, told_of, living_of, IsPacked}
 use Rattle.gb_node.specs.declared.{answer.NodeAnswer.TheVariants.Sent, answer.Sent.TheVariants.Packet as SentPacket, event.NodeEvent.TheVariants.Pack, plan.NodePlan.NodePlan}
 use Rattle.gb_isolation.specs.Project.{group_items, group_items_of, made_with, replies_in, is_met, if_any}
 use Rattle.gb_isolation.specs.RunLaws.{is_dropped}

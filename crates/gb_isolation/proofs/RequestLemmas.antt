@@ -1,5 +1,5 @@
 -- A request at a node does to each group what it does to the group alone.
-use Rattle.gb_types.specs.Common.{◌≡◌, ◌≢◌, ℕ, ◌+◌, ◌-◌, ◌<◌, ◌≤◌, List, [], ◌∷◌, ◌++◌, Option, Some, None, Bool, true, false, ◌&&◌, ◌||◌, ◌⊎◌, inl, inr, refl, sym, ◌∙◌, ap, subst, arith, option_or, if◌then◌else◌, is_some, nat_eq, nat_lt, option_map, list_any, cases_Bool, and_parts, nat_tests, append-nil, version_at}
+use Rattle.gb_types.specs.Common.{◌≡◌, ℕ, ◌+◌, ◌-◌, ◌<◌, ◌≤◌, List, [], ◌∷◌, ◌++◌, Option, Some, None, Bool, true, false, ◌&&◌, ◌||◌, ◌⊎◌, inl, inr, refl, sym, ◌∙◌, ap, subst, arith, option_or, if◌then◌else◌, is_some, nat_eq, nat_lt, option_map, list_any, cases_Bool, and_parts, nat_tests, append-nil, version_at}
 use Rattle.std.specs.FinSet as set
 use Rattle.gb_types.proofs.BoolLemmas.{and_both}
 use Rattle.gb_types.specs.declared.{address.Addr.Addr, limits.TheConstants.NODES, refusal.Refusal.Refusal, reply.Reply.Reply, request.Action.Action, request.Action.TheVariants.AddTenant, request.Action.TheVariants.Group as AtGroup, request.GroupCommand.GroupCommand, request.Request.Request, spec.Spec.Spec, spec.TenantRow.TenantRow, version.Version.Version, reply.Reply.TheVariants.Done, reply.Reply.TheVariants.Said, reply.Reply.TheVariants.Refused}

@@ -1,8 +1,8 @@
 -- If a group is settled in a run, the logs seen at its members agree.
-use Rattle.gb_types.specs.Common.{◌≡◌, ◌≢◌, ℕ, ◌<◌, ◌≤◌, Bool, true, false, not, ◌&&◌, nat_eq, List, [], ◌++◌, length, Some, refl, sym, ap, ◌∙◌, subst, arith, nat_lt, eqb-true, nat_tests, append-nil, fold-append, bounds_of}
+use Rattle.gb_types.specs.Common.{◌≡◌, ◌≢◌, ℕ, ◌<◌, ◌≤◌, Bool, true, false, List, [], ◌++◌, length, Some, refl, sym, ap, ◌∙◌, subst, arith, nat_lt, nat_tests, append-nil, fold-append, bounds_of}
 use Rattle.gb_types.specs.declared.{address.Addr.Addr, entry.Entry.Entry, limits.TheConstants.NODES, spec.Spec.Spec, plan.Plan.Plan, plan.Bounds.Bounds}
 use Rattle.gb_frame.specs.declared.item.Item.{Item}
-use Rattle.gb_rules.specs.Common.{is_gone, is_member, is_other, has_noticed}
+use Rattle.gb_rules.specs.Common.{is_gone, is_member, has_noticed}
 use Rattle.gb_alone.specs.Common.{Group, after, nobody, alone, is_marked, IsLegal, IsLegalFrom, accepted}
 use Rattle.gb_alone.specs.declared.event.GroupStep.{GroupStep}
 use Rattle.gb_alone.proofs.InsideLemmas.{none_beyond}
@@ -11,7 +11,6 @@ use Rattle.gb_duties.proofs.FlowLemmas.{nobody_flows, run_flows, legal_parts, ma
 use Rattle.gb_duties.proofs.SeenLemmas.{agreement_seen}
 use Rattle.gb_node.specs.Common.{waiting_at, node_numbered, frames_to, is_taken}
 use Rattle.gb_cluster.specs.Common.{ClusterValue, node_at, NodeStep, ComesTo, past_at}
-use Rattle.gb_types.proofs.BoolLemmas.{and_both}
 use Rattle.gb_cluster.proofs.NodesLemmas.{stays}
 use Rattle.gb_isolation.specs.Isolation.{Seen, IsIsolated, GroupsAreIsolated}
 use Rattle.gb_isolation.specs.Project.{project, group_items_of, is_fed}

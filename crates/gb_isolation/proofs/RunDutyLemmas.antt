@@ -1,13 +1,13 @@
 -- The duties of a group's nodes in a run.
 use Rattle.gb_node.specs.Common.{node_numbered}
-use Rattle.gb_types.specs.Common.{◌≡◌, ℕ, ◌<◌, ◌≤◌, Bool, true, false, ◌&&◌, List, Option, Some, None, sym, ap, ◌∙◌, subst, arith, if◌then◌else◌, bounds_of}
+use Rattle.gb_types.specs.Common.{◌≡◌, ℕ, ◌<◌, ◌≤◌, Bool, true, false, List, Some, None, sym, ap, ◌∙◌, subst, arith, if◌then◌else◌, bounds_of}
 use Rattle.gb_types.specs.declared.{address.Addr.Addr, limits.TheConstants.NODES, message.MsgId.MsgId, node.NodeId.NodeId, spec.Spec.Spec, plan.Plan.Plan}
 use Rattle.gb_rules.specs.Common.{is_gone, is_member, has}
 use Rattle.gb_alone.specs.Common.{Group, nobody, alone}
 use Rattle.gb_alone.proofs.InsideLemmas.{run_inside}
 use Rattle.gb_duties.specs.Duties.{HasHad, KeepsDuties, IsDutiful, DeliveredAreOfMembers, LoggedAreDelivered, noticed_at, delivered_at}
 use Rattle.gb_duties.proofs.SeenLemmas.{duties_put}
-use Rattle.gb_cluster.specs.Common.{ClusterValue, node_plan, NodeStep, past_at}
+use Rattle.gb_cluster.specs.Common.{ClusterValue, NodeStep, past_at}
 use Rattle.gb_cluster.proofs.NodesLemmas.{stays}
 use Rattle.gb_isolation.specs.Isolation.{Seen, seen_in, IsIsolated, GroupsAreIsolated}
 use Rattle.gb_isolation.specs.Project.{project, made_with}

@@ -1,19 +1,19 @@
 -- What a tick that notices nodes does to a group.
-use Rattle.gb_types.specs.Common.{◌≡◌, ℕ, zero, suc, ◌+◌, ◌<◌, ◌≤◌, List, [], ◌∷◌, ◌++◌, length, Option, Some, None, Bool, true, false, cond, ◌&&◌, ◌||◌, refl, sym, ◌∙◌, ap, subst, arith, nat_le, fold, filter, option_map, if◌then◌else◌, range_with_len, nat_cmp, and_right, and_parts, or-false, append-nil, rising}
+use Rattle.gb_types.specs.Common.{◌≡◌, ℕ, zero, suc, ◌+◌, ◌<◌, ◌≤◌, List, [], ◌∷◌, ◌++◌, length, Option, Some, None, Bool, true, false, cond, ◌&&◌, ◌||◌, refl, sym, ◌∙◌, ap, subst, arith, nat_le, fold, filter, option_map, if◌then◌else◌, range_with_len, nat_cmp, and_right, or-false, append-nil, rising}
 use Rattle.std.specs.FinSet as set
 use Rattle.gb_types.specs.declared.{address.Addr.Addr, entry.Entry.Entry, limits.TheConstants.NODES, node.NodeId.NodeId, spec.Spec.Spec, version.Version.Version}
 use Rattle.gb_frame.specs.declared.item.Item.{Item}
 use Rattle.gb_rules.specs.Common.{is_gone, is_other, reserve_of, row_of, said_in, stepped}
 use Rattle.gb_rules.specs.declared.call.GroupCall.TheVariants.{Crashed}
-use Rattle.gb_alone.specs.Common.{Member, Group, node_noticed, is_marked, is_acknowledged}
+use Rattle.gb_alone.specs.Common.{Member, Group, node_noticed, is_acknowledged}
 use Rattle.gb_node.specs.Common.{node_numbered, Happened, frames_to, is_acked, is_taken, tenants_in, Told, waiting_of, with_call, cut_off, if_other, noticed_told, told_of, living_of, IsTicked}
 use Rattle.gb_node.specs.declared.{answer.NodeAnswer.TheVariants.Ticked, answer.Ticked.TheVariants.Noticed, event.NodeEvent.TheVariants.Tick, plan.NodePlan.NodePlan}
 use Rattle.gb_isolation.specs.Project.{group_items_of, made_with, replies_in, is_met, ticked}
 use Rattle.gb_isolation.specs.RunLaws.{is_dropped}
-use Rattle.gb_isolation.proofs.View.{View, view_of, Fits, Goes, MemberIs, AreMarked, KeepsAcks, IsInside, is_concerned, said_of, acknowledged_of, bounds_with}
+use Rattle.gb_isolation.proofs.View.{View, view_of, Fits, Goes, MemberIs, AreMarked, KeepsAcks, IsInside, said_of, acknowledged_of, bounds_with}
 use Rattle.gb_isolation.proofs.GoesLemmas.{goes_none}
 use Rattle.gb_isolation.proofs.MemberLemmas.{KeepsRest, told-noticed, put-noticed}
-use Rattle.gb_isolation.proofs.NoticeLemmas.{numbered_is, all_noticed, notice_keeps, notices_of, notices_there, notices_elsewhere, notices_keep, notices_mark, notices_legal, passing_rising, passing_marked}
+use Rattle.gb_isolation.proofs.NoticeLemmas.{numbered_is, all_noticed, notice_keeps, notices_of, notices_there, notices_elsewhere, notices_keep, notices_legal, passing_rising}
 use Rattle.gb_isolation.proofs.PackLemmas.{inside_stepped}
 use Rattle.gb_isolation.proofs.PastLemmas.{running_unmet}
 

@@ -1,10 +1,9 @@
 -- Events that add nothing to the projection on a group.
-use Rattle.gb_types.specs.Common.{◌≡◌, ℕ, List, [], ◌∷◌, ◌++◌, length, None, false, ◌&&◌, ◌||◌, refl, sym, ◌∙◌, ap, subst, option_or, nat_le, map, option_map, list_any, and_right, or-false, append-nil}
+use Rattle.gb_types.specs.Common.{◌≡◌, ℕ, List, [], ◌∷◌, ◌++◌, length, None, false, ◌&&◌, ◌||◌, refl, sym, ◌∙◌, ap, subst, option_or, nat_le, option_map, list_any, and_right, or-false, append-nil}
 use Rattle.std.specs.FinSet as set
 use Rattle.gb_types.specs.declared.{address.Addr.Addr, spec.TenantRow.TenantRow, reply.Reply.Reply, version.Version.Version}
 use Rattle.gb_frame.specs.declared.item.Item.{Item}
 use Rattle.gb_frame.specs.Common.{Content}
-use Rattle.gb_detect.specs.{Silence.Heard, Watch.start, Watch.replay}
 use Rattle.gb_rules.specs.Common.{reserve_of, row_of}
 use Rattle.gb_alone.specs.Common.{Group}
 use Rattle.gb_node.specs.Common.{Happened, added, came, frames_to, is_ack, is_acked, is_taken, is_taken_by, packed_for, tenants_in, ticks, watched, told_after, told_of, living_after, living_of}

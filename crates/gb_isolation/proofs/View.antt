@@ -5,11 +5,11 @@ use Rattle.gb_types.specs.declared.{address.Addr.Addr, entry.Entry.Entry, node.N
 use Rattle.gb_frame.specs.declared.item.Item.{Item}
 use Rattle.gb_detect.specs.Suspicion.{is_suspected}
 use Rattle.gb_types.specs.Common.{limits_of}
-use Rattle.gb_rules.specs.Common.{said_in, is_gone, is_other, is_member, reserve_of, row_of}
+use Rattle.gb_rules.specs.Common.{said_in, is_gone, is_member, reserve_of, row_of}
 use Rattle.gb_rules.specs.declared.{phase.Phase.TheVariants.Made, reserve.Reserve.Reserve}
 use Rattle.gb_alone.specs.Common.{Member, Group, alone, alone_from, held_spec, is_marked, is_acknowledged, IsLegal, IsLegalFrom}
 use Rattle.gb_alone.specs.declared.event.GroupStep.{GroupStep}
-use Rattle.gb_node.specs.Common.{node_numbered, Happened, frames_to, is_acked, is_taken, tenants_in, watched, Told, suspected_after, waiting_of, told_of, living_of}
+use Rattle.gb_node.specs.Common.{node_numbered, Happened, frames_to, is_acked, is_taken, tenants_in, watched, Told, waiting_of, told_of, living_of}
 use Rattle.gb_node.specs.declared.{answer.NodeAnswer.TheVariants.Reply as Replied, event.NodeEvent.TheVariants.Request as Asked, plan.NodePlan.NodePlan}
 use Rattle.gb_cluster.specs.Common.{node_plan, NodeStep, past_at}
 use Rattle.gb_isolation.specs.Project.{project, asked, is_own_request, command_for, tenant_given, other_given, ticked, group_items_of, offset, made_by, made_with, replies_in, is_met}

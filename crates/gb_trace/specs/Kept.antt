@@ -1,5 +1,5 @@
 -- What the programs that read a run keep of it, so that they do not ask its past anew at each event.
-use Rattle.std.specs.Prelude.{ℕ, ◌≡◌, ◌+◌, ◌<◌, ◌≤◌, ◌&&◌, ◌||◌, not, nat_lt, if◌then◌else◌, Some, Bool, true, false, List, [], length, map, sum, take, nat_eq, nat_le, Option, None, slice_index_or}
+use Rattle.std.specs.Prelude.{ℕ, ◌≡◌, ◌+◌, ◌<◌, ◌≤◌, ◌||◌, not, if◌then◌else◌, Some, Bool, true, false, List, [], length, map, sum, take, nat_eq, nat_le, Option, None, slice_index_or}
 use Rattle.std.specs.{HashSet.contains, HashSet.IsEmpty, List.count_by}
 use Rattle.gb_types.specs.declared.{address.Addr.Addr, limits.TheConstants.NODES, node.NodeId.NodeId, plan.Plan.Plan, spec.TenantRow.TenantRow}
 use Rattle.gb_types.specs.Common.{withdraws_at}

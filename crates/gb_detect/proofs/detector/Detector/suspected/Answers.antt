@@ -1,6 +1,6 @@
 use Rattle.gb_types.specs.Common.{ap, sym, subst, ◌∙◌, nat_cmp}
 use Rattle.std.specs.FinSet as set
-use Rattle.gb_detect.specs.Watch.{Watch, suspected, AreSuspected}
+use Rattle.gb_detect.specs.Watch.{suspected, AreSuspected}
 use Rattle.gb_detect.proofs.ReplayLemmas.{stands-suspected}
 use Rattle.gb_detect.proofs.detector.Detector.suspected.Goals as goal
 
