@@ -126,7 +126,7 @@ pub record KeepsLink (plan : Plan) (g : Addr) (a : NodeId) (b : ℕ) (past : Lis
   pub frames : KeepsFrames plan g b past link.frames
   pub came : (n : ℕ) → contains nat_eq link.came n ≡ has_come plan.cluster_key b n past
   pub unheard : link.unheard ≡ count_by is_tick (since_heard b (counted_at plan a past))
-  pub silent : link.silent ≡ is_noticed plan.silence b (watched plan.cluster_key past)
+  pub silent : withdraws_at plan.versions a.number ≡ false → link.silent ≡ is_noticed plan.silence b (watched plan.cluster_key past)
   pub newest : withdraws_at plan.versions a.number ≡ true → link.newest ≡ newest_of b (watched plan.cluster_key past)
   pub flagged : withdraws_at plan.versions a.number ≡ true → link.flagged ≡ is_flagged b (fresh_calls (watched plan.cluster_key past))
 

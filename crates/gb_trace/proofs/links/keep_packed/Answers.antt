@@ -10,7 +10,7 @@ returns-in_default c =
     let d = c.args.node_step.now in
     let h : Happened = record { event = d.event; answer = d.answer } in
     let positive : 0 < plan.silence = omega (arith, c.requires.least) in
-    links_rest plan c.args.moment.addr h (past_in c.args.moment.node c.args.moment.before.now) c.args.links.now.items positive (λ b. c.in_default.ensures plan.cluster_key b) (ap (λ k. came k d.event d.answer) (sym c.requires.key) ∙ c.requires.untaken) c.requires.unticked c.requires.kept
+    links_rest plan c.args.moment.addr c.args.moment.node h (past_in c.args.moment.node c.args.moment.before.now) c.args.links.now.items positive (λ b. c.in_default.ensures plan.cluster_key b) (ap (λ k. came k d.event d.answer) (sym c.requires.key) ∙ c.requires.untaken) c.requires.unticked c.requires.kept
 
 pub returns-in-None : goal.returns-in-None
 returns-in-None c =
@@ -18,7 +18,7 @@ returns-in-None c =
     let d = c.args.node_step.now in
     let h : Happened = record { event = d.event; answer = d.answer } in
     let positive : 0 < plan.silence = omega (arith, c.requires.least) in
-    links_rest plan c.args.moment.addr h (past_in c.args.moment.node c.args.moment.before.now) c.args.links.now.items positive
+    links_rest plan c.args.moment.addr c.args.moment.node h (past_in c.args.moment.node c.args.moment.before.now) c.args.links.now.items positive
     (unpacked_all plan.cluster_key c.in-Some.to.number h (ap (λ k. packed_for k c.in-Some.to.number d.event d.answer) (sym c.requires.key) ∙ c.in-None.ensures) (λ b other. c.in-Some.ensures plan.cluster_key b other))
     (ap (λ k. came k d.event d.answer) (sym c.requires.key) ∙ c.requires.untaken) c.requires.unticked c.requires.kept
 
@@ -35,7 +35,7 @@ returns-in-Some-packed c =
     ap (λ k. packed_for k i d.event d.answer) (sym c.requires.key) ∙ (ap (λ n. packed_for c.args.key.now n d.event d.answer) is ∙ c.in-Some-packed.ensures) in
     on_ok_all c.pack.result
     (λ counts places total acked front.
-    links_pack plan c.args.moment.addr h (past_in c.args.moment.node c.args.moment.before.now) c.args.links.now.items i x c.count_in-count.result c.index_mut.result.now c.pack.new.self positive c.index.ensures.bound packed
+    links_pack plan c.args.moment.addr c.args.moment.node h (past_in c.args.moment.node c.args.moment.before.now) c.args.links.now.items i x c.count_in-count.result c.index_mut.result.now c.pack.new.self positive c.index.ensures.bound packed
     (λ b other. c.in-Some.ensures plan.cluster_key b (ap (λ n. nat_eq n b) (sym is) ∙ other)) (ap (λ k. came k d.event d.answer) (sym c.requires.key) ∙ c.requires.untaken) c.requires.unticked
     c.count_in-count.ensures c.index_mut.ensures.value counts places total acked front c.requires.kept)
     c.pack.ensures.counts c.pack.ensures.places c.pack.ensures.total c.pack.ensures.acked c.pack.ensures.front
