@@ -3,7 +3,7 @@ use Rattle.gb_types.specs.Common.{◌≡◌, ℕ, zero, suc, ◌+◌, ◌<◌, �
 use Rattle.gb_types.specs.declared.{node.NodeId.NodeId, reply.Reply.Reply, request.Action.Action, request.Action.TheVariants.AddTenant, request.Action.TheVariants.Group, spec.TenantRow.TenantRow}
 use Rattle.gb_frame.specs.declared.{fault.PacketFault.PacketFault, item.Item.Item}
 use Rattle.gb_frame.specs.Common.{Content}
-use Rattle.gb_detect.specs.Watch.{due, after_tick}
+use Rattle.gb_detect.specs.Watch.{due, after_tick, suspected}
 use Rattle.gb_table.specs.Common.{TableValue, TakesMemory, table_reply}
 use Rattle.gb_node.specs.Common.{Turn, turn, running_turn, stopped_answer, heard, took_ack, took_frame, node_took, node_read, read_at, newly_done, without_done, window_to, receiver_from, receives, node_numbered, next_batch, sent_batch, node_did, IsTurn, IsStarved, IsSpelt, NodeValue, Happened, ComesTo, added, tenants_in, PastsSay}
 use Rattle.gb_node.specs.declared.{answer.NodeAnswer.NodeAnswer, answer.NodeAnswer.TheVariants.Reply as Replied, answer.NodeAnswer.TheVariants.Sent, answer.Sent.TheVariants.Packet as SentPacket, event.NodeEvent.NodeEvent, plan.NodePlan.NodePlan, tape.TapeEntry.TapeEntry}
@@ -47,7 +47,7 @@ running_same (Asked request) v stays =
     let turn_of = λ (reply : Reply). let u : Turn = record { value = node_did reply (redacted_action request.what) (redacted_node v); answer = Replied reply } in u in
     let reply = table_reply request v.table in
     let after = λ (t : TableValue). let u : Turn = record { value = record v { table = t }; answer = Replied reply } in u in
-    ap turn_of (table_reply_same request v.table stays) ∙ ap after (did_same v.watch.noticed reply request.what v.table)
+    ap turn_of (table_reply_same request v.table stays) ∙ ap after (did_same (suspected v.watch) reply request.what v.table)
 running_same (Came bytes) v stays = ap (λ (w : NodeValue). let u : Turn = record (running_turn v (Came bytes)) { value = w } in u) (read_same (read_at v bytes) v)
 running_same (Pack b) v stays = ap (λ (w : NodeValue). let u : Turn = record (running_turn v (Pack b)) { value = w } in u) (batch_same b (next_batch v b) v)
 running_same (Again b n) v stays = refl
