@@ -6,7 +6,7 @@ use Rattle.gb_types.specs.declared.{limits.TheConstants.NODES, limits.TheConstan
 use Rattle.gb_types.proofs.InsertedLemmas.{contains-insert}
 use Rattle.gb_detect.specs.Silence.{Call, Heard, Tick, is_silent}
 use Rattle.gb_detect.specs.Suspicion.{is_above, is_stale, newest_of, fresh_calls, says_unheard, is_flagged, is_doubted_since, is_suspected, is_reported}
-use Rattle.gb_detect.specs.Watch.{Watch, start, is_due, is_fresh, with_newest, with_if, due, after_fresh, after_heard, after_tick, replay, suspected, StandsFor, AreNoticed, AreSuspected, AreNew}
+use Rattle.gb_detect.specs.Watch.{Watch, start, is_due, is_fresh, is_mute, with_newest, with_if, due, after_fresh, after_heard, after_tick, replay, suspected, StandsFor, AreNoticed, AreSuspected, AreNew}
 use Rattle.gb_detect.proofs.SetLemmas.{contains-either, contains-nodes_where, contains-removed}
 use Rattle.gb_detect.proofs.TickLemmas.{ticks_since, ticks_since-tick, ticks_since-other, ticks_since-heard, noticed-heard}
 use Rattle.gb_detect.proofs.FreshLemmas.{fresh_stale, fresh_new, fresh_without, above_unreached, newest_stale, newest_fresh, newest_other, other_flagged, own_flagged, tick_flagged, other_since, own_since, suspected_is, reported_tick}
@@ -374,6 +374,14 @@ suspected_made m n s w calls d positive made b =
 -- and so is the suspected set
 pub suspected-replay : (m n s : ℕ) (w : Bool) → n ≤ NODES → SILENCE_MIN ≤ s → (calls : List Call) → AreSuspected (start m n s w) calls (suspected (replay (start m n s w) calls))
 suspected-replay m n s w small least calls = suspected_made m n s w calls _ (omega (arith, least)) (made_by m n s w small (omega (arith, least)) calls)
+
+-- the counter says whether a node is silent
+pub mute-replay : (m n s : ℕ) (w : Bool) → n ≤ NODES → SILENCE_MIN ≤ s → (calls : List Call) (b : ℕ) → b < NODES → is_mute (replay (start m n s w) calls) b ≡ is_silent s b (if w then fresh_calls calls else calls)
+mute-replay m n s w small least calls b lt =
+    let made = made_by m n s w small (omega (arith, least)) calls in
+    let count = made.counts b lt in
+    let limit = made.limit in
+    grind (arith, nat_tests, count, limit)
 
 pub stands-noticed : (calls : List Call) (d : Watch) → StandsFor calls d → AreNoticed d calls d.noticed
 stands-noticed calls d stands = let made = of_stands calls d stands in λ b. made.found b

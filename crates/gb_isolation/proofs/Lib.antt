@@ -40,3 +40,5 @@ pub mod FetchLemmas
 pub mod FedLemmas
 pub mod StrangerLemmas
 pub mod DecideLemmas
+pub mod BeginLemmas
+pub mod MutualLemmas

@@ -215,7 +215,7 @@ TicksAnswerNewNotices = (plan : Plan) (earlier : List NodeStep) (d : NodeStep) (
 
 -- A request that makes a group adds a notice of exactly the other members that are suspected at its node then: a node that is not suspected is in no notice of it.
 abbrev pub NotifiesOfSuspected : Plan → List NodeStep → NodeStep → Type 0
-NotifiesOfSuspected plan earlier d = (g : Addr) (spec : Spec) → made_by g d.event d.answer ≡ Some spec
+NotifiesOfSuspected plan earlier d = (g : Addr) (spec : Spec) → is_fed g (d ∷ earlier) ≡ true → made_by g d.event d.answer ≡ Some spec
     → (q : NodeId) → is_notified_in plan (d ∷ earlier) g d.node q.number ≡ (is_other spec d.node.number q.number && is_suspected_in plan earlier d.node q.number)
 
 abbrev pub MakesNotifyOfSuspected : Type 0

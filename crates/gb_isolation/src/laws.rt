@@ -6,7 +6,7 @@ ghost use Rattle.gb_isolation.specs.RunLaws.{GroupsDoTheirDuties, GroupsKeepInte
 use gb_alone::laws::{integrity, order};
 use gb_cluster::laws::{links_hold, nothing_is_outside};
 use gb_duties::laws::{agreement, duties};
-use gb_node::past::{answers_say, pasts_say};
+use gb_node::past::{answers_say, packets_say, pasts_say};
 
 /// The main law. It holds for every plan, every run of a cluster and every group that had no request refused for lack of memory.
 /// What happened to the group in the run is a legal list of events of the group by itself, without other tenants, links or frames.
@@ -184,9 +184,10 @@ pub fn only_some_take_memory()
 pub fn makes_notify_of_suspected()
     ensures { MakesNotifyOfSuspected }
 {
-    groups_are_isolated();
     pasts_say();
     answers_say();
+    links_hold();
+    nothing_is_outside();
 }
 
 /// A law of every run, of nodes that send packets of version 4: each packet says whether its destination is silent at its sender, and a
@@ -197,4 +198,7 @@ pub fn suspicion_is_mutual()
 {
     pasts_say();
     answers_say();
+    packets_say();
+    links_hold();
+    nothing_is_outside();
 }
