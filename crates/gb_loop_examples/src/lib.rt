@@ -22,13 +22,13 @@ mod limits;
 mod lists;
 #[cfg(test)]
 mod loops;
+mod pairs;
 #[cfg(test)]
 mod rates;
 #[cfg(test)]
 mod rules;
 #[cfg(test)]
 mod strangers;
-mod pairs;
 #[cfg(test)]
 mod ticks;
 #[cfg(test)]

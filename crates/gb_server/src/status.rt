@@ -80,10 +80,7 @@ struct Telling<'a> {
 }
 
 // Returns what the server tells of itself, and which nodes have noticed which.
-fn facts_by(
-    alloc: Global,
-    telling: Telling<'_>,
-) -> Result<Vec<u8>, OutOfMemory> {
+fn facts_by(alloc: Global, telling: Telling<'_>) -> Result<Vec<u8>, OutOfMemory> {
     let facts = Facts {
         version: VERSION.as_bytes(),
         started: telling.started,

@@ -75,11 +75,7 @@ fn serve_desk<H: Wait + Clock, E: Write>(
 /// Writes the first line of the server's log once the loops of all nodes have begun. Then writes what is new for the log, and answers
 /// who asks for the status, until the threads of all loops have ended. Does nothing if a thread could not be made or a loop could not
 /// begin.
-pub fn attend<H: Wait + Clock, E: Write>(
-    rt: &H,
-    signals: &Signals,
-    attending: Attending<'_, E>,
-) {
+pub fn attend<H: Wait + Clock, E: Write>(rt: &H, signals: &Signals, attending: Attending<'_, E>) {
     let Attending { desk, errors } = attending;
     let mut desk = desk;
     if !wait_until_begun(rt, signals) {
