@@ -4,7 +4,7 @@ use Rattle.std.specs.FinSet as set
 use Rattle.gb_types.specs.declared.{address.Addr.Addr, limits.TheConstants.NODES, node.NodeId.NodeId, plan.Plan.Plan, spec.Spec.Spec, reply.Reply.Reply, reply.Reply.TheVariants.Done, reply.Reply.TheVariants.Refused, refusal.Refusal.TheVariants.Denied, refusal.Refusal.TheVariants.NoGroup, refusal.Refusal.TheVariants.Spent, refusal.Refusal.TheVariants.Stopped, request.Action.Action, request.Action.TheVariants.Group as AtGroup, request.GroupCommand.TheVariants.Make, request.Request.Request}
 use Rattle.gb_types.proofs.{BoolLemmas.and_right, ReadLemmas.some_same}
 use Rattle.gb_layer.specs.Common.{was_noticed}
-use Rattle.gb_rules.specs.Common.{by_tenant, calls_of, is_addr, is_other, make_answer, or_added, reserve_of, row_of}
+use Rattle.gb_rules.specs.Common.{by_tenant, calls_of, is_addr, is_other, is_reached_by, make_answer, or_added, passed, reserve_of, row_of, where_so}
 use Rattle.gb_rules.specs.declared.{call.GroupCall.GroupCall, call.GroupCall.TheVariants.Crashed, reserve.Reserve.Reserve}
 use Rattle.gb_rules.proofs.AddressLemmas.{addr_is}
 use Rattle.gb_alone.specs.Common.{Member, alone, is_marked}
@@ -67,7 +67,8 @@ module _ (plan : NodePlan) (g : Addr) (past : List Happened) where
     where
       by : (t : Bool) → is_addr g addr ≡ t → (if t then Some s else None) ≡ Some spec → asked_told g plan.me (suspected_after plan past) Done (AtGroup addr (Make s)) o ≡ Some (Some (told_first spec plan.me (suspected_after plan past)))
       by true named is =
-          rw named (ap (λ (x : Option (Option Told)). or_added x (Some (Some (told_first s plan.me (suspected_after plan past))))) (free addr s refl refl named)
+          ap (λ (b : Bool). if b then or_added o (Some (Some (told_first s plan.me (suspected_after plan past)))) else where_so (is_reached_by g addr) passed o) named
+          ∙ (ap (λ (x : Option (Option Told)). or_added x (Some (Some (told_first s plan.me (suspected_after plan past))))) (free addr s refl refl named)
           ∙ ap (λ (x : Spec). Some (Some (told_first x plan.me (suspected_after plan past)))) (some_same s spec is))
       by false named is = absurd (cc)
   made_told what reply spec o made free = absurd (cc)

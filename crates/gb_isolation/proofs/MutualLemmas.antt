@@ -1,5 +1,5 @@
 -- Suspicion becomes mutual: packets say whom their sender does not hear, and who is told so suspects the sender.
-use Rattle.gb_types.specs.Common.{◌≡◌, ℕ, ◌<◌, Bool, true, false, not, ◌&&◌, nat_eq, nat_lt, nat_tests, lt-ltb, ne_eqb, List, [], ◌∷◌, Option, Some, None, refl, sym, ap, ◌∙◌, subst, arith, if◌then◌else◌, option_map, limits_of, withdraws_at}
+use Rattle.gb_types.specs.Common.{◌≡◌, ℕ, ◌<◌, Bool, true, false, not, ◌&&◌, nat_eq, nat_lt, nat_tests, lt-ltb, ne_eqb, List, [], ◌∷◌, ◌++◌, map, Option, Some, None, refl, sym, ap, ◌∙◌, subst, arith, if◌then◌else◌, option_map, limits_of, withdraws_at}
 use Rattle.gb_types.specs.declared.{limits.TheConstants.NODES, node.NodeId.NodeId, plan.Plan.Plan, pulse.Pulse.Pulse, version.Version.Version}
 use Rattle.gb_types.proofs.{BoolLemmas.and_both, BoolLemmas.and_left, ReadLemmas.some_same}
 use Rattle.gb_frame.specs.declared.item.Item.{Item}
@@ -73,7 +73,7 @@ module _ (laws : Laws) (plan : Plan) (earlier : List NodeStep) (a : NodeId) (byt
       calls = watched plan.cluster_key past
 
       heard : watched plan.cluster_key (record { event = Brought bytes; answer = Taken (TakenGood good) } ∷ past) ≡ Heard c.from (pulse_of c) ∷ calls
-      heard = rw one refl
+      heard = ap (λ (cs : List Content). map (λ (x : Content). Heard x.from (pulse_of x)) cs ++ calls) one
 
       doubted : is_doubted plan.silence c.from (fresh_calls (Heard c.from (pulse_of c) ∷ calls)) ≡ true
       doubted =
