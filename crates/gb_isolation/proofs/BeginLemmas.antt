@@ -1,5 +1,5 @@
 -- A group begins with notices of the members that are suspected where it is made.
-use Rattle.gb_types.specs.Common.{◌≡◌, ℕ, ◌+◌, ◌<◌, ◌≤◌, Bool, true, false, ◌&&◌, ◌||◌, nat_eq, List, [], ◌∷◌, Option, Some, None, refl, sym, ap, ◌∙◌, subst, arith, if◌then◌else◌, inl, inr, nat_cmp, or-false, option_map, is_some, nat_le}
+use Rattle.gb_types.specs.Common.{◌≡◌, ℕ, ◌+◌, ◌<◌, Bool, true, false, ◌&&◌, ◌||◌, nat_eq, List, [], ◌∷◌, Option, Some, None, refl, sym, ap, ◌∙◌, subst, arith, if◌then◌else◌, inl, inr, nat_cmp, or-false, option_map, is_some, nat_le}
 use Rattle.std.specs.FinSet as set
 use Rattle.gb_types.specs.declared.{address.Addr.Addr, limits.TheConstants.NODES, node.NodeId.NodeId, plan.Plan.Plan, spec.Spec.Spec, reply.Reply.Reply, reply.Reply.TheVariants.Done, reply.Reply.TheVariants.Refused, refusal.Refusal.TheVariants.Denied, refusal.Refusal.TheVariants.NoGroup, refusal.Refusal.TheVariants.Spent, refusal.Refusal.TheVariants.Stopped, request.Action.Action, request.Action.TheVariants.Group as AtGroup, request.GroupCommand.TheVariants.Make, request.Request.Request}
 use Rattle.gb_types.proofs.{BoolLemmas.and_right, ReadLemmas.some_same}
@@ -7,15 +7,15 @@ use Rattle.gb_layer.specs.Common.{was_noticed}
 use Rattle.gb_rules.specs.Common.{by_tenant, calls_of, is_addr, is_other, is_reached_by, make_answer, or_added, passed, reserve_of, row_of, where_so}
 use Rattle.gb_rules.specs.declared.{call.GroupCall.GroupCall, call.GroupCall.TheVariants.Crashed, reserve.Reserve.Reserve}
 use Rattle.gb_rules.proofs.AddressLemmas.{addr_is}
-use Rattle.gb_alone.specs.Common.{Member, alone, is_marked}
+use Rattle.gb_alone.specs.Common.{alone, is_marked}
 use Rattle.gb_types.specs.Common.{bounds_of}
-use Rattle.gb_node.specs.Common.{NodeValue, PastsSay, AnswersSay, Told, Happened, admitted_answer, asked_told, crashed_onto, if_done, is_admitted_by, is_stopped, living_of, node_numbered, noticed_members, past_answer, suspected_after, tenants_in, told_first, told_of, IsAsked}
+use Rattle.gb_node.specs.Common.{Told, Happened, admitted_answer, asked_told, crashed_onto, if_done, is_admitted_by, is_stopped, living_of, node_numbered, noticed_members, suspected_after, tenants_in, told_first, told_of, IsAsked}
 use Rattle.gb_node.specs.Past.{ComesTo as NodeComesTo}
 use Rattle.gb_node.specs.declared.{answer.NodeAnswer.NodeAnswer, answer.NodeAnswer.TheVariants.Reply as Replied, event.NodeEvent.NodeEvent, event.NodeEvent.TheVariants.Request as Asked, plan.NodePlan.NodePlan}
 use Rattle.gb_cluster.specs.Common.{ClusterValue, IsClusterPlan, node_at, node_plan, NodeStep, ComesTo, past_at}
 use Rattle.gb_cluster.proofs.NodesLemmas.{have_pasts, past_same, stays}
 use Rattle.gb_isolation.specs.Project.{makes, project}
-use Rattle.gb_isolation.specs.RunLaws.{MakesNotifyOfSuspected, NotifiesOfSuspected, is_suspected_in}
+use Rattle.gb_isolation.specs.RunLaws.{MakesNotifyOfSuspected, NotifiesOfSuspected}
 use Rattle.gb_isolation.proofs.MomentLemmas.{placed}
 use Rattle.gb_isolation.proofs.NoticeLemmas.{AreRising, numbered_is, passing_marked, passing_rising}
 use Rattle.gb_isolation.proofs.RunLemmas.{Laws, behaves}

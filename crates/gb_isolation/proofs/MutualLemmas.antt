@@ -1,22 +1,22 @@
 -- Suspicion becomes mutual: packets say whom their sender does not hear, and who is told so suspects the sender.
-use Rattle.gb_types.specs.Common.{◌≡◌, ℕ, ◌<◌, Bool, true, false, not, ◌&&◌, nat_eq, nat_lt, nat_tests, lt-ltb, ne_eqb, List, [], ◌∷◌, ◌++◌, map, Option, Some, None, refl, sym, ap, ◌∙◌, subst, arith, if◌then◌else◌, option_map, limits_of, withdraws_at}
-use Rattle.gb_types.specs.declared.{limits.TheConstants.NODES, node.NodeId.NodeId, plan.Plan.Plan, pulse.Pulse.Pulse, version.Version.Version}
+use Rattle.gb_types.specs.Common.{◌≡◌, ℕ, Bool, true, false, not, ◌&&◌, nat_eq, nat_lt, nat_tests, lt-ltb, ne_eqb, List, [], ◌∷◌, ◌++◌, map, Option, Some, None, refl, sym, ap, ◌∙◌, subst, arith, if◌then◌else◌, option_map, limits_of, withdraws_at}
+use Rattle.gb_types.specs.declared.{node.NodeId.NodeId, plan.Plan.Plan, pulse.Pulse.Pulse}
 use Rattle.gb_types.proofs.{BoolLemmas.and_both, BoolLemmas.and_left, ReadLemmas.some_same}
 use Rattle.gb_frame.specs.declared.item.Item.{Item}
 use Rattle.gb_frame.specs.Common.{Content, content_in, is_packet, pulse_of}
 use Rattle.gb_detect.specs.Silence.{Call, Heard, is_silent}
-use Rattle.gb_detect.specs.Suspicion.{fresh_calls, is_doubted, is_stale, is_suspected, says_unheard}
+use Rattle.gb_detect.specs.Suspicion.{fresh_calls, is_doubted, is_suspected, says_unheard}
 use Rattle.gb_detect.specs.Watch.{Watch, is_mute}
 use Rattle.gb_detect.proofs.FreshLemmas.{fresh_new, own_doubted}
 use Rattle.gb_detect.proofs.ReplayLemmas.{mute-replay}
 use Rattle.gb_node.specs.Common.{NodeValue, Says, PacketsSay, PacketsAreReadBack, PastsSay, IsOfPast, IsTurn, IsSpelt, Happened, content_to, is_another, is_reached, next_batch, read, sent_content, unheard_of, watched, window_to, IsTakenIn}
 use Rattle.gb_link.specs.Common.{frame_again}
 use Rattle.gb_node.specs.Past.{ComesTo as NodeComesTo}
-use Rattle.gb_node.specs.declared.{answer.Good.Good, answer.NodeAnswer.NodeAnswer, answer.NodeAnswer.TheVariants.Sent, answer.NodeAnswer.TheVariants.Taken, answer.PacketAnswer.TheVariants.Good as TakenGood, answer.Sent.TheVariants.Packet as SentPacket, event.NodeEvent.NodeEvent}
+use Rattle.gb_node.specs.declared.{answer.Good.Good, answer.NodeAnswer.NodeAnswer, answer.NodeAnswer.TheVariants.Taken, answer.PacketAnswer.TheVariants.Good as TakenGood, event.NodeEvent.NodeEvent}
 use Rattle.gb_node.specs.declared.event.NodeEvent.TheVariants.{Packet as Brought, Pack, Again, Ack}
 use Rattle.gb_cluster.specs.Common.{ClusterValue, IsClusterPlan, node_at, node_plan, NodeStep, ComesTo, past_at, receiver_of}
 use Rattle.gb_cluster.proofs.NodesLemmas.{have_pasts, past_same, stays}
-use Rattle.gb_isolation.specs.RunLaws.{MakesSuspect, SaysItsSilence, SuspicionIsMutual, is_suspected_in}
+use Rattle.gb_isolation.specs.RunLaws.{MakesSuspect, SaysItsSilence, SuspicionIsMutual}
 use Rattle.gb_isolation.proofs.MomentLemmas.{placed}
 use Rattle.gb_isolation.proofs.RunLemmas.{Laws}
 
