@@ -63,6 +63,8 @@ pub struct Connection {
     pub wait_until: Option<u64>,
     /// It stands in a line, or is held until its tenant may ask again.
     pub is_listed: bool,
+    /// When it was put into its line, in microseconds.
+    pub listed_at: u64,
     /// It is among those whose wait is tried again.
     pub is_woken: bool,
     /// The system said that there is no more to read for now.
@@ -140,6 +142,7 @@ impl Connection {
             waits: Waits::Bytes,
             wait_until: None,
             is_listed: false,
+            listed_at: now,
             is_woken: false,
             is_drained: false,
             is_read_closed: false,

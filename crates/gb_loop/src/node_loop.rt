@@ -12,7 +12,7 @@ use crate::sources::{SOURCES, Sources};
 use gb_host::{Host, Seat, Tapes};
 use gb_mail::{Mail, Parts, Settle};
 use gb_port::Port;
-use gb_status::{Figure, Figures, Misfit};
+use gb_status::{Figure, Figures, LoopTimes, Misfit};
 use gb_types::{Addr, NodeId, NodeSet, OutOfMemory};
 use mio::event::Event;
 use mio::net::{TcpListener, TcpStream};
@@ -52,9 +52,9 @@ pub trait Ending {
     /// An administrator has asked for the end at a node.
     fn asked(&self) {}
 
-    /// What a node counted until its last tick, and the nodes that it noticed. Told when the loop begins, once a tick, and when it has
-    /// ended.
-    fn publish(&self, _node: NodeId, _figures: &Figures, _noticed: &NodeSet) {}
+    /// What a node counted until its last tick, the nodes that it noticed, and how long its loop took. Called when the loop begins, once a
+    /// tick, and when it has ended.
+    fn publish(&self, _node: NodeId, _figures: &Figures, _noticed: &NodeSet, _times: &LoopTimes) {}
 
     /// Packets that came to a node from the address of another one do not fit. Told at a tick, at most once a minute for each other one.
     fn misfit(&self, _node: NodeId, _other: NodeId, _misfit: Misfit) {}
@@ -95,6 +95,9 @@ pub struct NodeLoop<'a, L: Tapes, H, P: Port, S> {
     pub(crate) may_tick: bool,
     pub(crate) heard: NodeSet,
     pub(crate) sources: Sources,
+    // How long rounds and replies took, and whether the last look at a connection made replies.
+    pub(crate) times: LoopTimes,
+    pub(crate) has_replied: bool,
 }
 
 // A link to each node of a cluster.
@@ -167,6 +170,8 @@ impl<'a, L: Tapes, H: Wait + Clock, P: Port, S: Settle + Copy> NodeLoop<'a, L, H
             may_tick: options.wait == 0,
             heard: NodeSet::new(),
             sources: Sources::new(),
+            times: LoopTimes::new(),
+            has_replied: false,
         })
     }
 
@@ -246,10 +251,13 @@ impl<'a, L: Tapes, H: Wait + Clock, P: Port, S: Settle + Copy> NodeLoop<'a, L, H
     {
         let millis = self.patience().min(LOOK).saturating_add(999) / 1_000;
         let _ = poll.poll(events, Some(Duration::from_millis(millis)));
-        self.now = self.clock.now(self.rt);
+        let begun = self.clock.now(self.rt);
+        self.now = begun;
         self.hear_all(events);
         self.work(poll);
         let _ = self.settle.settle();
+        let took = self.clock.now(self.rt).saturating_sub(begun);
+        self.times.rounds.note(took);
         if self.mail.is_end_asked() {
             ending.asked();
         }
@@ -265,11 +273,11 @@ impl<'a, L: Tapes, H: Wait + Clock, P: Port, S: Settle + Copy> NodeLoop<'a, L, H
         }
     }
 
-    // Tells what the node counted, and the nodes that it noticed.
+    // Publishes what the node counted, the nodes that it noticed, and how long its loop took.
     fn publish<E: Ending>(&self, ending: &E) {
         let figures = self.mail.figures;
         let noticed = self.noticed.duplicate();
-        ending.publish(self.mail.origin.node, &figures, &noticed);
+        ending.publish(self.mail.origin.node, &figures, &noticed, &self.times);
     }
 
     // Runs until the end is told.
@@ -331,6 +339,8 @@ impl<'a, L: Tapes, H: Wait + Clock, P: Port, S: Settle + Copy> NodeLoop<'a, L, H
             may_tick: _,
             heard: _,
             sources: _,
+            times: _,
+            has_replied: _,
         } = self;
         mail.into_parts()
     }

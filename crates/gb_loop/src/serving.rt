@@ -44,12 +44,14 @@ impl<'a, L: Tapes, H: Wait + Clock, P: Port, S: Settle + Copy> NodeLoop<'a, L, H
     pub(crate) fn list(&mut self, key: usize)
         ensures origin { self.new.mail.origin ≡ self.old.mail.origin }
     {
+        let now = self.now;
         let Some(connection) = self.connections.get_mut(key) else {
             return;
         };
         if connection.is_listed {
             return;
         }
+        connection.listed_at = now;
         let is_member = connection.standing != Standing::Stranger;
         if self.crowd.lines.push(key, is_member) {
             connection.is_listed = true;
@@ -154,6 +156,7 @@ impl<'a, L: Tapes, H: Wait + Clock, P: Port, S: Settle + Copy> NodeLoop<'a, L, H
         let waiting = self.unsent(key);
         let most = self.most_read(key);
         let turn = self.turn(key, why, most);
+        self.has_replied = !self.out.is_empty();
         self.note_sent(key, waiting);
         let count = match &turn {
             Some(Turn::Took(_, count)) => (*count).saturating_add(self.out.len()),
@@ -322,6 +325,14 @@ impl<'a, L: Tapes, H: Wait + Clock, P: Port, S: Settle + Copy> NodeLoop<'a, L, H
         self.look_at(key)
     }
 
+    // Returns when a connection was put into its line, in microseconds.
+    fn listed_at(&self, key: usize) -> u64 {
+        match self.connections.get(key) {
+            Some(connection) => connection.listed_at,
+            None => self.now,
+        }
+    }
+
     // Looks at those who stand in line, in their order: `TURNS` of them, or as many as `ROUND` microseconds allow. The others stay in line.
     pub(crate) fn look_all(&mut self)
         ensures origin { self.new.mail.origin ≡ self.old.mail.origin }
@@ -331,10 +342,17 @@ impl<'a, L: Tapes, H: Wait + Clock, P: Port, S: Settle + Copy> NodeLoop<'a, L, H
             let Some(key) = self.crowd.lines.next() else {
                 return;
             };
-            if self.look_once(key) {
+            let listed_at = self.listed_at(key);
+            self.has_replied = false;
+            let is_more = self.look_once(key);
+            self.now = self.clock.now(self.rt);
+            if self.has_replied {
+                let took = self.now.saturating_sub(listed_at);
+                self.times.replies.note(took);
+            }
+            if is_more {
                 self.list(key);
             }
-            self.now = self.clock.now(self.rt);
             if self.now >= until {
                 return;
             }

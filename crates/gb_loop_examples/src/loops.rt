@@ -10,7 +10,7 @@ use gb_host::{Host, HostPlan, NodePast, Seat, Tapes};
 use gb_loop::node_loop::run_loop;
 use gb_loop::{Ending, LoopOptions, LoopSockets, Parts, RateLimits, Unsettled};
 use gb_port::{Port, UdpPort};
-use gb_status::{Figure, Figures};
+use gb_status::{Figure, Figures, LoopTimes};
 use gb_types::limits::NODES;
 use gb_types::{NodeId, NodeSet, Plan, Version};
 use std::alloc::Global;
@@ -107,7 +107,7 @@ impl<'a, H: Clock> Ending for Watch<'a, H> {
         self.is_over.load(Ordering::SeqCst) || rounds >= self.most
     }
 
-    fn publish(&self, _node: NodeId, figures: &Figures, noticed: &NodeSet) {
+    fn publish(&self, _node: NodeId, figures: &Figures, noticed: &NodeSet, _times: &LoopTimes) {
         let is_first = self.ticks.load(Ordering::SeqCst) == 0;
         if is_first && noticed.count_in(noticed) >= self.others {
             let micros = self.elapsed();

@@ -10,7 +10,7 @@ use gb_port::{Port, PortFault, PortNews, UdpPort};
 use gb_session::Head;
 use gb_spelling::CommandHead;
 use gb_spelling::number::put_number;
-use gb_status::Figures;
+use gb_status::{Figures, LoopTimes};
 use gb_types::memory::put_bytes;
 use gb_types::{NodeId, NodeSet};
 use std::alloc::Global;
@@ -142,7 +142,7 @@ impl Ending for Seen {
         self.is_over.load(Ordering::SeqCst)
     }
 
-    fn publish(&self, _node: NodeId, _figures: &Figures, noticed: &NodeSet) {
+    fn publish(&self, _node: NodeId, _figures: &Figures, noticed: &NodeSet, _times: &LoopTimes) {
         if noticed.count_in(noticed) > 0 {
             self.has_noticed.store(true, Ordering::SeqCst);
         }

@@ -34,6 +34,7 @@ use gb_server::recorded::logs_of;
 use gb_server::run::run;
 use gb_server::server_log::put_address;
 use gb_server::sockets::{open_status, port_sockets};
+use gb_server::status::status_source;
 use gb_server::{Given, Held, Input, Keys, Opened, RecordFile, RecordPlace, ServeFault, Service};
 use gb_spelling::number::put_number;
 use gb_types::memory::put_bytes;
@@ -213,7 +214,7 @@ fn serve_host<
     let Opened {
         sockets,
         files,
-        listener,
+        status,
     } = opened;
     let (host, seats, recorders) = match Host::<L>::open(alloc, plan, only(start.node), 1, pasts) {
         Ok(opened) => opened,
@@ -235,7 +236,7 @@ fn serve_host<
         logs,
     };
     let Held { seats, logs } = run(
-        rt, alloc, &host, service, options, given, listener, reader, writer, errors,
+        rt, alloc, &host, service, options, given, status, reader, writer, errors,
     )?;
     drop(seats);
     if plan.ring && !plan.tape {
@@ -332,8 +333,8 @@ fn serve_node<
     )?;
     allow_descriptors(plan)?;
     let sockets = open_sockets(rt, alloc, me, places)?;
-    let listener = match open_status(rt, plan.status) {
-        Ok(listener) => listener,
+    let status = match open_status(rt, plan.status) {
+        Ok(listener) => status_source(rt, listener),
         Err(fault) => return Err(PeerFault::Serve(ServeFault::from(fault))),
     };
     let pasts = new_pasts(alloc, node_count(file))?;
@@ -354,7 +355,7 @@ fn serve_node<
     let opened = Opened {
         sockets,
         files,
-        listener,
+        status,
     };
     serve_host::<Brand, H, R, W, E>(
         rt, alloc, host, start, &service, options, opened, pasts, reader, writer, errors,

@@ -3,9 +3,9 @@ use crate::record_file::RecordFile;
 use crate::recorded::NodeLog;
 use crate::signals::Signals;
 use crate::sockets::Sockets;
+use crate::status::StatusSource;
 use gb_host::{Host, Seat, Tapes};
 use gb_loop::LoopOptions;
-use std::net::TcpListener;
 
 /// What was opened for a server before its host is made.
 #[derive(Drop)]
@@ -14,8 +14,8 @@ pub struct Opened {
     pub sockets: Vec<Sockets>,
     /// The file of each node's record, in the order of the nodes. None if no records are kept.
     pub files: Vec<RecordFile>,
-    /// Where its status is asked for, if it is told.
-    pub listener: Option<TcpListener>,
+    /// Where its status is asked for, if it may be.
+    pub status: Option<StatusSource>,
 }
 
 /// What a server is given: for each node a seat and its sockets, and what it records by, if it does.

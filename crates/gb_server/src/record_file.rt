@@ -6,6 +6,7 @@ use gb_host::HostPlan;
 use gb_record::RecordHead;
 use gb_record::recording::write_head;
 use gb_spelling::number::put_number;
+use gb_status::Board;
 use gb_types::memory::put_bytes;
 use gb_types::{NodeId, OutOfMemory};
 use std::alloc::Global;
@@ -72,6 +73,49 @@ impl Write for RecordFile {
             self.is_dirty = false;
         }
         Ok(())
+    }
+}
+
+/// The file of a record, whose length is noted on a board.
+#[derive(Drop)]
+pub struct CountedFile<'a> {
+    file: RecordFile,
+    board: &'a Board,
+    bytes: u64,
+}
+
+impl<'a> CountedFile<'a> {
+    /// Returns this file of a record, to which nothing was written yet by what is noted on the board.
+    pub fn new(file: RecordFile, board: &'a Board) -> CountedFile<'a> {
+        board.put_record(file.node, 0);
+        CountedFile {
+            file,
+            board,
+            bytes: 0,
+        }
+    }
+
+    /// Returns the file of the record.
+    pub fn into_file(self) -> RecordFile {
+        let CountedFile {
+            file,
+            board: _,
+            bytes: _,
+        } = self;
+        file
+    }
+}
+
+impl Write for CountedFile<'_> {
+    fn write(&mut self, buf: &[u8]) -> io::Result<usize> {
+        let count = self.file.write(buf)?;
+        self.bytes = self.bytes.saturating_add(count as u64);
+        Ok(count)
+    }
+
+    fn flush(&mut self) -> io::Result<()> {
+        self.board.put_record(self.file.node, self.bytes);
+        self.file.flush()
     }
 }
 

@@ -10,7 +10,7 @@ use crate::pulse::{Cluster, patience_of};
 use crate::server_log::{ServerLog, first_line, sockets_line};
 use crate::signals::Signals;
 use crate::sockets::port_sockets;
-use crate::status::StatusServer;
+use crate::status::{StatusServer, StatusSource};
 use crate::watch::{Attending, watch};
 use gb_host::{Host, Tapes};
 use gb_loop::LoopOptions;
@@ -64,14 +64,14 @@ pub struct Service {
     pub is_quiet: bool,
 }
 
-// Returns what a server tells of itself: its log, and its status at this listener, if there is one.
+// Returns what a server says of itself: its log, and its status, if there is a source of it.
 fn desk_of<H: Clock>(
     rt: &H,
     alloc: Global,
     service: &Service,
     cluster: Cluster,
     sockets: PortSockets,
-    listener: Option<TcpListener>,
+    source: Option<StatusSource>,
 ) -> Result<Desk, OutOfMemory> {
     let log = ServerLog::new(
         alloc,
@@ -80,8 +80,8 @@ fn desk_of<H: Clock>(
         service.nodes,
         service.is_quiet,
     )?;
-    let status = match listener {
-        Some(listener) => Some(StatusServer::new(rt, alloc, listener, cluster)),
+    let status = match source {
+        Some(source) => Some(StatusServer::new(rt, alloc, source, cluster)),
         None => None,
     };
     let address = match &status {
@@ -94,7 +94,7 @@ fn desk_of<H: Clock>(
 }
 
 /// Runs the threads of a server to their end. Writes `service.line` to `writer` once the loops of all nodes have begun, reads `stop`
-/// from `reader`, writes the log to `errors`, and tells the status at `listener`, if there is one. Returns the seats and logs that are
+/// from `reader`, writes the log to `errors`, and answers who asks for the status at `status`, if it is there. Returns the seats and logs that are
 /// left of the nodes. `Err` with `OutOfMemory` if there is no memory, a thread could not be made or a loop could not begin; with
 /// `Write` if the line could not be written; and with `Unrecorded` if a record could not be written.
 pub fn run<
@@ -110,7 +110,7 @@ pub fn run<
     service: &Service,
     options: LoopOptions,
     given: Given<L>,
-    listener: Option<TcpListener>,
+    status: Option<StatusSource>,
     reader: &mut R,
     writer: &mut W,
     errors: &mut E,
@@ -131,7 +131,7 @@ pub fn run<
         service,
         cluster,
         port_sockets(&given.sockets),
-        listener,
+        status,
     )?;
     let attending = Attending { desk, errors };
     let server = Server {

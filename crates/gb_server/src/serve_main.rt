@@ -20,6 +20,7 @@ use crate::recorded::logs_of;
 use crate::run::{Service, run};
 use crate::server_log::begin_front;
 use crate::sockets::{open_sockets, open_status, port_sockets};
+use crate::status::status_source;
 use crate::told::{serving_line, status_of, tell_end};
 use gb_host::here::all_nodes;
 use gb_host::pasts::new_pasts;
@@ -172,7 +173,7 @@ fn serve_host<
     let Opened {
         sockets,
         files,
-        listener,
+        status,
     } = opened;
     let seats = u32::from(plan.cluster.nodes);
     let here = all_nodes(plan.cluster.nodes);
@@ -192,7 +193,7 @@ fn serve_host<
     };
     let service = service_of(alloc, serve)?;
     let Held { seats, logs } = run(
-        rt, alloc, &host, &service, options, given, listener, reader, writer, errors,
+        rt, alloc, &host, &service, options, given, status, reader, writer, errors,
     )?;
     if plan.ring && !plan.tape {
         return end_recorded(rt, alloc, host, logs);
@@ -241,13 +242,13 @@ fn serve_plan<
     let plan = host_plan(serve, keys, run);
     allow_nodes(descriptor_limit(), serve.nodes, serve.records)?;
     let sockets = open_sockets(rt, alloc, serve.nodes, serve.base_port)?;
-    let listener = open_status(rt, serve.status)?;
+    let status = status_source(rt, open_status(rt, serve.status)?);
     let place = place_of(words, run);
     let files = open_records(rt, alloc, place, &plan, NodeId::new(0), serve.nodes)?;
     let opened = Opened {
         sockets,
         files,
-        listener,
+        status,
     };
     let pasts = new_pasts(alloc, serve.nodes)?;
     serve_host::<Brand, H, R, W, E>(

@@ -1,6 +1,6 @@
 //! What the threads of a server tell one another.
 use gb_loop::Ending;
-use gb_status::{Board, Figures, Misfit};
+use gb_status::{Board, Figures, LoopTimes, Misfit};
 use gb_types::{NodeId, NodeSet, OutOfMemory};
 use std::alloc::Global;
 use std::sync::atomic::{AtomicBool, AtomicU64, Ordering};
@@ -167,7 +167,8 @@ impl Ending for Signals {
         self.why.load(Ordering::SeqCst) != 0
     }
 
-    fn publish(&self, node: NodeId, figures: &Figures, noticed: &NodeSet) {
+    fn publish(&self, node: NodeId, figures: &Figures, noticed: &NodeSet, times: &LoopTimes) {
+        self.board.put_times(node, times);
         self.board.put(node, figures, noticed);
     }
 

@@ -1,13 +1,15 @@
 //! Who asks for the status of a server by HTTP, and how they are answered: a thread looks at them now and then, and waits for none.
+use crate::process::ProcessText;
 use crate::pulse::{Cluster, Pulses};
 use gb_loop::LoopClock;
 use gb_status::facts::facts_text;
 use gb_status::http::{asked_for, reply};
-use gb_status::{Asked, Board, Facts, Health};
+use gb_status::{Asked, Board, Facts, Health, NodeRows, Process};
 use gb_types::OutOfMemory;
 use gb_types::memory::put_bytes;
 use gb_version::VERSION;
 use std::alloc::Global;
+use std::fs::{File, Files};
 use std::io::{ErrorKind, Read, Write};
 use std::net::{Shutdown, SocketAddr, TcpListener, TcpStream};
 use std::time::Clock;
@@ -51,11 +53,29 @@ struct StatusClient {
     until: u64,
 }
 
+/// Where the status of a server is asked for, and what says how much its process takes.
+#[derive(Drop)]
+pub struct StatusSource {
+    pub listener: TcpListener,
+    /// `None` if the system does not say it.
+    pub process: Option<ProcessText>,
+}
+
+/// Returns the source of a status at this listener, for this process. `None` if there is no listener.
+pub fn status_source<F: Files<File = File>>(
+    files: &F,
+    listener: Option<TcpListener>,
+) -> Option<StatusSource> {
+    let listener = listener?;
+    let process = ProcessText::open(files);
+    Some(StatusSource { listener, process })
+}
+
 /// Listens for those who ask for the status.
 #[derive(Drop)]
 pub struct StatusServer {
     alloc: Global,
-    listener: TcpListener,
+    source: StatusSource,
     clock: LoopClock,
     // When it was made, in seconds since the beginning of the year 1970.
     started: u64,
@@ -71,22 +91,31 @@ fn seconds_now<H: Clock>(rt: &H) -> u64 {
     }
 }
 
-// What a server says of itself: its figures, when it started, and how it is.
+// What a server says of itself: its figures, when it started, what its process takes, and how it is.
 #[derive(Clone, Copy)]
 struct Telling<'a> {
     board: &'a Board,
     started: u64,
+    process: Option<Process>,
     health: Health,
 }
 
-// Returns what the server tells of itself, and which nodes have noticed which.
+// Returns what the server says of itself beside its figures.
 fn facts_by(alloc: Global, telling: Telling<'_>) -> Result<Vec<u8>, OutOfMemory> {
     let facts = Facts {
         version: VERSION.as_bytes(),
         started: telling.started,
+        process: telling.process,
     };
     let noticed = telling.board.all_noticed(alloc)?;
-    facts_text(alloc, &facts, &noticed)
+    let records = telling.board.all_records(alloc)?;
+    let times = telling.board.all_times(alloc)?;
+    let rows = NodeRows {
+        noticed: &noticed,
+        records: &records,
+        times: &times,
+    };
+    facts_text(alloc, &facts, &rows)
 }
 
 // Returns the answer to the bytes of a request, by what stands at a board; None: more are waited for.
@@ -183,16 +212,17 @@ impl StatusClient {
 }
 
 impl StatusServer {
-    /// Returns a server of the status by HTTP of these nodes, at this listener, without clients. The calls of the listener do not wait.
+    /// Returns a server of the status by HTTP of these nodes, at the listener of `source`, without clients. The calls of the listener do
+    /// not wait.
     pub fn new<H: Clock>(
         rt: &H,
         alloc: Global,
-        listener: TcpListener,
+        source: StatusSource,
         cluster: Cluster,
     ) -> StatusServer {
         StatusServer {
             alloc,
-            listener,
+            source,
             clock: LoopClock::new(rt),
             started: seconds_now(rt),
             clients: Vec::new(alloc),
@@ -202,7 +232,7 @@ impl StatusServer {
 
     /// Returns the address where this status server listens. `None` if the system does not say.
     pub fn address(&self) -> Option<SocketAddr> {
-        self.listener.local_addr().ok()
+        self.source.listener.local_addr().ok()
     }
 
     // Takes a client in, in place of the first where there are as many as are served at once.
@@ -223,10 +253,21 @@ impl StatusServer {
         let _ = self.clients.push(client);
     }
 
+    // Returns what the process takes, if anybody asks for the status. `None` if nobody does, or the system does not say.
+    fn process(&self) -> Option<Process> {
+        if self.clients.is_empty() {
+            return None;
+        }
+        match &self.source.process {
+            Some(text) => text.read(),
+            None => None,
+        }
+    }
+
     // Takes in who came.
     fn accept(&mut self, now: u64) {
         for _ in 0..CLIENTS {
-            match self.listener.accept() {
+            match self.source.listener.accept() {
                 Ok((stream, _)) => self.take(stream, now),
                 Err(_) => return,
             }
@@ -242,6 +283,7 @@ impl StatusServer {
         let telling = Telling {
             board,
             started: self.started,
+            process: self.process(),
             health: self.pulses.look(board, is_over, now),
         };
         let clients = std::mem::replace(&mut self.clients, Vec::new(self.alloc));

@@ -3,6 +3,7 @@ ghost use Rattle.std.specs.Prelude.{◌≡◌, []};
 
 use crate::gates::wait_to_begin;
 use crate::given::Server;
+use crate::record_file::CountedFile;
 use crate::recorded::{LeftLog, NodeLog, Settling};
 use crate::sockets::Sockets;
 use gb_host::{NodePast, Seat, Tapes};
@@ -83,7 +84,8 @@ fn run_recorded<
     } = sockets;
     let (recorder, file) = log.into_parts();
     let seen = written.seen();
-    let recording = Recording::<R, L, _>::new(alloc, recorder, file, written);
+    let counted = CountedFile::new(file, server.signals.board());
+    let recording = Recording::<R, L, _>::new(alloc, recorder, counted, written);
     let shared = SharedRecording::new(recording);
     let settle = Settling {
         record: &shared,
@@ -106,7 +108,8 @@ fn run_recorded<
         &server.signals,
     );
     drop(port.into_port());
-    let (recorder, file) = shared.into_inner().into_parts();
+    let (recorder, counted) = shared.into_inner().into_parts();
+    let file = counted.into_file();
     let log = Some(LeftLog { recorder, file });
     LeftNode { seat, log }
 }

@@ -6,7 +6,10 @@ use gb_status::facts::facts_text;
 use gb_status::figure::{COUNT, FIGURES};
 use gb_status::http::{answer, asked_for};
 use gb_status::text::{metrics_text, status_text};
-use gb_status::{Asked, Board, Facts, Figure, Figures, Health, NodeFigures, NodeNoticed};
+use gb_status::{
+    Asked, Board, Facts, Figure, Figures, Health, LoopTimes, NodeFigures, NodeNoticed, NodeRecord,
+    NodeRows, NodeTimes, Process,
+};
 use gb_types::{NodeId, NodeSet};
 use std::alloc::Global;
 use std::rt::HostRuntime;
@@ -81,7 +84,7 @@ fn metrics_are_told_of_each_node(rt: HostRuntime) {
     assert!(rt; text.iter().filter(|byte| **byte == b'#').count() == 2 * 24);
 }
 
-// What a server tells of itself at a known time, with two rows of noticed nodes.
+// What a server says of itself at a known time, with two rows of noticed nodes, a record and the times of a loop.
 static FACTS: &[u8] =
     b"# HELP foqradesh_node_suspected 1 for each other node that the node has noticed as crashed.\n\
 # TYPE foqradesh_node_suspected gauge\n\
@@ -93,7 +96,42 @@ foqradesh_node_suspected{node=\"2\",other=\"0\"} 1\n\
 foqradesh_build_info{version=\"0.1.0\"} 1\n\
 # HELP process_start_time_seconds Start time of the process since unix epoch in seconds.\n\
 # TYPE process_start_time_seconds gauge\n\
-process_start_time_seconds 1764547200\n";
+process_start_time_seconds 1764547200\n\
+# HELP process_resident_memory_bytes Resident memory size in bytes.\n\
+# TYPE process_resident_memory_bytes gauge\n\
+process_resident_memory_bytes 1736704\n\
+# HELP process_cpu_seconds_total Total user and system CPU time spent in seconds.\n\
+# TYPE process_cpu_seconds_total counter\n\
+process_cpu_seconds_total 12.050000\n\
+# HELP foqradesh_record_bytes_total Bytes written to the node's record.\n\
+# TYPE foqradesh_record_bytes_total counter\n\
+foqradesh_record_bytes_total{node=\"2\"} 129\n\
+# HELP foqradesh_round_seconds Time of a round of the node's loop, without its wait.\n\
+# TYPE foqradesh_round_seconds histogram\n\
+foqradesh_round_seconds_bucket{node=\"2\",le=\"0.000100\"} 1\n\
+foqradesh_round_seconds_bucket{node=\"2\",le=\"0.000300\"} 2\n\
+foqradesh_round_seconds_bucket{node=\"2\",le=\"0.001000\"} 2\n\
+foqradesh_round_seconds_bucket{node=\"2\",le=\"0.003000\"} 2\n\
+foqradesh_round_seconds_bucket{node=\"2\",le=\"0.010000\"} 2\n\
+foqradesh_round_seconds_bucket{node=\"2\",le=\"0.030000\"} 2\n\
+foqradesh_round_seconds_bucket{node=\"2\",le=\"0.100000\"} 2\n\
+foqradesh_round_seconds_bucket{node=\"2\",le=\"1.000000\"} 2\n\
+foqradesh_round_seconds_bucket{node=\"2\",le=\"+Inf\"} 3\n\
+foqradesh_round_seconds_sum{node=\"2\"} 2.000201\n\
+foqradesh_round_seconds_count{node=\"2\"} 3\n\
+# HELP foqradesh_reply_seconds Time from requests to their replies, without those that wait for something to fetch.\n\
+# TYPE foqradesh_reply_seconds histogram\n\
+foqradesh_reply_seconds_bucket{node=\"2\",le=\"0.000100\"} 0\n\
+foqradesh_reply_seconds_bucket{node=\"2\",le=\"0.000300\"} 0\n\
+foqradesh_reply_seconds_bucket{node=\"2\",le=\"0.001000\"} 0\n\
+foqradesh_reply_seconds_bucket{node=\"2\",le=\"0.003000\"} 0\n\
+foqradesh_reply_seconds_bucket{node=\"2\",le=\"0.010000\"} 0\n\
+foqradesh_reply_seconds_bucket{node=\"2\",le=\"0.030000\"} 0\n\
+foqradesh_reply_seconds_bucket{node=\"2\",le=\"0.100000\"} 0\n\
+foqradesh_reply_seconds_bucket{node=\"2\",le=\"1.000000\"} 1\n\
+foqradesh_reply_seconds_bucket{node=\"2\",le=\"+Inf\"} 1\n\
+foqradesh_reply_seconds_sum{node=\"2\"} 0.100001\n\
+foqradesh_reply_seconds_count{node=\"2\"} 1\n";
 
 // A row of a node that has noticed two others.
 fn noticed(number: u8, first: u8, second: u8) -> NodeNoticed
@@ -112,10 +150,25 @@ fn noticed(number: u8, first: u8, second: u8) -> NodeNoticed
 
 #[test]
 fn a_server_tells_of_itself(rt: HostRuntime) {
-    let rows = [noticed(0, 31, 1), noticed(2, 0, 0)];
+    let noticed = [noticed(0, 31, 1), noticed(2, 0, 0)];
     let facts = Facts {
         version: b"0.1.0",
         started: 1_764_547_200,
+        process: Some(Process {
+            memory: 1_736_704,
+            processor: 12_050_000,
+        }),
+    };
+    let mut times = LoopTimes::new();
+    for micros in [100, 101, 2_000_000] {
+        times.rounds.note(micros);
+    }
+    times.replies.note(100_001);
+    let node = NodeId::new(2);
+    let rows = NodeRows {
+        noticed: &noticed,
+        records: &[NodeRecord { node, bytes: 129 }],
+        times: &[NodeTimes { node, times }],
     };
     let text = facts_text(rt.alloc(), &facts, &rows).expect(&rt, "memory");
     assert!(rt; text.as_slice() == FACTS);

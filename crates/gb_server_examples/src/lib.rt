@@ -25,6 +25,8 @@ mod nodes;
 #[cfg(test)]
 mod plans;
 #[cfg(test)]
+mod processes;
+#[cfg(test)]
 mod pulses;
 #[cfg(test)]
 mod recorded;

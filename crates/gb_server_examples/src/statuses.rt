@@ -7,10 +7,10 @@ use crate::texts::has;
 use gb_client::ClientFault;
 use gb_loop::Ending;
 use gb_server::pulse::Cluster;
-use gb_server::{ServerLog, Signals, StatusServer, Why};
+use gb_server::{ServerLog, Signals, StatusServer, StatusSource, Why};
 use gb_session::Head;
 use gb_spelling::CommandHead;
-use gb_status::{Figure, Figures};
+use gb_status::{Figure, Figures, LoopTimes};
 use gb_types::{NodeId, NodeSet};
 use std::alloc::Global;
 use std::fs::Files;
@@ -56,7 +56,9 @@ static DENIED_OPEN: [(Head, &str, &str); 1] = [(
 )];
 
 // Lines of the text of figures after this traffic, and after three bytes that are no packet came to node 1.
-static FIGURES: [&[u8]; 15] = [
+static FIGURES: [&[u8]; 17] = [
+    b"\nfoqradesh_reply_seconds_count{node=\"0\"} 6\n",
+    b"\nfoqradesh_reply_seconds_count{node=\"1\"} 1\n",
     b"\nfoqradesh_requests_total{node=\"0\",kind=\"tenant\"} 1\n",
     b"\nfoqradesh_requests_total{node=\"0\",kind=\"make\"} 1\n",
     b"\nfoqradesh_requests_total{node=\"0\",kind=\"say\"} 3\n",
@@ -203,13 +205,17 @@ fn tells<H: Net<Listener = TcpListener, Stream = TcpStream> + Wait + Clock + Fil
     if listener.set_nonblocking(true).is_err() {
         return false;
     }
+    let source = StatusSource {
+        listener,
+        process: None,
+    };
     let cluster = Cluster {
         first: NodeId::new(0),
         served: 1,
         nodes: 3,
         patience: 60_000_000,
     };
-    let mut status = StatusServer::new(rt, alloc, listener, cluster);
+    let mut status = StatusServer::new(rt, alloc, source, cluster);
     for _ in 0..100_000 {
         if is_done.load(Ordering::SeqCst) {
             return true;
@@ -330,7 +336,12 @@ fn asks_all<H: Net<Stream = TcpStream> + Clock>(
 fn each_request_is_answered_and_nobody_waits(rt: HostRuntime) {
     let alloc = rt.alloc();
     let signals = Signals::new(alloc, NodeId::new(0), 1).expect(&rt, "memory");
-    signals.publish(NodeId::new(0), &some_figures(), &NodeSet::new());
+    signals.publish(
+        NodeId::new(0),
+        &some_figures(),
+        &NodeSet::new(),
+        &LoopTimes::new(),
+    );
     let is_done = AtomicBool::new(false);
     let told_by = &signals;
     let is_set = &is_done;
@@ -351,7 +362,7 @@ fn log_of(alloc: Global, is_quiet: bool) -> Option<Vec<u8>> {
     let mut noticed = NodeSet::new();
     noticed.insert(NodeId::new(2));
     noticed.insert(NodeId::new(0));
-    signals.publish(NodeId::new(1), &some_figures(), &noticed);
+    signals.publish(NodeId::new(1), &some_figures(), &noticed, &LoopTimes::new());
     log.look(&signals, &mut errors);
     log.look(&signals, &mut errors);
     signals.end(Why::Asked);

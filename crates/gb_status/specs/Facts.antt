@@ -1,13 +1,21 @@
 -- What a server says of itself, as text. Source: the text exposition format 0.0.4 of Prometheus, and the names of its client libraries.
-use Rattle.std.specs.Prelude.{ℕ, List, ◌++◌, codes, decimal}
+use Rattle.std.specs.Prelude.{ℕ, ◌/◌, ◌%◌, List, [], ◌++◌, Option, Some, None, codes, decimal}
 use Rattle.std.specs.List.{flat_map}
 use Rattle.gb_types.specs.Common.{rising}
 use Rattle.gb_status.specs.Names.{line_feed, quote}
-use Rattle.gb_status.specs.declared.{facts.Facts.Facts, facts.NodeNoticed.NodeNoticed}
+use Rattle.gb_status.specs.declared.{facts.Facts.Facts, facts.NodeNoticed.NodeNoticed, facts.NodeRecord.NodeRecord, facts.Process.Process}
+
+-- the lines above values, by their name, their help and what they are
+abbrev pub typed_lines : List ℕ → List ℕ → List ℕ → List ℕ
+typed_lines name help kind = codes "# HELP " ++ name ++ codes " " ++ help ++ line_feed ++ codes "# TYPE " ++ name ++ codes " " ++ kind ++ line_feed
 
 -- the lines above a gauge, by its name and its help
 abbrev pub gauge_lines : List ℕ → List ℕ → List ℕ
-gauge_lines name help = codes "# HELP " ++ name ++ codes " " ++ help ++ line_feed ++ codes "# TYPE " ++ name ++ codes " gauge" ++ line_feed
+gauge_lines name help = typed_lines name help (codes "gauge")
+
+-- the lines above a counter
+abbrev pub counter_lines : List ℕ → List ℕ → List ℕ
+counter_lines name help = typed_lines name help (codes "counter")
 
 -- the same and the name once more, in front of its value
 abbrev pub value_front : List ℕ → List ℕ → List ℕ
@@ -53,7 +61,41 @@ row_text node noticed = flat_map (noticed_line node) noticed
 abbrev pub noticed_text : List NodeNoticed → List ℕ
 noticed_text rows = flat_map (λ row. row_text row.node.number (rising row.noticed)) rows
 
--- all of it
-abbrev pub facts_text : Facts → List NodeNoticed → List ℕ
-facts_text facts rows =
-    suspected_head ++ noticed_text rows ++ build_text facts.version.now ++ number_line started_front facts.started
+-- microseconds as seconds with six digits behind the point
+abbrev pub seconds_text : ℕ → List ℕ
+seconds_text n =
+    decimal (n / 1000000) ++ codes "."
+    ++ decimal (n / 100000 % 10) ++ decimal (n / 10000 % 10) ++ decimal (n / 1000 % 10) ++ decimal (n / 100 % 10) ++ decimal (n / 10 % 10) ++ decimal (n % 10)
+
+-- a time behind its front
+abbrev pub time_line : List ℕ → ℕ → List ℕ
+time_line front micros = front ++ seconds_text micros ++ line_feed
+
+-- what stands in front of the memory of the process, in bytes
+unfoldable pub memory_front : List ℕ
+memory_front = value_front (codes "process_resident_memory_bytes") (codes "Resident memory size in bytes.") ++ codes " "
+
+-- what stands in front of the processor time of the process
+unfoldable pub processor_front : List ℕ
+processor_front = counter_lines (codes "process_cpu_seconds_total") (codes "Total user and system CPU time spent in seconds.") ++ codes "process_cpu_seconds_total "
+
+-- what the system says of the process
+abbrev pub process_text : Option Process → List ℕ
+process_text None = []
+process_text (Some process) = number_line memory_front process.memory ++ time_line processor_front process.processor
+
+-- the lines above the lengths of records
+unfoldable pub record_head : List ℕ
+record_head = counter_lines (codes "foqradesh_record_bytes_total") (codes "Bytes written to the node's record.")
+
+-- what stands in front of the number of a node with a record
+unfoldable pub record_front : List ℕ
+record_front = codes "foqradesh_record_bytes_total{node="
+
+-- how long the record of a node is
+abbrev pub record_line : ℕ → ℕ → List ℕ
+record_line node bytes = record_front ++ quoted (decimal node) ++ codes "} " ++ decimal bytes ++ line_feed
+
+-- how long records are
+abbrev pub records_text : List NodeRecord → List ℕ
+records_text rows = flat_map (λ row. record_line row.node.number row.bytes) rows

@@ -1,5 +1,7 @@
 pub mod Names
 pub mod Facts
+pub mod Times
+pub mod Report
 pub mod Figures
 pub mod Http
 pub mod News

@@ -1,8 +1,9 @@
 //! Where each node's thread puts the node's figures for other threads to read.
-use crate::facts::NodeNoticed;
+use crate::facts::{NodeNoticed, NodeRecord};
 use crate::figure::COUNT;
 use crate::figures::{Figures, NodeFigures};
 use crate::misfit::Misfit;
+use crate::times::{BUCKETS, LoopTimes, NodeTimes, Times};
 use gb_types::limits::NODES;
 use gb_types::{NodeId, NodeSet, OutOfMemory};
 use std::alloc::Global;
@@ -22,10 +23,19 @@ pub struct Board {
     puts: Vec<AtomicU64>,
     // For each node and each other one, how many lines are due of each misfit.
     misfits: Vec<AtomicU64>,
+    // How many bytes were written to each node's record, if it has one: the number is one more.
+    records: Vec<AtomicU64>,
+    // For each node, what its loop measured: the counts of the buckets, then the count and the sum, of rounds and then of replies.
+    times: Vec<AtomicU64>,
 }
 
 // The number of misfits.
 const MISFITS: usize = 2;
+
+// How many numbers there are of a histogram, and of a node.
+const TIMES: usize = BUCKETS + 2;
+
+const ALL_TIMES: usize = 2 * TIMES;
 
 // The place of a misfit among those of a node.
 fn misfit_place(other: NodeId, misfit: Misfit) -> usize {
@@ -66,7 +76,13 @@ impl Board {
         let mut noticed = Vec::new(alloc);
         let mut puts = Vec::new(alloc);
         let mut misfits = Vec::new(alloc);
+        let mut records = Vec::new(alloc);
+        let mut times = Vec::new(alloc);
         for _ in 0..count {
+            records.push(AtomicU64::new(0))?;
+            for _ in 0..ALL_TIMES {
+                times.push(AtomicU64::new(0))?;
+            }
             noticed.push(AtomicU64::new(0))?;
             puts.push(AtomicU64::new(0))?;
             for _ in 0..NODES * MISFITS {
@@ -83,6 +99,8 @@ impl Board {
             noticed,
             puts,
             misfits,
+            records,
+            times,
         })
     }
 
@@ -197,6 +215,102 @@ impl Board {
             if let Some(node) = NodeId::from_number(self.first.saturating_add(place)) {
                 let figures = self.figures(node);
                 all.push(NodeFigures { node, figures })?;
+            }
+        }
+        Ok(all)
+    }
+
+    // Stores one of the numbers of what a node's loop measured.
+    fn put_number(&self, at: usize, number: u64) {
+        if let Some(word) = self.times.get(at) {
+            word.store(number, Ordering::SeqCst);
+        }
+    }
+
+    // Stores a histogram from a place on.
+    fn put_histogram(&self, from: usize, times: &Times) {
+        for at in 0..BUCKETS {
+            self.put_number(from.saturating_add(at), times.buckets[at].count);
+        }
+        self.put_number(from.saturating_add(BUCKETS), times.count);
+        self.put_number(from.saturating_add(BUCKETS + 1), times.sum);
+    }
+
+    /// Stores what the loop of a node measured. It replaces what was stored for it. If the node has no row on the board, nothing is stored.
+    /// Takes no memory and no lock.
+    pub fn put_times(&self, node: NodeId, times: &LoopTimes) {
+        if let Some(place) = self.place(node) {
+            let from = usize::from(place) * ALL_TIMES;
+            self.put_histogram(from, &times.rounds);
+            self.put_histogram(from + TIMES, &times.replies);
+        }
+    }
+
+    // Returns one of the numbers of what a node's loop measured.
+    fn number(&self, at: usize) -> u64 {
+        match self.times.get(at) {
+            Some(word) => word.load(Ordering::SeqCst),
+            None => 0,
+        }
+    }
+
+    // Returns the histogram that is stored from a place on.
+    fn histogram(&self, from: usize) -> Times {
+        let mut times = Times::new();
+        for at in 0..BUCKETS {
+            times.buckets[at].count = self.number(from.saturating_add(at));
+        }
+        times.count = self.number(from.saturating_add(BUCKETS));
+        times.sum = self.number(from.saturating_add(BUCKETS + 1));
+        times
+    }
+
+    /// Returns what the loop of a node measured, as it is stored. Nothing was measured if the node has no row on the board.
+    pub fn times(&self, node: NodeId) -> LoopTimes {
+        let Some(place) = self.place(node) else {
+            return LoopTimes::new();
+        };
+        let from = usize::from(place) * ALL_TIMES;
+        LoopTimes {
+            rounds: self.histogram(from),
+            replies: self.histogram(from + TIMES),
+        }
+    }
+
+    /// Returns what the loop of each node that has a row on the board measured, by rising numbers of nodes. `Err` if there is no memory.
+    pub fn all_times(&self, alloc: Global) -> Result<Vec<NodeTimes>, OutOfMemory> {
+        let mut all = Vec::new(alloc);
+        for place in 0..self.count {
+            if let Some(node) = NodeId::from_number(self.first.saturating_add(place)) {
+                let times = self.times(node);
+                all.push(NodeTimes { node, times })?;
+            }
+        }
+        Ok(all)
+    }
+
+    /// Notes how many bytes were written to the record of a node. If the node has no row on the board, nothing is noted.
+    pub fn put_record(&self, node: NodeId, bytes: u64) {
+        if let Some(place) = self.place(node)
+            && let Some(word) = self.records.get(usize::from(place))
+        {
+            word.store(bytes.saturating_add(1), Ordering::SeqCst);
+        }
+    }
+
+    /// Returns how many bytes were written to the record of each node of which that was noted, by rising numbers of nodes. `Err` if there
+    /// is no memory.
+    pub fn all_records(&self, alloc: Global) -> Result<Vec<NodeRecord>, OutOfMemory> {
+        let mut all = Vec::new(alloc);
+        for place in 0..self.count {
+            let number = match self.records.get(usize::from(place)) {
+                Some(word) => word.load(Ordering::SeqCst),
+                None => 0,
+            };
+            if let Some(bytes) = number.checked_sub(1)
+                && let Some(node) = NodeId::from_number(self.first.saturating_add(place))
+            {
+                all.push(NodeRecord { node, bytes })?;
             }
         }
         Ok(all)

@@ -1,8 +1,11 @@
-//! What a server says of itself beside the figures of its nodes: its version, its start, and which node has noticed which.
+//! What a server says of itself beside the figures of its nodes: its version, its start, its process, which node has noticed which, how
+//! long its records are, and how long its loops took.
 ghost use Rattle.std.specs.Prelude.{◌≡◌, ◌++◌, IfOk, OnOk, decimal};
 ghost use Rattle.gb_types.specs.Common.{rising};
-ghost use Rattle.gb_status.specs.Facts.{build_front, build_text, facts_text, noticed_line, noticed_text, number_line, quoted, row_text, started_front, suspected_front, suspected_head};
+ghost use Rattle.gb_status.specs.Facts.{build_front, build_text, memory_front, noticed_line, noticed_text, number_line, processor_front, process_text, quoted, record_front, record_head, record_line, records_text, row_text, started_front, suspected_front, suspected_head, time_line};
+ghost use Rattle.gb_status.specs.Report.{facts_text};
 
+use crate::times::{NodeTimes, put_all_times, put_seconds};
 use gb_spelling::number::put_number;
 use gb_types::memory::put_bytes;
 use gb_types::{NodeId, NodeSet, OutOfMemory};
@@ -15,6 +18,17 @@ pub struct Facts<'a> {
     pub version: &'a [u8],
     /// When it started, in seconds since the beginning of the year 1970.
     pub started: u64,
+    /// What the system says of its process. `None` if it does not say.
+    pub process: Option<Process>,
+}
+
+/// What the system says of a process.
+#[derive(Clone, Copy, Debug, PartialEq, Eq)]
+pub struct Process {
+    /// The bytes of its memory that are in the machine's.
+    pub memory: u64,
+    /// The processor time that it took in all its threads, in microseconds.
+    pub processor: u64,
 }
 
 /// The nodes that a node holds for crashed (noticed as crashed).
@@ -22,6 +36,21 @@ pub struct Facts<'a> {
 pub struct NodeNoticed {
     pub node: NodeId,
     pub noticed: NodeSet,
+}
+
+/// How many bytes the record of a node has grown by since the server's start.
+#[derive(Clone, Copy)]
+pub struct NodeRecord {
+    pub node: NodeId,
+    pub bytes: u64,
+}
+
+/// What a server says of each of its nodes, beside the figures.
+#[derive(Clone, Copy)]
+pub struct NodeRows<'a> {
+    pub noticed: &'a [NodeNoticed],
+    pub records: &'a [NodeRecord],
+    pub times: &'a [NodeTimes],
 }
 
 // Returns what stands in front of the version.
@@ -38,6 +67,38 @@ fn started_front() -> &'static [u8]
     ensures { result.now ≡ started_front }
 {
     b"# HELP process_start_time_seconds Start time of the process since unix epoch in seconds.\n# TYPE process_start_time_seconds gauge\nprocess_start_time_seconds "
+}
+
+// Returns what stands in front of the memory.
+#[tactic(auto, unfolding(crate::specs::Facts::memory_front))]
+fn memory_front() -> &'static [u8]
+    ensures { result.now ≡ memory_front }
+{
+    b"# HELP process_resident_memory_bytes Resident memory size in bytes.\n# TYPE process_resident_memory_bytes gauge\nprocess_resident_memory_bytes "
+}
+
+// Returns what stands in front of the processor time.
+#[tactic(auto, unfolding(crate::specs::Facts::processor_front))]
+fn processor_front() -> &'static [u8]
+    ensures { result.now ≡ processor_front }
+{
+    b"# HELP process_cpu_seconds_total Total user and system CPU time spent in seconds.\n# TYPE process_cpu_seconds_total counter\nprocess_cpu_seconds_total "
+}
+
+// Returns the lines above the lengths of records.
+#[tactic(auto, unfolding(crate::specs::Facts::record_head))]
+fn record_head() -> &'static [u8]
+    ensures { result.now ≡ record_head }
+{
+    b"# HELP foqradesh_record_bytes_total Bytes written to the node's record.\n# TYPE foqradesh_record_bytes_total counter\n"
+}
+
+// Returns what stands in front of the number of a node with a record.
+#[tactic(auto, unfolding(crate::specs::Facts::record_front))]
+fn record_front() -> &'static [u8]
+    ensures { result.now ≡ record_front }
+{
+    b"foqradesh_record_bytes_total{node="
 }
 
 // Returns the lines above the nodes that are noticed.
@@ -65,8 +126,8 @@ fn put_number_line(out: &mut Vec<u8>, front: &[u8], number: u64) -> Result<(), O
     put_bytes(out, b"\n")
 }
 
-// Appends a word in quotation marks.
-fn put_quoted(out: &mut Vec<u8>, word: &[u8]) -> Result<(), OutOfMemory>
+/// Appends a word in quotation marks. `Err` if there is no memory.
+pub fn put_quoted(out: &mut Vec<u8>, word: &[u8]) -> Result<(), OutOfMemory>
     ensures { OnOk result (out.new.items ≡ out.old.items ++ quoted word.now) }
 {
     put_bytes(out, b"\"")?;
@@ -83,8 +144,8 @@ fn put_build(out: &mut Vec<u8>, version: &[u8]) -> Result<(), OutOfMemory>
     put_bytes(out, b"} 1\n")
 }
 
-// Appends a number in quotation marks.
-fn put_quoted_number(out: &mut Vec<u8>, number: u64) -> Result<(), OutOfMemory>
+/// Appends a number in quotation marks. `Err` if there is no memory.
+pub fn put_quoted_number(out: &mut Vec<u8>, number: u64) -> Result<(), OutOfMemory>
     ensures { OnOk result (out.new.items ≡ out.old.items ++ quoted (decimal number)) }
 {
     put_bytes(out, b"\"")?;
@@ -123,19 +184,64 @@ fn put_rows(out: &mut Vec<u8>, rows: &[NodeNoticed]) -> Result<(), OutOfMemory>
     Ok(())
 }
 
-/// Returns what a server says of itself, and which nodes each of its nodes has noticed, as text that Prometheus reads, in its text
-/// exposition format 0.0.4. `Err` if there is no memory.
+// Appends how long the record of a node is.
+fn put_record(out: &mut Vec<u8>, node: u64, bytes: u64) -> Result<(), OutOfMemory>
+    ensures { OnOk result (out.new.items ≡ out.old.items ++ record_line node bytes) }
+{
+    put_bytes(out, record_front())?;
+    put_quoted_number(out, node)?;
+    put_bytes(out, b"} ")?;
+    put_number(out, bytes)?;
+    put_bytes(out, b"\n")
+}
+
+// Appends how long records are.
+fn put_records(out: &mut Vec<u8>, rows: &[NodeRecord]) -> Result<(), OutOfMemory>
+    ensures { OnOk result (out.new.items ≡ out.old.items ++ records_text rows.now) }
+{
+    for row in rows {
+        put_record(out, u64::from(row.node.number), row.bytes)?;
+    }
+    Ok(())
+}
+
+// Appends a time behind its front.
+fn put_time(out: &mut Vec<u8>, front: &[u8], micros: u64) -> Result<(), OutOfMemory>
+    ensures { OnOk result (out.new.items ≡ out.old.items ++ time_line front.now micros) }
+{
+    put_bytes(out, front)?;
+    put_seconds(out, micros)?;
+    put_bytes(out, b"\n")
+}
+
+// Appends what the system says of the process.
+fn put_process(out: &mut Vec<u8>, process: Option<Process>) -> Result<(), OutOfMemory>
+    ensures { OnOk result (out.new.items ≡ out.old.items ++ process_text process) }
+{
+    let Some(process) = process else {
+        return Ok(());
+    };
+    put_number_line(out, memory_front(), process.memory)?;
+    put_time(out, processor_front(), process.processor)
+}
+
+/// Returns what a server says of itself, which nodes each of its nodes has noticed, how long its records are and how long its loops took,
+/// as text that Prometheus reads, in its text exposition format 0.0.4. `Err` if there is no memory.
 pub fn facts_text(
     alloc: Global,
     facts: &Facts<'_>,
-    rows: &[NodeNoticed],
+    rows: &NodeRows<'_>,
 ) -> Result<Vec<u8>, OutOfMemory>
     ensures { IfOk result (λ text. text.items ≡ facts_text facts.now rows.now) }
 {
     let mut out = Vec::new(alloc);
     put_bytes(&mut out, suspected_head())?;
-    put_rows(&mut out, rows)?;
+    put_rows(&mut out, rows.noticed)?;
     put_build(&mut out, facts.version)?;
     put_number_line(&mut out, started_front(), facts.started)?;
+    put_process(&mut out, facts.process)?;
+    put_bytes(&mut out, record_head())?;
+    put_records(&mut out, rows.records)?;
+    put_all_times(&mut out, rows.times)?;
     Ok(out)
 }

@@ -1,6 +1,6 @@
 //! The figures of a server's nodes, and how they are written: in a session's reply, and in the text that Prometheus reads, by HTTP.
 //! `figures::Figures` is what a node counts, `text` writes it, `board::Board` is where each node's thread puts its figures for
-//! other threads to read, `facts` writes what a server says of itself, `http` answers requests by HTTP, `health` says whether a server is
+//! other threads to read, `facts` writes what a server says of itself, `times` how long its loops took, `http` answers requests by HTTP, `health` says whether a server is
 //! well, and `news` and `misfit` write the lines of the log. Read `figure` first.
 #![tactic(auto)]
 
@@ -13,12 +13,14 @@ pub mod http;
 pub mod misfit;
 pub mod news;
 pub mod text;
+pub mod times;
 
 pub use board::Board;
-pub use facts::{Facts, NodeNoticed};
+pub use facts::{Facts, NodeNoticed, NodeRecord, NodeRows, Process};
 pub use figure::Figure;
 pub use figures::{Figures, NodeFigures};
 pub use health::{Health, NodeHealth};
 pub use http::Asked;
 pub use misfit::Misfit;
 pub use news::Told;
+pub use times::{LoopTimes, Measured, NodeTimes, Times};
