@@ -26,8 +26,8 @@ const PHASES = Object.freeze(["made", "open", "shut", "dropped"]);
 /**
  * @typedef {Uint8Array | string} Payload a text is sent as UTF-8
  * @typedef {number | { group: number, generation: number }} GroupName a number, or a generation of a room; the number alone is generation 0
- * @typedef {{ kind: string, members: number[], messages: number, bytes: number, window: number }} Spec what a group is made with: `messages`
- *   and `bytes` are how many messages, and payload bytes, each member may say in all, and `window` how many of them may be unfinished at once
+ * @typedef {{ kind: string, members: number[], messages: number, totalBytes: number, window: number }} Spec what a group is made with: `messages`
+ *   and `totalBytes` are how many messages, and payload bytes, each member may say in all, and `window` how many of them may be unfinished at once
  * @typedef {{ origin: number, number: number, payload: Uint8Array }} Entry a message in a log: the node that said it, its number among that
  *   member's, from 1, and its payload
  * @typedef {{ entries: Entry[], index: number }} Log entries of a log, and the index of their place among those that a wait named
@@ -52,60 +52,60 @@ export class FoqradeshError extends Error {
 }
 
 /** The session was given neither the token that the request needs nor the key that makes it. Nothing was sent. */
-export class MissingToken extends FoqradeshError {}
+export class MissingTokenError extends FoqradeshError {}
 
 /** The service refused a request. Nothing has changed by it. `number` and `refusal` are its number and its name. */
-export class Refused extends FoqradeshError {
+export class RefusedError extends FoqradeshError {
   static number = 0;
   static refusal = "";
   /** @param {string} [message] */
   constructor(message) {
     super(message ?? "");
-    const made = /** @type {typeof Refused} */ (this.constructor);
+    const made = /** @type {typeof RefusedError} */ (this.constructor);
     this.number = made.number;
     this.refusal = made.refusal;
     if (message === undefined) this.message = `refused ${made.number} ${made.refusal}`;
   }
 }
 /** The request has not the token that it needs, or the node has not taken the tenant in. */
-export class Denied extends Refused { static number = 1; static refusal = "Denied"; }
+export class DeniedError extends RefusedError { static number = 1; static refusal = "Denied"; }
 /** The node has made neither the group nor a later generation of its room. */
-export class NoGroup extends Refused { static number = 2; static refusal = "NoGroup"; }
+export class NoGroupError extends RefusedError { static number = 2; static refusal = "NoGroup"; }
 /** The node has dropped the group, or has made a later generation. At `make`: the node has made it, or a later generation, before. */
-export class Spent extends Refused { static number = 3; static refusal = "Spent"; }
+export class SpentError extends RefusedError { static number = 3; static refusal = "Spent"; }
 /** The members are without this node, or beyond the cluster. */
-export class BadMembers extends Refused { static number = 4; static refusal = "BadMembers"; }
+export class BadMembersError extends RefusedError { static number = 4; static refusal = "BadMembers"; }
 /** More is asked than the tenant has or the service gives, or 0 where more is needed. */
-export class OverReserve extends Refused { static number = 5; static refusal = "OverReserve"; }
+export class OverReserveError extends RefusedError { static number = 5; static refusal = "OverReserve"; }
 /** A say before `open` or after `shut`, a second `open`, or `shut` of one that is not open. */
-export class WrongPhase extends Refused { static number = 6; static refusal = "WrongPhase"; }
+export class WrongPhaseError extends RefusedError { static number = 6; static refusal = "WrongPhase"; }
 /** The payload has more bytes than a message may have. */
-export class TooLong extends Refused { static number = 7; static refusal = "TooLong"; }
+export class TooLongError extends RefusedError { static number = 7; static refusal = "TooLong"; }
 /** The member has said as many messages in the group as the group allows it. */
-export class Budget extends Refused { static number = 8; static refusal = "Budget"; }
+export class BudgetError extends RefusedError { static number = 8; static refusal = "Budget"; }
 /** With this payload the member would have said more bytes than the group allows it. */
-export class BytesSpent extends Refused { static number = 9; static refusal = "Bytes"; }
+export class BytesError extends RefusedError { static number = 9; static refusal = "Bytes"; }
 /** As many messages of the member are unfinished as the group allows. It may be said later. */
-export class Window extends Refused { static number = 10; static refusal = "Window"; }
+export class WindowError extends RefusedError { static number = 10; static refusal = "Window"; }
 /** At a say: its number is not the member's next. At a fetch: the place is beyond the log. */
-export class BadPlace extends Refused { static number = 11; static refusal = "BadPlace"; }
+export class BadPlaceError extends RefusedError { static number = 11; static refusal = "BadPlace"; }
 /** The node's tenants would have more than 1,024 rooms in all. At `make`: four generations of the room live at the node. */
-export class NoRoom extends Refused { static number = 12; static refusal = "NoRoom"; }
+export class NoRoomError extends RefusedError { static number = 12; static refusal = "NoRoom"; }
 /** The node has taken this tenant in before. */
-export class TenantThere extends Refused { static number = 13; static refusal = "TenantThere"; }
+export class TenantThereError extends RefusedError { static number = 13; static refusal = "TenantThere"; }
 /** The request is none that the server knows. The server ends the connection then. */
-export class Malformed extends Refused { static number = 14; static refusal = "Malformed"; }
+export class MalformedError extends RefusedError { static number = 14; static refusal = "Malformed"; }
 /** The node has stopped. */
-export class Stopped extends Refused { static number = 15; static refusal = "Stopped"; }
+export class StoppedError extends RefusedError { static number = 15; static refusal = "Stopped"; }
 /** The node was out of memory. */
-export class OutOfMemory extends Refused { static number = 16; static refusal = "OutOfMemory"; }
+export class OutOfMemoryError extends RefusedError { static number = 16; static refusal = "OutOfMemory"; }
 
 /** All refusals, by number. */
 export const REFUSALS = Object.freeze([
-  Denied, NoGroup, Spent, BadMembers, OverReserve, WrongPhase, TooLong, Budget,
-  BytesSpent, Window, BadPlace, NoRoom, TenantThere, Malformed, Stopped, OutOfMemory,
+  DeniedError, NoGroupError, SpentError, BadMembersError, OverReserveError, WrongPhaseError, TooLongError, BudgetError,
+  BytesError, WindowError, BadPlaceError, NoRoomError, TenantThereError, MalformedError, StoppedError, OutOfMemoryError,
 ]);
-/** @type {Map<string, typeof Refused>} */
+/** @type {Map<string, typeof RefusedError>} */
 const REFUSAL_TEXTS = new Map(REFUSALS.map((made) => [`refused ${made.number} ${made.refusal}`, made]));
 
 /**
@@ -113,7 +113,7 @@ const REFUSAL_TEXTS = new Map(REFUSALS.map((made) => [`refused ${made.number} ${
  * is the number that a say came with, or null: with it the say may be repeated, and is done once at most. `generation` is the
  * generation in which a `Room` said it.
  */
-export class Unanswered extends FoqradeshError {
+export class UnansweredError extends FoqradeshError {
   /**
    * @param {string} message
    * @param {boolean} isUnknown
@@ -129,11 +129,11 @@ export class Unanswered extends FoqradeshError {
   }
 }
 /** There is no connection, or it ended before the reply. */
-export class ConnectionFailed extends Unanswered {}
+export class ConnectionFailedError extends UnansweredError {}
 /** The time limit passed before the reply. */
-export class TimedOut extends Unanswered {}
+export class TimedOutError extends UnansweredError {}
 /** What came is not the text of a reply to the request. The connection is closed then. */
-export class BadReply extends Unanswered {
+export class BadReplyError extends UnansweredError {
   /**
    * @param {string} message
    * @param {boolean} [isUnknown]
@@ -143,7 +143,7 @@ export class BadReply extends Unanswered {
   }
 }
 /** A request was answered, but the answer and the log do not say whether it was done. `cause` is the refusal, where there was one. */
-export class UnknownOutcome extends Unanswered {
+export class UnknownOutcomeError extends UnansweredError {
   /**
    * @param {string} message
    * @param {number | null} said
@@ -249,7 +249,7 @@ function membersWord(members) {
  */
 function specWords(spec) {
   if (!KINDS.includes(spec.kind)) throw new RangeError(`${spec.kind} is no kind of broadcast: ${KINDS.join(", ")}`);
-  const limits = [checkNumber(spec.messages, U32, "messages"), checkNumber(spec.bytes, U32, "bytes"), checkNumber(spec.window, U32, "window")];
+  const limits = [checkNumber(spec.messages, U32, "messages"), checkNumber(spec.totalBytes, U32, "totalBytes"), checkNumber(spec.window, U32, "window")];
   return [spec.kind, membersWord(spec.members), ...limits].join(" ");
 }
 
@@ -313,7 +313,7 @@ export class Keys {
   #members = new Map();
 
   async admin() {
-    if (this.#admin === undefined) throw new MissingToken("no key of the administrator was given");
+    if (this.#admin === undefined) throw new MissingTokenError("no key of the administrator was given");
     return adminToken(this.#admin);
   }
 
@@ -336,7 +336,7 @@ export class Keys {
   /** @param {number} tenant */
   #key(tenant) {
     const key = this.#tenants[tenant];
-    if (key === undefined) throw new MissingToken(`no key of tenant ${tenant} was given`);
+    if (key === undefined) throw new MissingTokenError(`no key of tenant ${tenant} was given`);
     return key;
   }
 }
@@ -370,7 +370,7 @@ export class Tokens {
    */
   async #given(name, whose) {
     const token = this.#tokens[name];
-    if (token === undefined) throw new MissingToken(`no token of ${whose} was given`);
+    if (token === undefined) throw new MissingTokenError(`no token of ${whose} was given`);
     return token;
   }
 }
@@ -479,8 +479,8 @@ function readRow(word) {
   want(parts.length === 9 && named !== null && PHASES.includes(parts[7]), `${word.slice(0, 40)} is no group`);
   const found = /** @type {RegExpExecArray} */ (named);
   const [group, generation] = [readNumber(found[1], U16), readNumber(found[2] ?? "0", U32)];
-  const [messages, bytes, window] = parts.slice(4, 7).map((part) => readNumber(part, U32));
-  const spec = parts[7] === "dropped" ? null : { kind: parts[2], members: parts[3].split(",").map((part) => readNumber(part, 31)), messages, bytes, window };
+  const [messages, totalBytes, window] = parts.slice(4, 7).map((part) => readNumber(part, U32));
+  const spec = parts[7] === "dropped" ? null : { kind: parts[2], members: parts[3].split(",").map((part) => readNumber(part, 31)), messages, totalBytes, window };
   return { tenant: readNumber(parts[0], U16), group, generation, spec, phase: parts[7], log: readNumber(parts[8], U32) };
 }
 
@@ -498,7 +498,7 @@ const readListing = (start, most) => (words) => {
 };
 
 /**
- * Returns what a reply says. Throws the refusal that it spells, and BadReply where it is no reply to the request.
+ * Returns what a reply says. Throws the refusal that it spells, and BadReplyError where it is no reply to the request.
  * @template T
  * @param {string} text
  * @param {(words: string[]) => T} read
@@ -511,7 +511,7 @@ function reading(text, read) {
     want(!text.startsWith("refused"), "there is no such refusal");
     return read(text.split(" "));
   } catch (error) {
-    if (error instanceof SyntaxError) throw new BadReply(`${JSON.stringify(text.slice(0, 60))} is no reply to the request: ${error.message}`);
+    if (error instanceof SyntaxError) throw new BadReplyError(`${JSON.stringify(text.slice(0, 60))} is no reply to the request: ${error.message}`);
     throw error;
   }
 }
@@ -656,7 +656,7 @@ class Link {
     const waiting = this.#waiting;
     this.#waiting = [];
     this.#shut();
-    for (const sent of waiting) sent.fail(new ConnectionFailed("the session was closed", sent.isSent || sent.wasSent));
+    for (const sent of waiting) sent.fail(new ConnectionFailedError("the session was closed", sent.isSent || sent.wasSent));
   }
 
   /** @param {Sent} sent */
@@ -693,7 +693,7 @@ class Link {
     try {
       reply = reading(text, front.read);
     } catch (error) {
-      if (error instanceof BadReply) {
+      if (error instanceof BadReplyError) {
         this.#waiting.shift();
         front.fail(error);
         return this.#lose("a reply was none");
@@ -721,7 +721,7 @@ class Link {
     const isKept = (/** @type {Sent} */ sent) => (wasOpen ? sent.isRepeatable || !sent.wasSent : sent.wasSent);
     this.#waiting = waiting.filter(isKept);
     this.#watch();
-    for (const sent of waiting) if (!isKept(sent)) sent.fail(new ConnectionFailed(`no reply: ${why}`, sent.wasSent));
+    for (const sent of waiting) if (!isKept(sent)) sent.fail(new ConnectionFailedError(`no reply: ${why}`, sent.wasSent));
     if (this.#waiting.length > 0 && this.#connection === null && this.#again === undefined) {
       this.#again = setTimeout(() => this.#open(), pauseAfter(this.#losses) * 1000);
     }
@@ -749,7 +749,7 @@ class Link {
   /** @param {Sent} front */
   #timeOut(front) {
     this.#waiting.shift();
-    const error = new TimedOut(`no reply in ${front.seconds} seconds`, front.isSent || front.wasSent);
+    const error = new TimedOutError(`no reply in ${front.seconds} seconds`, front.isSent || front.wasSent);
     this.#lose("the reply before it took too long");
     front.fail(error);
   }
@@ -817,7 +817,7 @@ const addressOf = (tenant, group) => `${checkNumber(tenant, U16, "a tenant")} ${
 
 /**
  * A client of one node. The connection is opened at the first request, and again when it ended: `fetch`, `wait`, `status`, `list` and a say with its
- * number are then sent again, and all else throws ConnectionFailed, with `isUnknown` true if it may have been done. Requests are sent ahead of the
+ * number are then sent again, and all else throws ConnectionFailedError, with `isUnknown` true if it may have been done. Requests are sent ahead of the
  * replies where they are not awaited. Each refusal is thrown as the error of its name.
  */
 export class Session {
@@ -887,7 +887,7 @@ export class Session {
    */
   async #makeToken(whose, names) {
     const make = /** @type {((...names: number[]) => Promise<string>) | undefined} */ (this.secrets[whose]);
-    if (make === undefined) throw new MissingToken(`no token of the ${whose} was given`);
+    if (make === undefined) throw new MissingTokenError(`no token of the ${whose} was given`);
     return make.apply(this.secrets, names);
   }
 
@@ -895,10 +895,10 @@ export class Session {
    * Takes a tenant in. Needs the administrator's token.
    * @param {number} tenant
    * @param {Uint8Array} key
-   * @param {{ groups: number, messages: number, bytes: number, window: number }} limits
+   * @param {{ groups: number, messages: number, totalBytes: number, window: number }} limits
    */
-  async tenant(tenant, key, { groups, messages, bytes, window }) {
-    const limits = [groups, messages, bytes, window].map((limit) => checkNumber(limit, U32, "a limit"));
+  async addTenant(tenant, key, { groups, messages, totalBytes, window }) {
+    const limits = [groups, messages, totalBytes, window].map((limit) => checkNumber(limit, U32, "a limit"));
     const words = [checkNumber(tenant, U16, "a tenant"), hex(key), ...limits];
     await this.#ask(["tenant", await this.#token("admin"), ...words].join(" "), readDone, false);
   }
@@ -965,7 +965,7 @@ export class Session {
 
   /**
    * Says a message, and returns its number. The number is sent with it wherever it is known: after an `open`, after the first say, or if it is given. Then
-   * a say whose reply was lost is sent again, and is done once. Without its number a say whose reply was lost throws ConnectionFailed, with `isUnknown` true.
+   * a say whose reply was lost is sent again, and is done once. Without its number a say whose reply was lost throws ConnectionFailedError, with `isUnknown` true.
    * @param {number} tenant
    * @param {GroupName} group
    * @param {Payload} payload
@@ -974,14 +974,14 @@ export class Session {
    */
   async say(tenant, group, payload, { number = null, isRepeated = false } = {}) {
     const bytes = bytesOf(payload);
-    if (bytes.length > LONGEST_PAYLOAD) throw new TooLong();
+    if (bytes.length > LONGEST_PAYLOAD) throw new TooLongError();
     if (isRepeated && number === null) throw new RangeError("a say without its number cannot be repeated");
     if (number !== null) checkNumber(number, U16, "a message's number");
     const token = await this.#token("member", tenant, checkGroup(group).group);
     for (;;) {
       const said = await this.#sayOnce(token, tenant, group, bytes, number, isRepeated);
       if (said !== null) return said;
-      if (number !== null) throw new BadPlace();
+      if (number !== null) throw new BadPlaceError();
     }
   }
 
@@ -1006,10 +1006,10 @@ export class Session {
       answer = await this.#link.ask({ text, read: readSaid(number), isRepeatable: number !== null, seconds: this.seconds });
     } catch (error) {
       this.#numbers.lose(address, taken);
-      if (error instanceof Unanswered) error.said = number;
+      if (error instanceof UnansweredError) error.said = number;
       throw error;
     }
-    if (!(answer.reply instanceof Refused)) {
+    if (!(answer.reply instanceof RefusedError)) {
       if (taken === null) this.#numbers.set(address, answer.reply + 1);
       return answer.reply;
     }
@@ -1021,11 +1021,11 @@ export class Session {
    * Notes that a say was certainly not done.
    * @param {string} address
    * @param {{ number: number, turn: number } | null} taken
-   * @param {Refused} refusal
+   * @param {RefusedError} refusal
    * @returns {null}
    */
   #notSaid(address, taken, refusal) {
-    if (refusal instanceof BadPlace) {
+    if (refusal instanceof BadPlaceError) {
       this.#numbers.lose(address, taken);
       return null;
     }
@@ -1040,29 +1040,29 @@ export class Session {
    * @param {Uint8Array} payload
    * @param {number} number
    * @param {{ number: number, turn: number } | null} taken
-   * @param {Refused} refusal
+   * @param {RefusedError} refusal
    * @returns {Promise<number | null>}
    */
   async #settle(tenant, group, payload, number, taken, refusal) {
     const address = addressOf(tenant, group);
-    if (refusal instanceof TooLong || refusal instanceof Budget || refusal instanceof BytesSpent) return this.#notSaid(address, taken, refusal);
-    if ((refusal instanceof BadPlace || refusal instanceof WrongPhase) && this.secrets.node !== null) {
+    if (refusal instanceof TooLongError || refusal instanceof BudgetError || refusal instanceof BytesError) return this.#notSaid(address, taken, refusal);
+    if ((refusal instanceof BadPlaceError || refusal instanceof WrongPhaseError) && this.secrets.node !== null) {
       let entry;
       try {
         entry = await this.#ownEntry(tenant, group, this.secrets.node, number);
       } catch (error) {
         this.#numbers.lose(address, taken);
-        throw new UnknownOutcome(`message ${number} may be said, and the log was not read`, number, { cause: error });
+        throw new UnknownOutcomeError(`message ${number} may be said, and the log was not read`, number, { cause: error });
       }
       if (entry !== null && areEqual(entry.payload, payload)) return number;
       if (entry !== null) {
         this.#numbers.lose(address, taken);
-        if (refusal instanceof BadPlace) return null;
+        if (refusal instanceof BadPlaceError) return null;
         throw refusal;
       }
     }
     this.#numbers.lose(address, taken);
-    throw new UnknownOutcome(`message ${number} may be said: ${refusal.message}, after it had been sent before`, number, { cause: refusal });
+    throw new UnknownOutcomeError(`message ${number} may be said: ${refusal.message}, after it had been sent before`, number, { cause: refusal });
   }
 
   /**
@@ -1137,7 +1137,7 @@ export class Session {
         log = await abortable(this.wait([{ tenant, group, place }]), signal);
         losses = 0;
       } catch (error) {
-        if (!(error instanceof ConnectionFailed || error instanceof TimedOut)) throw error;
+        if (!(error instanceof ConnectionFailedError || error instanceof TimedOutError)) throw error;
         losses += 1;
         await abortable(sleep(pauseAfter(losses + 1)), signal);
         continue;
@@ -1162,13 +1162,13 @@ export class Session {
    * @param {number} [start]
    * @param {number} [most]
    */
-  async list(start = 0, most = MOST_ROWS) {
+  async listGroups(start = 0, most = MOST_ROWS) {
     const words = `${checkNumber(start, U32, "a number")} ${checkNumber(most, U32, "a number")}`;
     return this.#ask(`list ${await this.#token("admin")} ${words}`, readListing(start, Math.min(most, MOST_ROWS)), true);
   }
 
   /** Has the server end in order. Needs the administrator's token. */
-  async stop() {
+  async shutdown() {
     await this.#ask(`stop ${await this.#token("admin")}`, readDone, false);
   }
 }
@@ -1213,7 +1213,7 @@ const MOST_LOST = 4; // how often one say may find that the generation in which 
  * @param {unknown} error
  * @returns {boolean}
  */
-const mayPass = (error) => error instanceof NoRoom || error instanceof Window || error instanceof OutOfMemory || error instanceof Unanswered;
+const mayPass = (error) => error instanceof NoRoomError || error instanceof WindowError || error instanceof OutOfMemoryError || error instanceof UnansweredError;
 const now = () => performance.now() / 1000;
 /**
  * @param {unknown} error
@@ -1266,7 +1266,7 @@ class Nodes {
     if (!spec.members.includes(node) || !sessions.has(node)) throw new RangeError(`node ${node} is no member, or has no session`);
     const missing = spec.members.find((member) => !sessions.has(member));
     if (!isGuest && missing !== undefined) throw new RangeError(`there is no session of node ${missing}, which is a member`);
-    if (spec.messages < 2 || spec.bytes < 2) throw new RangeError("a generation has room for a message and a marker: 2 messages, 2 bytes");
+    if (spec.messages < 2 || spec.totalBytes < 2) throw new RangeError("a generation has room for a message and a marker: 2 messages, 2 bytes");
     this.sessions = sessions;
     this.tenant = checkNumber(tenant, U16, "a tenant");
     this.number = checkNumber(number, U16, "a group");
@@ -1296,8 +1296,8 @@ class Nodes {
     try {
       await this.at(node).fetch(this.tenant, this.name(generation), 0, 0);
     } catch (error) {
-      if (error instanceof Spent) return false;
-      if (error instanceof NoGroup) return null;
+      if (error instanceof SpentError) return false;
+      if (error instanceof NoGroupError) return null;
       throw error;
     }
     return true;
@@ -1349,7 +1349,7 @@ class Nodes {
         if (greatest > known) isMissed = (await this.#isUsed(node, greatest)) || (isMissed && greatest === newest);
         newest = greatest;
       } catch (error) {
-        if (!isOne(error, Unanswered, MissingToken, Denied)) throw error;
+        if (!isOne(error, UnansweredError, MissingTokenError, DeniedError)) throw error;
       }
     }
     return isMissed ? newest + 1 : newest;
@@ -1364,8 +1364,8 @@ class Nodes {
     try {
       await this.at(node).fetch(this.tenant, this.name(generation), 1, 0);
     } catch (error) {
-      if (isOne(error, BadPlace, NoGroup)) return false;
-      if (!(error instanceof Spent)) throw error;
+      if (isOne(error, BadPlaceError, NoGroupError)) return false;
+      if (!(error instanceof SpentError)) throw error;
     }
     return true;
   }
@@ -1377,11 +1377,11 @@ class Nodes {
    * @param {number} end
    */
   async start(generation, end) {
-    if (generation > LAST_GENERATION) throw new Spent(`refused 3 Spent: group ${this.number} of tenant ${this.tenant} is used up`);
+    if (generation > LAST_GENERATION) throw new SpentError(`refused 3 Spent: group ${this.number} of tenant ${this.tenant} is used up`);
     if (this.isGuest) return this.#await(generation, end);
     for (const node of this.running()) {
       await persist(() => this.at(node).make(this.tenant, this.name(generation), this.spec), end).catch((error) => {
-        if (!(error instanceof Spent)) throw error;
+        if (!(error instanceof SpentError)) throw error;
       });
     }
     for (const node of this.running()) {
@@ -1397,7 +1397,7 @@ class Nodes {
    */
   async #open(node, generation, end) {
     await persist(() => this.at(node).open(this.tenant, this.name(generation)), end).catch((error) => {
-      if (!isOne(error, WrongPhase, Spent)) throw error;
+      if (!isOne(error, WrongPhaseError, SpentError)) throw error;
     });
   }
 
@@ -1407,7 +1407,7 @@ class Nodes {
    */
   async #await(generation, end) {
     for (const next = tries(); !(await this.look(this.node, generation)); ) {
-      if (now() >= end) throw new NoGroup(`refused 2 NoGroup: nobody has made generation ${generation} of group ${this.number} yet`);
+      if (now() >= end) throw new NoGroupError(`refused 2 NoGroup: nobody has made generation ${generation} of group ${this.number} yet`);
       await sleep(next());
     }
   }
@@ -1422,12 +1422,12 @@ class Nodes {
     const say = () => persist(() => this.own().say(this.tenant, this.name(generation), MARKER), end);
     try {
       await say().catch(async (error) => {
-        if (!(error instanceof WrongPhase) || this.isGuest) throw error;
+        if (!(error instanceof WrongPhaseError) || this.isGuest) throw error;
         await this.#open(this.node, generation, end);
         await say();
       });
     } catch (error) {
-      if (!isOne(error, Budget, BytesSpent, Spent)) throw error;
+      if (!isOne(error, BudgetError, BytesError, SpentError)) throw error;
     }
     this.own().forgetNumber(this.tenant, this.name(generation));
     this.noteMarked(generation);
@@ -1480,7 +1480,7 @@ class Speech {
    * @param {Spec} spec
    */
   hasRoom(length, spec) {
-    return !this.isFull && this.next < spec.messages && this.used + length + MARKER.length <= spec.bytes;
+    return !this.isFull && this.next < spec.messages && this.used + length + MARKER.length <= spec.totalBytes;
   }
 
   /**
@@ -1488,7 +1488,7 @@ class Speech {
    * @param {Spec} spec
    */
   isLate(spec) {
-    return this.generation < LAST_GENERATION && (4 * (this.next - 1) >= 3 * spec.messages || 4 * this.used >= 3 * spec.bytes);
+    return this.generation < LAST_GENERATION && (4 * (this.next - 1) >= 3 * spec.messages || 4 * this.used >= 3 * spec.totalBytes);
   }
 }
 
@@ -1540,7 +1540,7 @@ class Speaker {
     try {
       await this.nodes.start(generation, isSpare ? now() : end);
     } catch (error) {
-      if (error instanceof MissingToken) return true;
+      if (error instanceof MissingTokenError) return true;
       if (!mayPass(error) || !isSpare) throw error;
       return false;
     }
@@ -1581,7 +1581,7 @@ class Speaker {
     try {
       await this.#goOn(speech, begun);
     } catch (error) {
-      if (!mayPass(error) && !isOne(error, MissingToken, NoGroup)) throw error;
+      if (!mayPass(error) && !isOne(error, MissingTokenError, NoGroupError)) throw error;
       this.tryAt = now() + Math.max(AGAIN, SLOWER * (now() - begun));
       return false;
     }
@@ -1596,8 +1596,8 @@ class Speaker {
   async say(payload, repeat) {
     const spec = this.nodes.spec;
     const message = Uint8Array.of(1, ...bytesOf(payload));
-    if (message.length > LONGEST_PAYLOAD) throw new TooLong();
-    if (message.length + MARKER.length > spec.bytes) throw new BytesSpent(`refused 9 Bytes: no generation has room for ${message.length} bytes and a marker`);
+    if (message.length > LONGEST_PAYLOAD) throw new TooLongError();
+    if (message.length + MARKER.length > spec.totalBytes) throw new BytesError(`refused 9 Bytes: no generation has room for ${message.length} bytes and a marker`);
     const end = this.end();
     if (repeat !== undefined && (await this.#isSaidAgain(message, repeat, end))) return repeat;
     const next = tries();
@@ -1610,11 +1610,11 @@ class Speaker {
           const number = await this.#sayNext(speech, message, end);
           if (number !== null) return { generation: speech.generation, number };
         } catch (error) {
-          if (isOne(error, Spent, NoGroup)) {
+          if (isOne(error, SpentError, NoGroupError)) {
             lost += 1;
             if (lost > MOST_LOST) throw error;
             if (this.#current() === speech) this.speech = null;
-          } else if (isOne(error, Window, OutOfMemory) && end > now()) await sleep(Math.min(end - now(), next()));
+          } else if (isOne(error, WindowError, OutOfMemoryError) && end > now()) await sleep(Math.min(end - now(), next()));
           else throw error;
         }
       }
@@ -1632,9 +1632,9 @@ class Speaker {
     try {
       number = await this.#settled(message, { generation: speech.generation, number: speech.next }, false);
     } catch (error) {
-      if (error instanceof BadPlace) await this.#learn(speech, end);
-      else if (isOne(error, Budget, BytesSpent)) speech.isFull = true;
-      else if (error instanceof WrongPhase && !speech.wasOpened && !this.nodes.isGuest) {
+      if (error instanceof BadPlaceError) await this.#learn(speech, end);
+      else if (isOne(error, BudgetError, BytesError)) speech.isFull = true;
+      else if (error instanceof WrongPhaseError && !speech.wasOpened && !this.nodes.isGuest) {
         speech.wasOpened = true;
         await this.nodes.start(speech.generation, end);
       } else throw error;
@@ -1657,7 +1657,7 @@ class Speaker {
     try {
       return await nodes.own().say(nodes.tenant, nodes.name(generation), message, { number, isRepeated });
     } catch (error) {
-      if (error instanceof Unanswered && (isRepeated || error.isUnknown)) {
+      if (error instanceof UnansweredError && (isRepeated || error.isUnknown)) {
         error.generation = generation;
         until = this.end();
       }
@@ -1682,7 +1682,7 @@ class Speaker {
         if (entry.origin === nodes.node) speech.found(entry);
       }
       if (entries.length === 0 && now() >= end && speech.next === number) {
-        throw new BadPlace(`refused 11 BadPlace: another client of the member has said message ${number} of generation ${speech.generation}, and it is not delivered yet`);
+        throw new BadPlaceError(`refused 11 BadPlace: another client of the member has said message ${number} of generation ${speech.generation}, and it is not delivered yet`);
       }
     }
     if (speech.hasMarker) {
@@ -1703,8 +1703,8 @@ class Speaker {
         await this.#settled(message, repeat, true);
         break;
       } catch (error) {
-        if (isOne(error, BadPlace, Budget, BytesSpent, TooLong, WrongPhase)) return false;
-        if (!(error instanceof Unanswered && isOne(error.cause, Window, OutOfMemory)) || end <= now()) throw error;
+        if (isOne(error, BadPlaceError, BudgetError, BytesError, TooLongError, WrongPhaseError)) return false;
+        if (!(error instanceof UnansweredError && isOne(error.cause, WindowError, OutOfMemoryError)) || end <= now()) throw error;
         await sleep(Math.min(end - now(), next()));
       }
     }
@@ -1734,7 +1734,7 @@ class Heard {
     this.used += payload.length;
     this.ahead.add(number);
     while (this.ahead.delete(this.front + 1)) this.front += 1;
-    if (areEqual(payload, MARKER) || number >= spec.messages || this.used >= spec.bytes) this.end = Math.min(number, this.end ?? number);
+    if (areEqual(payload, MARKER) || number >= spec.messages || this.used >= spec.totalBytes) this.end = Math.min(number, this.end ?? number);
     return this.end === null || number <= this.end;
   }
 
@@ -1836,7 +1836,7 @@ class Reader {
         this.hasTaken = found.entries.length > 0;
       }
     } catch (error) {
-      if (!isOne(error, Spent, NoGroup)) throw error;
+      if (!isOne(error, SpentError, NoGroupError)) throw error;
       await this.#passOver();
       this.hasTaken = true;
     }
@@ -1869,7 +1869,7 @@ class Reader {
       try {
         await nodes.start(target, now());
       } catch (error) {
-        if (mayPass(error) || (nodes.isGuest && error instanceof NoGroup)) return;
+        if (mayPass(error) || (nodes.isGuest && error instanceof NoGroupError)) return;
         throw error;
       }
       further.push(target);
@@ -1892,7 +1892,7 @@ class Reader {
   async #passOver() {
     for (const log of this.lowestFirst()) {
       const isLiving = await this.nodes.look(this.nodes.node, log.generation);
-      if (isLiving === null) throw new NoGroup(`refused 2 NoGroup: generation ${log.generation} was read at node ${this.nodes.node}, whose server was started anew since`);
+      if (isLiving === null) throw new NoGroupError(`refused 2 NoGroup: generation ${log.generation} was read at node ${this.nodes.node}, whose server was started anew since`);
       log.isGone ||= !isLiving;
     }
   }
@@ -1950,7 +1950,7 @@ class Reader {
       try {
         await nodes.mark(log.generation, now());
       } catch (error) {
-        if (error instanceof WrongPhase) nodes.noteMarked(log.generation);
+        if (error instanceof WrongPhaseError) nodes.noteMarked(log.generation);
         else if (mayPass(error)) return void (this.owes = true);
         else throw error;
       }
@@ -1974,7 +1974,7 @@ class Reader {
         if (!this.speaker.isInDoubt(ended.generation) && (await this.#isDropped(ended))) this.ended.splice(this.ended.indexOf(ended), 1);
         else ended.tryAt = now() + ended.next();
       } catch (error) {
-        if (!isOne(error, Unanswered, OutOfMemory)) throw error;
+        if (!isOne(error, UnansweredError, OutOfMemoryError)) throw error;
         ended.tryAt = now() + Math.max(AGAIN, SLOWER * (now() - begun));
       }
     }
@@ -1992,15 +1992,15 @@ class Reader {
       try {
         await nodes.at(node).fetch(nodes.tenant, name, ended.needed, 0);
       } catch (error) {
-        if (error instanceof BadPlace) return false;
-        if (isOne(error, MissingToken, Denied)) {
+        if (error instanceof BadPlaceError) return false;
+        if (isOne(error, MissingTokenError, DeniedError)) {
           if (this.last <= ended.generation) return false;
-        } else if (!isOne(error, Spent, NoGroup)) throw error;
+        } else if (!isOne(error, SpentError, NoGroupError)) throw error;
       }
       ended.have.add(node);
     }
     await nodes.own().drop(nodes.tenant, name).catch((error) => {
-      if (!isOne(error, Spent, NoGroup)) throw error;
+      if (!isOne(error, SpentError, NoGroupError)) throw error;
     });
     return true;
   }
@@ -2020,7 +2020,7 @@ export class Room {
    * @param {Record<number, Session> | Map<number, Session>} sessions a session of each member's node, by the node's number; of a guest its own alone
    * @param {number} tenant
    * @param {number} number
-   * @param {Spec} spec what each generation is made with, so all members give the same; its `messages` and `bytes` are at least 2
+   * @param {Spec} spec what each generation is made with, so all members give the same; its `messages` and `totalBytes` are at least 2
    * @param {{ node: number, patience?: number, isGuest?: boolean }} options `node` is the member that speaks and reads here; `patience` is how long a say waits
    *   for what may pass, in seconds
    */
@@ -2070,7 +2070,7 @@ export class Room {
    * When the member has used three quarters of a generation's messages or bytes, the room goes on: the next one is made at each member's node, opened at each
    * when all have answered, and spoken in after a marker. What may pass is tried again for as long as the patience.
    *
-   * What is returned stands, once. Where a refusal is thrown the message was not said. An `Unanswered` with a `generation`: it may or may not be said, once at
+   * What is returned stands, once. Where a refusal is thrown the message was not said. An `UnansweredError` with a `generation`: it may or may not be said, once at
    * most; a say of the same payload with `repeat` as `{ generation: error.generation, number: error.said }` goes on where it ended.
    * @param {Payload} payload
    * @param {{ repeat?: RoomNumber }} options
@@ -2103,7 +2103,7 @@ export class Room {
         await reader.read(Math.min(Math.max(0, end - now()), FOLLOW_WAIT), signal);
         losses = 0;
       } catch (error) {
-        if (!isOne(error, ConnectionFailed, TimedOut)) throw error;
+        if (!isOne(error, ConnectionFailedError, TimedOutError)) throw error;
         losses += 1;
         await abortable(sleep(pauseAfter(losses + 1)), signal);
       }

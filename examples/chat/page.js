@@ -1,6 +1,6 @@
 // A chat in a room, as a guest by the door (gb_web) of the member's node. The page's address has the room; the token is pasted once. A message's payload is
 // a JSON text {name, time, kind, text} with kind "said", "joined" or "left": a log has no times and no names of its own.
-import { Denied, Room, Session, Tokens, Unanswered, UnknownOutcome, textOf } from "./foqradesh.js";
+import { DeniedError, Room, Session, Tokens, UnansweredError, UnknownOutcomeError, textOf } from "./foqradesh.js";
 
 const $ = (id) => document.getElementById(id);
 const words = new URLSearchParams(location.hash.slice(1));
@@ -52,8 +52,8 @@ async function follow() {
     try {
       for await (const entry of room.follow()) take(entry);
     } catch (error) {
-      tell(error instanceof Denied ? "The token is not that of the member at this node." : `Waiting: ${error.message}`);
-      if (error instanceof Denied) return;
+      tell(error instanceof DeniedError ? "The token is not that of the member at this node." : `Waiting: ${error.message}`);
+      if (error instanceof DeniedError) return;
     }
     await pause();
   }
@@ -69,7 +69,7 @@ async function say(kind, text) {
       one.named = await room.say(payload, { repeat });
       one.state = "was said; waits until all members have it";
     } catch (error) {
-      const isLost = error instanceof Unanswered && !(error instanceof UnknownOutcome);
+      const isLost = error instanceof UnansweredError && !(error instanceof UnknownOutcomeError);
       one.state = isLost ? "waits for a connection" : `not known to be said: ${error.message}`;
       if (!isLost) return show();
       if (error.generation !== null) repeat = { generation: error.generation, number: error.said };
@@ -92,7 +92,7 @@ $("join").addEventListener("submit", (event) => {
   const url = new URL("session", location.href.replace(/^http/, "ws"));
   url.hash = "";
   const session = new Session({ url: url.href }, new Tokens({ member: $("token").value.trim(), node: own.node }), { seconds: 10, onConnection: connected });
-  const spec = { kind: words.get("kind"), members: words.get("members").split(",").map(Number), messages: number("messages"), bytes: number("bytes"), window: number("window") };
+  const spec = { kind: words.get("kind"), members: words.get("members").split(",").map(Number), messages: number("messages"), totalBytes: number("bytes"), window: number("window") };
   room = new Room({ [own.node]: session }, number("tenant"), number("room"), spec, { node: own.node, isGuest: true });
   $("token").value = "";
   [$("join").hidden, $("room").hidden] = [true, false];

@@ -1,7 +1,7 @@
 // Rooms at a gb_serve: conversations of more messages than a generation takes.
 import assert from "node:assert/strict";
 import { test } from "node:test";
-import { BytesSpent, NoGroup, Room, Session, Tokens, TooLong, memberToken, textOf } from "../foqradesh.js";
+import { BytesError, NoGroupError, Room, Session, Tokens, TooLongError, memberToken, textOf } from "../foqradesh.js";
 import { TENANT_KEY, door, lacks, serve, sessionOf } from "./serving.js";
 
 const skip = lacks("serve");
@@ -10,7 +10,7 @@ const skip = lacks("serve");
 async function cluster(context, nodes) {
   const port = await serve(context, nodes);
   const sessions = () => Object.fromEntries(Array.from({ length: nodes }, (_, node) => [node, sessionOf(context, port, node)]));
-  for (const session of Object.values(sessions())) await session.tenant(7, TENANT_KEY, { groups: 4, messages: 100, bytes: 4096, window: 100 });
+  for (const session of Object.values(sessions())) await session.addTenant(7, TENANT_KEY, { groups: 4, messages: 100, totalBytes: 4096, window: 100 });
   return { port, sessions };
 }
 
@@ -26,7 +26,7 @@ async function read(room, count, options = {}) {
 
 test("the worked conversation of the Python package's page", { skip }, async (context) => {
   const { sessions } = await cluster(context, 2);
-  const spec = { kind: "fallack", members: [0, 1], messages: 4, bytes: 4096, window: 4 };
+  const spec = { kind: "fallack", members: [0, 1], messages: 4, totalBytes: 4096, window: 4 };
   const [ann, bob] = [0, 1].map((node) => new Room(sessions(), 7, 1, spec, { node }));
   const said = [];
   for (const text of ["one", "two", "three", "four"]) said.push(await ann.say(text));
@@ -37,7 +37,7 @@ test("the worked conversation of the Python package's page", { skip }, async (co
 
 test("a long conversation of three, each message once and in order", { skip }, async (context) => {
   const { sessions } = await cluster(context, 3);
-  const spec = { kind: "fallack", members: [0, 1, 2], messages: 8, bytes: 512, window: 8 };
+  const spec = { kind: "fallack", members: [0, 1, 2], messages: 8, totalBytes: 512, window: 8 };
   const rooms = [0, 1, 2].map((node) => new Room(sessions(), 7, 2, spec, { node }));
   const count = 25;
   const reading = rooms.map((room) => read(room, 3 * count));
@@ -52,18 +52,18 @@ test("a long conversation of three, each message once and in order", { skip }, a
     }
   }
   assert.ok(rooms.every((room) => /** @type {number} */ (room.generation) >= 3));
-  const { rows } = await sessions()[0].list();
+  const { rows } = await sessions()[0].listGroups();
   assert.ok(rows.filter(({ phase }) => phase !== "dropped").length <= 4);
 });
 
 test("a guest by a door goes on once another has made the next generation", { skip: skip || lacks("web") || (typeof WebSocket === "undefined" && "this Node has no WebSocket") }, async (context) => {
   const { port, sessions } = await cluster(context, 2);
-  const spec = { kind: "fallack", members: [0, 1], messages: 4, bytes: 4096, window: 4 };
+  const spec = { kind: "fallack", members: [0, 1], messages: 4, totalBytes: 4096, window: 4 };
   const host = new Room(sessions(), 7, 3, spec, { node: 0 });
   const session = new Session(await door(context, port, 1), new Tokens({ member: await memberToken(TENANT_KEY, 7, 3, 1), node: 1 }));
   context.after(() => session.close());
   const hasty = new Room({ 1: session }, 7, 3, spec, { node: 1, isGuest: true, patience: 0.2 });
-  await assert.rejects(hasty.say("too early"), NoGroup);
+  await assert.rejects(hasty.say("too early"), NoGroupError);
   const guest = new Room({ 1: session }, 7, 3, spec, { node: 1, isGuest: true });
   const hears = read(guest, 6, {});
   await host.say("welcome");
@@ -88,10 +88,10 @@ test("a guest by a door goes on once another has made the next generation", { sk
 
 test("what no generation holds is refused", { skip }, async (context) => {
   const { sessions } = await cluster(context, 1);
-  const room = new Room(sessions(), 7, 4, { kind: "beb", members: [0], messages: 4, bytes: 8, window: 4 }, { node: 0 });
-  await assert.rejects(room.say("1234567"), BytesSpent);
-  await assert.rejects(room.say(new Uint8Array(4096)), TooLong);
-  assert.throws(() => new Room(sessions(), 7, 4, { kind: "beb", members: [0], messages: 1, bytes: 8, window: 4 }, { node: 0 }), RangeError);
-  assert.throws(() => new Room({}, 7, 4, { kind: "beb", members: [0], messages: 4, bytes: 8, window: 4 }, { node: 0 }), RangeError);
+  const room = new Room(sessions(), 7, 4, { kind: "beb", members: [0], messages: 4, totalBytes: 8, window: 4 }, { node: 0 });
+  await assert.rejects(room.say("1234567"), BytesError);
+  await assert.rejects(room.say(new Uint8Array(4096)), TooLongError);
+  assert.throws(() => new Room(sessions(), 7, 4, { kind: "beb", members: [0], messages: 1, totalBytes: 8, window: 4 }, { node: 0 }), RangeError);
+  assert.throws(() => new Room({}, 7, 4, { kind: "beb", members: [0], messages: 4, totalBytes: 8, window: 4 }, { node: 0 }), RangeError);
   assert.throws(() => room.without(0), RangeError);
 });

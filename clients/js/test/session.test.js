@@ -4,7 +4,7 @@ import { test } from "node:test";
 import * as foqradesh from "../foqradesh.js";
 import { ADMIN_KEY, TENANT_KEY, door, fake, framed, lacks, serve, sessionOf } from "./serving.js";
 
-const { BadReply, BadPlace, Budget, ConnectionFailed, Denied, MissingToken, Session, TimedOut, Tokens, UnknownOutcome, adminToken, bytesOf, memberToken, tenantToken, textOf } = foqradesh;
+const { BadReplyError, BadPlaceError, BudgetError, ConnectionFailedError, DeniedError, MissingTokenError, Session, TimedOutError, Tokens, UnknownOutcomeError, adminToken, bytesOf, memberToken, tenantToken, textOf } = foqradesh;
 const TOKEN = "ab".repeat(32);
 const tokens = new Tokens({ admin: TOKEN, tenant: TOKEN, member: TOKEN, node: 0 });
 
@@ -33,7 +33,7 @@ test("each refusal is thrown under its name", async (context) => {
 test("texts that are no reply close the connection", async (context) => {
   for (const text of ["", "ok", "log", "log 1", "log 1 0:0:61", "log 1 0:1:6", "log 1 0:1:6A", "log 1 32:1:61", "log 01", "refused 1 NoGroup", "log 17 " + "0:1:- ".repeat(17).trim()]) {
     const { session } = await against(context, () => text);
-    await assert.rejects(session.fetch(7, 1, 0), BadReply, text);
+    await assert.rejects(session.fetch(7, 1, 0), BadReplyError, text);
   }
 });
 
@@ -65,16 +65,16 @@ test("a say whose reply was lost is said once", async (context) => {
   assert.equal(await session.say(7, 1, "hello", { number: 5 }), 5);
   assert.equal(requests.length, 3);
   const other = await against(context, (text, count) => (count === 1 ? null : text.startsWith("say") ? "refused 11 BadPlace" : "log 1 0:5:78"));
-  await assert.rejects(other.session.say(7, 1, "hello", { number: 5 }), BadPlace);
+  await assert.rejects(other.session.say(7, 1, "hello", { number: 5 }), BadPlaceError);
   const unknown = await against(context, (text, count) => (count === 1 ? null : text.startsWith("say") ? "refused 11 BadPlace" : "log 0"), { seconds: 0.3 });
-  await assert.rejects(unknown.session.say(7, 1, "hello", { number: 5 }), (error) => error instanceof UnknownOutcome && error.said === 5 && error.cause instanceof BadPlace);
+  await assert.rejects(unknown.session.say(7, 1, "hello", { number: 5 }), (error) => error instanceof UnknownOutcomeError && error.said === 5 && error.cause instanceof BadPlaceError);
   const never = await against(context, (text, count) => (count === 1 ? null : "refused 8 Budget"));
-  await assert.rejects(never.session.say(7, 1, "hello", { number: 5 }), Budget);
+  await assert.rejects(never.session.say(7, 1, "hello", { number: 5 }), BudgetError);
 });
 
 test("a say without its number is not said again", async (context) => {
   const { session, requests } = await against(context, () => null);
-  await assert.rejects(session.say(7, 1, "hello"), (error) => error instanceof ConnectionFailed && error.isUnknown);
+  await assert.rejects(session.say(7, 1, "hello"), (error) => error instanceof ConnectionFailedError && error.isUnknown);
   assert.equal(requests.length, 1);
 });
 
@@ -83,30 +83,30 @@ test("what changes nothing is asked again, and what changes something is not", a
   assert.deepEqual(await session.fetch(7, 1, 0), []);
   assert.equal(requests.length, 3);
   const changes = await against(context, () => null);
-  await assert.rejects(changes.session.drop(7, 1), (error) => error instanceof ConnectionFailed && error.isUnknown);
+  await assert.rejects(changes.session.drop(7, 1), (error) => error instanceof ConnectionFailedError && error.isUnknown);
   assert.equal(changes.requests.length, 1);
 });
 
 test("time limits, closed sessions and absent servers have their errors", async (context) => {
   const { session } = await against(context, () => new Promise(() => {}), { seconds: 0.2 });
-  await assert.rejects(session.fetch(7, 1, 0), (error) => error instanceof TimedOut && error.isUnknown);
-  const waits = assert.rejects(session.fetch(7, 1, 0), ConnectionFailed);
+  await assert.rejects(session.fetch(7, 1, 0), (error) => error instanceof TimedOutError && error.isUnknown);
+  const waits = assert.rejects(session.fetch(7, 1, 0), ConnectionFailedError);
   await new Promise((done) => setTimeout(done, 50));
   session.close();
   await waits;
   const absent = new Session({ host: "127.0.0.1", port: 1 }, tokens);
-  await assert.rejects(absent.fetch(7, 1, 0), (error) => error instanceof ConnectionFailed && !error.isUnknown);
+  await assert.rejects(absent.fetch(7, 1, 0), (error) => error instanceof ConnectionFailedError && !error.isUnknown);
   const bare = new Session({ host: "127.0.0.1", port: 1 }, new Tokens({}));
-  await assert.rejects(bare.status(), MissingToken);
+  await assert.rejects(bare.status(), MissingTokenError);
 });
 
 test("arguments that no request carries are refused before anything is sent", async (context) => {
   const { session, requests } = await against(context, () => "ok");
   await assert.rejects(session.say(7, 1, /** @type {any} */ (5)), TypeError);
-  await assert.rejects(session.say(7, 1, new Uint8Array(4097)), foqradesh.TooLong);
+  await assert.rejects(session.say(7, 1, new Uint8Array(4097)), foqradesh.TooLongError);
   await assert.rejects(session.fetch(65_536, 1, 0), RangeError);
-  await assert.rejects(session.make(7, 1, { kind: "x", members: [0], messages: 1, bytes: 1, window: 1 }), RangeError);
-  await assert.rejects(session.make(7, 1, { kind: "beb", members: [1, 0], messages: 1, bytes: 1, window: 1 }), RangeError);
+  await assert.rejects(session.make(7, 1, { kind: "x", members: [0], messages: 1, totalBytes: 1, window: 1 }), RangeError);
+  await assert.rejects(session.make(7, 1, { kind: "beb", members: [1, 0], messages: 1, totalBytes: 1, window: 1 }), RangeError);
   await assert.rejects(session.wait([{ tenant: 7, group: 1, place: 0 }], { seconds: 61 }), RangeError);
   assert.equal(requests.length, 0);
 });
@@ -129,13 +129,13 @@ test("an entry is followed once over connections that end", async (context) => {
 
 test("a conversation with a server", { skip: lacks("serve") }, async (context) => {
   const port = await serve(context, 2);
-  const spec = { kind: "fallack", members: [0, 1], messages: 100, bytes: 4096, window: 100 };
+  const spec = { kind: "fallack", members: [0, 1], messages: 100, totalBytes: 4096, window: 100 };
   const sessions = [0, 1].map((node) => sessionOf(context, port, node));
-  for (const session of sessions) await session.tenant(7, TENANT_KEY, { groups: 4, messages: 100, bytes: 4096, window: 100 });
+  for (const session of sessions) await session.addTenant(7, TENANT_KEY, { groups: 4, messages: 100, totalBytes: 4096, window: 100 });
   for (const session of sessions) await session.make(7, 1, spec);
   for (const session of sessions) await session.open(7, 1);
   assert.deepEqual(await Promise.all(["one", "two", "three"].map((text) => sessions[0].say(7, 1, text))), [1, 2, 3]);
-  await assert.rejects(sessions[0].say(7, 1, "two", { number: 2 }), BadPlace);
+  await assert.rejects(sessions[0].say(7, 1, "two", { number: 2 }), BadPlaceError);
   for (const session of sessions) {
     const read = [];
     for await (const entry of session.follow(7, 1)) {
@@ -144,26 +144,26 @@ test("a conversation with a server", { skip: lacks("serve") }, async (context) =
     }
     assert.deepEqual(read, ["one", "two", "three"]);
   }
-  const { total, rows } = await sessions[1].list();
+  const { total, rows } = await sessions[1].listGroups();
   assert.equal(total, 1);
   assert.deepEqual(rows[0], { tenant: 7, group: 1, generation: 0, spec, phase: "open", log: 3 });
   assert.ok((await sessions[0].status()).running >= 0);
   const stranger = new Session({ host: "127.0.0.1", port: port + 64 }, tokens);
   context.after(() => stranger.close());
-  await assert.rejects(stranger.fetch(7, 1, 0), Denied);
+  await assert.rejects(stranger.fetch(7, 1, 0), DeniedError);
 });
 
 test("a conversation by a door", { skip: lacks("serve", "web") || (typeof WebSocket === "undefined" && "this Node has no WebSocket") }, async (context) => {
   const port = await serve(context, 1);
   const own = sessionOf(context, port, 0);
-  await own.tenant(7, TENANT_KEY, { groups: 4, messages: 100, bytes: 4096, window: 100 });
-  await own.make(7, 1, { kind: "beb", members: [0], messages: 100, bytes: 4096, window: 100 });
+  await own.addTenant(7, TENANT_KEY, { groups: 4, messages: 100, totalBytes: 4096, window: 100 });
+  await own.make(7, 1, { kind: "beb", members: [0], messages: 100, totalBytes: 4096, window: 100 });
   await own.open(7, 1);
   const states = [];
   const page = new Session(await door(context, port, 0), new Tokens({ member: await memberToken(TENANT_KEY, 7, 1, 0), node: 0 }), { onConnection: (isOpen) => states.push(isOpen) });
   context.after(() => page.close());
   assert.equal(await page.say(7, 1, bytesOf("hello")), 1);
   assert.deepEqual((await page.fetch(7, 1, 0)).map((entry) => textOf(entry.payload)), ["hello"]);
-  await assert.rejects(page.drop(7, 1), MissingToken);
+  await assert.rejects(page.drop(7, 1), MissingTokenError);
   assert.equal(states[0], true);
 });
