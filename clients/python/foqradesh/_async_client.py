@@ -238,7 +238,7 @@ class AsyncClient(ClientBase):
         return await self._say_in_turn(tenant, group, payload, number, repeated)
 
     def set_number(self, tenant: int, group: GroupName, number: int) -> None:
-        """Know the member's next number in a group: the next say comes with it."""
+        """Set the number that the next `say` in the group carries."""
         self.operations.set_number(tenant, group, number)
 
     def next_number(self, tenant: int, group: GroupName) -> Optional[int]:

@@ -32,7 +32,7 @@ class _Sent:
 
 
 class _Protocol(asyncio.Protocol):
-    """One connection of a link, which is told what comes as long as it uses this connection."""
+    """One connection of a link. It passes what it receives to the link until the link closes it."""
 
     def __init__(self, link: AsyncLink) -> None:
         self.link: Optional[AsyncLink] = link

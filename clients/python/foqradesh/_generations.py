@@ -67,7 +67,7 @@ PASSING = (NoRoomError, WindowError, OutOfMemoryError, UnansweredError)
 """What may pass by itself."""
 
 PAUSES = (0.01, 0.02, 0.05, 0.1, 0.2)
-"""The seconds between tries of one thing. The last one stands for all further ones."""
+"""The seconds between attempts at one thing. Further attempts use the last one."""
 
 
 def spelled(payload: bytes) -> bytes:

@@ -26,13 +26,13 @@ SEAL = b"\x02"
 their end is known."""
 
 SAID = b"\x03"
-"""What stands before what is said through the leader."""
+"""The first byte of a message that is said through the leader."""
 
 ENDS = b"\x04"
-"""What stands before the ends of generations."""
+"""The first byte of a message that says where generations end."""
 
 IDENTITY = 8
-"""The bytes by which a room's messages are told from those of others that say the same."""
+"""How many bytes of a message name the `Room` object that said it."""
 
 KINDS_OF_A_LEADER = ("fallack", "fmajority")
 """The kinds in which all running members deliver what any member has, in the leader's order."""

@@ -65,7 +65,7 @@ class Tally:
     entries: int = 0  # how many entries the replies have
 
     def add(self, other: Tally) -> None:
-        """Add what came of others."""
+        """Add the times, entries and refusals of another tally."""
         self.times += other.times
         self.entries += other.entries
         for name, count in other.refusals.items():
@@ -202,7 +202,7 @@ def count(tally: Tally, member: _Member, place: int, reply: str, took: float) ->
 
 
 def play(mix: Mix, numbers: Sequence[int], nodes: Sequence[Address]) -> Outcome:
-    """Play the connections with these numbers, and return what came of it."""
+    """Play the connections with these numbers, and return the results."""
     tallies = {"say": Tally(), "fetch": Tally()}
     selector = selectors.DefaultSelector()
     players = []
@@ -245,7 +245,7 @@ def _part(words: Tuple[Mix, Sequence[int], Sequence[Address]]) -> Outcome:
 
 
 def run(mix: Mix, nodes: Sequence[Address], processes: int) -> Outcome:
-    """Play all connections of a load, shared among processes, and return what came of it."""
+    """Play all connections of a load, shared among processes, and return the results."""
     shares = [range(first, mix.connections, processes) for first in range(processes)]
     parts = [(mix, list(share), nodes) for share in shares if len(share) > 0]
     if len(parts) == 1:
@@ -299,7 +299,7 @@ def row(name: str, tally: Tally, seconds: float) -> Tuple[str, ...]:
 
 
 def table(outcome: Outcome) -> str:
-    """Return the table that tells what came of a run, and a line for each thing to know of it."""
+    """Return the table of a run's results, and a line for each thing to know of it."""
     both = Tally()
     for tally in outcome.tallies.values():
         both.add(tally)
