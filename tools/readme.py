@@ -19,7 +19,7 @@ def code(port):
     with open(os.path.join(TOP, "README.md"), encoding="utf-8") as file:
         (found,) = re.findall(r"```python\n(.*?)```", file.read(), re.DOTALL)
     assert found.count("42000") == 1
-    return found.replace("42000", str(port)) + "\nnodes[0].stop()\n"
+    return found.replace("42000", str(port)) + "\nnodes[0].shutdown()\n"
 
 
 def main(words):
