@@ -9,7 +9,7 @@ import re
 import sys
 
 ROOT = os.path.dirname(os.path.dirname(os.path.abspath(__file__)))
-PAGES = ("ARCHITECTURE", "DEFINITIONS", "LIMITS", "MEMORY", "THEOREM")
+PAGES = ("ARCHITECTURE", "DEFINITIONS", "reference/LIMITS", "reference/MEMORY", "THEOREM")
 READ = (".rt", ".antt", ".edit", ".py", ".c", ".txt")
 NAME = re.compile(r"[A-Za-z_]\w*(?:(?:::|\.)[A-Za-z_]\w*)*(?:\(\))?")
 

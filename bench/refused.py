@@ -3,7 +3,7 @@
 
 PRELOAD is bench/refused/refuse_malloc.c as a shared library, GB_SIM a built gb_sim, PLAYER, HOST and MAKERS the built programs of bench/refused. The
 answers of the named schedules, and of the host's day, stand below, and no program is asked for them. Every run is judged; status 1 where one
-is wrong. What is counted is printed as the tables of docs/MEMORY.md.
+is wrong. What is counted is printed as the tables of docs/reference/MEMORY.md.
 """
 import collections
 import os

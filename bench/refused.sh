@@ -1,7 +1,7 @@
 #!/usr/bin/env bash
 # Refuses requests for memory: each in turn, and under limits of all memory, of gb_sim, of programs that play the same schedules on a cluster and a
 # day on a host with tapes and give a refused event again, and of public functions that make a value; and chosen ones of gb_serve, before it serves,
-# while it serves and at its end. Prints what was counted, as the tables of docs/MEMORY.md, and ends with status 1 where a run was wrong.
+# while it serves and at its end. Prints what was counted, as the tables of docs/reference/MEMORY.md, and ends with status 1 where a run was wrong.
 # The programs are built in bench/out, apart from the repository's own crates, unless PROGRAMS names a folder that has them: gb_sim, gb_serve,
 # refused, refused_host and refused_makers.
 # Words: how many requests of gb_serve are drawn while it serves, 200 if not given, and the seed of the drawing, 1 if not given.

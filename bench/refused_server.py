@@ -3,7 +3,7 @@
 
 PRELOAD is bench/refused/refuse_malloc.c as a shared library. A server of three nodes is asked a fixed list of things, in groups of all ten kinds;
 before it serves, while it serves and at its end chosen requests for memory are refused. Every run is judged; status 1 where one is wrong. The
-requests of all threads are counted in one row, so a run cannot be repeated to the request. What is counted is printed as the tables of docs/MEMORY.md.
+requests of all threads are counted in one row, so a run cannot be repeated to the request. What is counted is printed as the tables of docs/reference/MEMORY.md.
 """
 import collections
 import mmap

@@ -7,7 +7,7 @@ use gb_types::limits::NODES;
 /// How old the last tick of a loop may be, in microseconds, where a tick is shorter than half of that.
 pub const OLD: u64 = 2_000_000;
 
-// docs/LIMITS.md names this value.
+// docs/reference/LIMITS.md names this value.
 const _: () = prove!(OLD == 2_000_000);
 
 /// The nodes of a server, and how old their ticks may be.

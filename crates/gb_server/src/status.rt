@@ -26,7 +26,7 @@ pub const LIMIT: u64 = 2_000_000;
 // How often a write is tried again in one look while the stream takes only a part.
 const WRITES: u32 = 64;
 
-// docs/LIMITS.md names these values.
+// docs/reference/LIMITS.md names these values.
 const _: () = prove!(MOST == 4_096 && CLIENTS == 8 && LIMIT == 2_000_000 && WRITES == 64);
 
 /// How far a client is.
