@@ -153,6 +153,11 @@ def lists():
     return short, long
 
 
+def bullets(lines):
+    """The items of a list, each as one line, wherever its lines end in the page."""
+    return re.sub(r"\n  ", " ", "\n".join(lines)).split("\n")
+
+
 def vectors():
     return [(packet, number) for _, packet, number in SHORT] + LONG
 
@@ -162,9 +167,9 @@ def check():
     top = os.path.join(os.path.dirname(os.path.abspath(__file__)), "..")
     with open(os.path.join(top, "docs", "FORMATS.md"), encoding="utf-8") as file:
         sections = dict(part.split("\n", 1) for part in re.split(r"^#+ ", file.read(), flags=re.M)[1:])
-    stored = [line for line in sections["Vectors"].split("\n") if line.startswith(("- ", "  "))]
+    stored = bullets([line for line in sections["Vectors"].split("\n") if line.startswith(("- ", "  "))])
     short, long = lists()
-    computed = short + long
+    computed = bullets(short + long)
     for line in difflib.unified_diff(stored, computed, "docs/FORMATS.md", "bench/vectors.py", lineterm="", n=0):
         print(line)
     parts = re.findall(r"^\| `([0-9a-f ]+)` \|", sections["An example"], flags=re.M)
