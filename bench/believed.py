@@ -236,7 +236,7 @@ def law_words(law):
         for line in text:
             if line.startswith("ghost use "):
                 read_use(line[len("ghost "):].rstrip(";\n"), uses)
-            inside = inside or line.startswith(f"pub fn {function}(")
+            inside = inside or line.startswith((f"pub fn {function}(", f"pub fn {function}<"))
             if inside and line.strip().startswith("{"):
                 break
             if inside and line.strip().startswith("ensures "):
