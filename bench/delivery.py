@@ -7,6 +7,8 @@ while other tenants flood, the group itself goes on talking, and packets of all 
 
 - as long as something of a group waits at a node for another node, the packets between them hold at most one item more of each other group;
 - they hold fewer items in all than groups that have items in them, times one more than the items of this group;
+- so an item waits for no more packets, its own with them, than there are groups with items in the packets before its own, its group with them, times one
+  more than the items of its group in those packets;
 - a round trip of a link is a round, and enough rounds are a phase, as docs/THEOREM.md, "Delivery", counts them;
 - after one phase, or two with all-ack and majority-ack, the logs of the running members hold what had been accepted at them, and, but for best effort,
   what had been in their logs; with all-ack and majority-ack also what had been in the logs of members that stopped.
@@ -60,6 +62,7 @@ class Run:
         self.frames = collections.defaultdict(list)  # the frames that one node packed for another
         self.packets = []  # the numbers of those that were sent
         self.waiting = {}  # by node, other node and group
+        self.moments = collections.defaultdict(collections.deque)  # by the same, for each item that waits: how many frames were packed before it was put out
         self.said = collections.Counter()  # by group and node
         self.stopped = set()
         nodes = self.draw.randint(2, NODES)
@@ -102,6 +105,8 @@ class Run:
         items = self.reference.cluster.packets[-1].items
         self.frames[node, other].append(items)
         counts = collections.Counter(item.address for item in items)
+        for item in items:
+            self.count_packets(node, other, item.address)
         before = {group: waited for (one, two, group), waited in self.waiting.items() if (one, two) == (node, other)}
         for waited in before.values():
             waited.items.update(counts)
@@ -122,13 +127,26 @@ class Run:
             self.seen['shares with one item more'] += count == own + 1
         self.hold(waited.frames <= sum(waited.items.values()) < (len(others) + 1) * (own + 1), 'waiting', node, other, group, waited.items)
 
+    def count_packets(self, node, other, group):
+        """For how many packets the first item that waited in a group did so, the one that it is in among them."""
+        frames = self.frames[node, other]
+        begin = self.moments[node, other, group].popleft()
+        before = [item.address for items in frames[begin:-1] for item in items]
+        most = len({group, *before}) * (before.count(group) + 1)
+        waited = len(frames) - begin
+        self.hold(waited <= most, 'packets', node, other, group, waited, most)
+        self.seen['items that waited for one packet' if waited == 1 else 'items that waited for more'] += 1
+        self.seen['items that waited for more, and as long as they may'] += 1 < waited == most
+
     def watch(self, node):
         """Notes for which groups something waits at a node, and for which it began to."""
-        waits = {(node, other, group.address) for group in self.nodes[node].places() if group for other, queue in group.waiting.items() if queue}
+        waits = {(node, other, group.address): len(queue) for group in self.nodes[node].places() if group for other, queue in group.waiting.items() if queue}
         for key in [key for key in self.waiting if key[0] == node and key not in waits]:
             del self.waiting[key]
-        for key in waits:
+            self.moments[key].clear()
+        for key, count in waits.items():
             self.waiting.setdefault(key, Waiting())
+            self.moments[key].extend([len(self.frames[key[:2]])] * (count - len(self.moments[key])))
 
     def arrive(self, number):
         answer = self.do(f'arrive {number}')
