@@ -406,7 +406,9 @@ static LIMITS: [&str; 6] = [
 fn words_limit_what_tenants_may_ask(rt: HostRuntime) {
     let alloc = rt.alloc();
     for (place, options) in LIMITS.iter().enumerate() {
-        let line = format!(in alloc; "gb_serve --nodes 1 --base-port 1024 {options}").unwrap();
+        let line = format!(in alloc; "gb_serve --nodes 1 --base-port 1024 {options}").expect(
+            &rt, "memory",
+        );
         let found = read(alloc, &line);
         let want = wanted_limits(place);
         assert!(rt; matches!(found, Ok(plan) if plan.limits == want), "{line}");
@@ -432,18 +434,20 @@ fn limits_of_line(alloc: Global, line: &str) -> Result<TenantLimits, WordFault> 
 #[test]
 fn sixteen_tenants_have_limits_of_their_own(rt: HostRuntime) {
     let alloc = rt.alloc();
-    let sixteen = many_limits(alloc, 16).unwrap();
+    let sixteen = many_limits(alloc, 16).expect(&rt, "memory");
     let mut want = no_limits();
     for place in 0..16_usize {
         let tenant = 15 - place as u16;
         want.named[place] = Some(row(tenant, limit(tenant as u32, 1, 2)));
     }
-    let alone = format!(in alloc; "gb_serve --nodes 1 --base-port 1024{sixteen}").unwrap();
+    let alone = format!(in alloc; "gb_serve --nodes 1 --base-port 1024{sixteen}").expect(
+        &rt, "memory",
+    );
     assert!(rt; limits_of_line(alloc, &alone) == Ok(want));
     want.each = limit(5, 6, 7);
-    let with_each = format!(in alloc; "{alone} --tenant-limit 5:6:7").unwrap();
+    let with_each = format!(in alloc; "{alone} --tenant-limit 5:6:7").expect(&rt, "memory");
     assert!(rt; limits_of_line(alloc, &with_each) == Ok(want));
-    let seventeen = format!(in alloc; "{alone} --tenant-limit 16=0:0:0").unwrap();
+    let seventeen = format!(in alloc; "{alone} --tenant-limit 16=0:0:0").expect(&rt, "memory");
     assert!(rt; limits_of_line(alloc, &seventeen) == Err(WordFault::Refused));
     assert!(rt;
         is_said(
