@@ -204,7 +204,7 @@ fn serve_host<
 ) -> Result<(), PeerFault>
     requires plan { plan ≡ L.plan }
     requires limits { IsPlan plan }
-    requires member { start.entry.node.number < plan.cluster.nodes }
+    requires member { start.node.number < plan.cluster.nodes }
     requires pasts { (vec_len pasts ≡ plan.cluster.nodes) × AreBlank pasts.items }
     requires books { books_of pasts.items ≡ L.books }
     ensures told { OnOk result (Appends (W.contents writer.old) (W.contents writer.new) service.now.line.items) }
