@@ -22,6 +22,7 @@ mod limits;
 mod lists;
 #[cfg(test)]
 mod loops;
+#[cfg(test)]
 mod pairs;
 #[cfg(test)]
 mod rates;
