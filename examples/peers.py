@@ -170,11 +170,12 @@ class Node:
             raise Wrong(f"node {self.number} ended with status {status} and printed {self.printed()}")
 
     def figures(self) -> Dict[str, int]:
-        """Return the node's figures, as its status page tells them."""
+        """Return the figures of the node's status page that are whole numbers."""
         url = f"http://127.0.0.1:{self.cluster.status_port(self.number)}/metrics"
         with urllib.request.urlopen(url, timeout=10) as reply:
             lines = reply.read().decode("ascii").splitlines()
-        return {line.rpartition(" ")[0]: int(line.rpartition(" ")[2]) for line in lines if not line.startswith("#")}
+        rows = [line.rpartition(" ") for line in lines if not line.startswith("#")]
+        return {name: int(value) for name, _, value in rows if value.isdigit()}
 
     def figure(self, name: str, label: str = "") -> int:
         """Return one of the figures. `label` is as `fault="tag"`."""
@@ -461,6 +462,8 @@ class Stages:
         """Start all nodes, with a tenant and with groups of the three."""
         self.cluster.order(f"capture {self.capture}")
         self.start(NODES)
+        nodes = [self.cluster.nodes[node] for node in NODES]
+        wait_for("the ticks of all nodes", lambda: all(node.figure("foqradesh_ticks_total") > 0 for node in nodes))
         self.tell(f"nodes {names(NODES)} serve")
         self.take_tenant_in()
         self.tell(f"tenant {TENANT} is taken in at each node")

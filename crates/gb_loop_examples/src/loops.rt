@@ -185,7 +185,8 @@ fn open_sockets<N: Net<Listener = TcpListener, Stream = TcpStream>>(
     })
 }
 
-// Runs the loop of a host's node, and closes the host. Returns true if the seat that the loop hands back is one of this host.
+// Runs the loop of a host's node, and closes the host. Returns true if the seat that the loop hands back is one of this host. `None` if the
+// cluster has no such node, or memory was refused.
 fn run_host<
     L: Tapes,
     H: Wait + Clock,
@@ -208,7 +209,11 @@ fn run_host<
     requires pasts { (vec_len pasts ≡ plan.cluster.nodes) × AreBlank pasts.items }
     requires books { books_of pasts.items ≡ L.books }
 {
-    let (host, mut seats, _) = Host::<L>::open(alloc, plan, only(sockets.node), 1, pasts).ok()?;
+    let node = sockets.node;
+    if node.number >= plan.cluster.nodes {
+        return None;
+    }
+    let (host, mut seats, _) = Host::<L>::open(alloc, plan, only(node), 1, pasts).ok()?;
     let seat = seats.pop()?;
     let Parts { seat, .. } = run_loop(
         rt, net, alloc, &host, seat, sockets, options, &Unsettled, ending,

@@ -62,12 +62,12 @@ fn stir<H: Net<Stream = TcpStream> + Clock>(rt: &H, port: u16, count: usize) -> 
     let Some(mut stream) = connect(rt, port) else {
         return 0;
     };
-    let mut right = 0;
+    let mut right: usize = 0;
     let mut reply = [0u8; 20];
     for at in 0..count {
         let is_asked = stream.write_all(OPENS[at % 2]).is_ok();
         if is_asked && stream.read_exact(&mut reply).is_ok() && reply.as_slice() == DENIED {
-            right += 1;
+            right = right.saturating_add(1);
         }
     }
     right
@@ -127,10 +127,10 @@ fn wake_crowd<H: Net<Stream = TcpStream> + Clock>(
     let mut waiting = waiters(rt, alloc, 24_600, 200)?;
     let _ = figure_at_last(rt, alloc, &mut admin, b"connections_waiting=", 200)?;
     ask(alloc, &mut admin, Head::Group(CommandHead::Say), "7 1 hi")?;
-    let mut right = 0;
+    let mut right: usize = 0;
     for member in &mut waiting {
         if told(alloc, member)?.as_slice() == b"log 1 0:1:6869".as_slice() {
-            right += 1;
+            right = right.saturating_add(1);
         }
     }
     Ok(right)
