@@ -1,4 +1,6 @@
 // How a server is: by the age of its loops' ticks, and by how many other nodes a node has noticed.
+ghost use Rattle.std.specs.Prelude.{◌<◌};
+
 use gb_server::pulse::{Cluster, Pulses, patience_of};
 use gb_status::health::health_of;
 use gb_status::{Board, Figure, Figures, Health, NodeHealth};
@@ -13,7 +15,9 @@ fn figures(running: u64) -> Figures {
 }
 
 // Returns a set of one node.
-fn only(number: u8) -> NodeSet {
+fn only(number: u8) -> NodeSet
+    requires { number < 32 }
+{
     let mut nodes = NodeSet::new();
     nodes.insert(NodeId::new(number));
     nodes
