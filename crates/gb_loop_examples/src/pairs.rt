@@ -210,7 +210,8 @@ fn open<'a, N: Net<Listener = TcpListener, Stream = TcpStream>>(
     })
 }
 
-// Runs the loop of a node of a pair. Returns whether it ran and its host was closed well. All loops of the pair end then.
+// Runs the loop of a node of a pair. Returns whether it ran and its host was closed well, and false if the plan is none of a pair. All
+// loops of the pair end then.
 fn run_one<H: Wait + Clock, N: Net<Listener = TcpListener, Stream = TcpStream>>(
     rt: &H,
     net: &N,
@@ -218,12 +219,14 @@ fn run_one<H: Wait + Clock, N: Net<Listener = TcpListener, Stream = TcpStream>>(
     alone: Alone,
     node: NodeId,
     pair: &Pair,
-) -> bool
-    requires node { node.number ≤ 1 }
-    requires nodes { alone.nodes ≡ 2 }
-    requires silence { (2 ≤ alone.silence) × (alone.silence ≤ 1000) }
-    requires port { (1024 ≤ alone.port) × (alone.port ≤ 32000) }
-{
+) -> bool {
+    let is_member = node.number <= 1 && alone.nodes == 2;
+    let is_timed = 2 <= alone.silence && alone.silence <= 1000;
+    let has_ports = 1024 <= alone.port && alone.port <= 32000;
+    if !is_member || !is_timed || !has_ports {
+        pair.end();
+        return false;
+    }
     let options = options_of(alone, RateLimits::none());
     let ending = if node.number == 0 {
         &pair.ends[0]
@@ -242,11 +245,7 @@ fn run_one<H: Wait + Clock, N: Net<Listener = TcpListener, Stream = TcpStream>>(
 fn run_both<
     H: Wait + Clock + Threads + Sync,
     N: Net<Listener = TcpListener, Stream = TcpStream> + Sync,
->(rt: &H, net: &N, alloc: Global, alone: Alone, pair: &Pair) -> bool
-    requires nodes { alone.nodes ≡ 2 }
-    requires silence { (2 ≤ alone.silence) × (alone.silence ≤ 1000) }
-    requires port { (1024 ≤ alone.port) × (alone.port ≤ 32000) }
-{
+>(rt: &H, net: &N, alloc: Global, alone: Alone, pair: &Pair) -> bool {
     let (first, second) = thread::join(
         rt,
         || run_one(rt, net, alloc, alone, NodeId::new(0), pair),

@@ -87,7 +87,8 @@ fn fetches_of_strangers<H: Net<Stream = TcpStream> + Clock>(
     let denied = stir(rt, 24_564, 200);
     let after = figure(alloc, &mut admin, b"requests_fetch=")?;
     let _ = reply(alloc, &mut admin, Head::Group(CommandHead::Shut), "7 1")?;
-    let woken = figure_at_last(rt, alloc, &mut admin, b"requests_fetch=", after + 20)?;
+    let enough = after.saturating_add(20);
+    let woken = figure_at_last(rt, alloc, &mut admin, b"requests_fetch=", enough)?;
     drop(waiting);
     Ok((
         after.saturating_sub(before),
