@@ -84,7 +84,7 @@ impl<'a, R> Clock for Steps<'a, R> {
     }
 }
 
-// A node of two, and one of eight, whose ticks take three steps of that clock.
+// A node of two, and one of eight. A round reads that clock twice, so a tick takes two rounds, 2,800 microseconds.
 const STEPS_OF_TWO: Alone = Alone {
     nodes: 2,
     silence: 25,
@@ -122,17 +122,17 @@ fn notice_in_steps<H: Wait + Net<Listener = TcpListener, Stream = TcpStream>>(
     notice(&clock, rt, alloc, alone)
 }
 
-// By that clock silence lasts exactly as long as its ticks take: 25 times three steps, and two before the first tick and behind the last.
+// By that clock silence lasts as long as its 25 ticks take, give or take one tick.
 #[test]
 fn silence_lasts_its_ticks(rt: HostRuntime) {
     let alloc = rt.alloc();
     let two = notice_in_steps(&rt, alloc, STEPS_OF_TWO);
     let eight = notice_in_steps(&rt, alloc, STEPS_OF_EIGHT);
-    assert!(rt; two.0 && two.1 == 25 && two.2 >= 52_500 && two.2 <= 54_600);
-    assert!(rt; eight.0 && eight.1 == 25 && eight.2 >= 52_500 && eight.2 <= 54_600);
+    assert!(rt; two.0 && two.1 == 25 && two.2 >= 67_200 && two.2 <= 72_800);
+    assert!(rt; eight.0 && eight.1 == 25 && eight.2 >= 67_200 && eight.2 <= 72_800);
 }
 
-// A node of two whose ticks wait for the other one, which never comes, until the tenth would be due.
+// A node of two whose ticks wait for the other one, which never comes, until the eighth would be due.
 const WAITING: Alone = Alone {
     nodes: 2,
     silence: 25,
@@ -146,7 +146,7 @@ const WAITING: Alone = Alone {
 #[test]
 fn ticks_wait_for_a_node_that_never_comes(rt: HostRuntime) {
     let two = notice_in_steps(&rt, rt.alloc(), WAITING);
-    assert!(rt; two.0 && two.1 == 25 && two.2 >= 71_400 && two.2 <= 73_500);
+    assert!(rt; two.0 && two.1 == 25 && two.2 >= 86_800 && two.2 <= 92_400);
 }
 
 static TWO: [&str; 5] = ["gb_serve", "--nodes=2", "--base-port=26400", "--tick", "20"];
