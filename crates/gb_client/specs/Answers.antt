@@ -5,7 +5,7 @@ use Rattle.gb_types.specs.declared.{entry.Entry.Entry, refusal.Refusal.Refusal, 
 use Rattle.gb_types.specs.Common.{refusal_number, refusal_name}
 use Rattle.gb_spelling.specs.Common.{payload_word, entry_text}
 use Rattle.gb_client.specs.declared.fault.ClientFault.{ClientFault}
-use Rattle.gb_client.specs.declared.fault.ClientFault.TheVariants.{Words, Secrets, Missing, NoExport, Connection, Lost, Late, NoReply, Output, OutOfMemory}
+use Rattle.gb_client.specs.declared.fault.ClientFault.TheVariants.{Words, Missing, NoExport, Connection, Lost, Late, NoReply, Output, OutOfMemory}
 
 -- the exit status for a reply: 1 for a refusal, else 0
 abbrev pub reply_status : Reply → ℕ
@@ -15,7 +15,6 @@ reply_status other = 0
 -- the exit status for a fault: 2 for wrong words or secrets or a text that is no exported log, 4 where it was asked and no reply came, else 3
 abbrev pub status_of_fault : ClientFault → ℕ
 status_of_fault Words = 2
-status_of_fault Secrets = 2
 status_of_fault Missing = 2
 status_of_fault NoExport = 2
 status_of_fault Connection = 3

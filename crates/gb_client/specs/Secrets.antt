@@ -1,10 +1,11 @@
 -- The keys and the token that a client is given.
-use Rattle.std.specs.Prelude.{ℕ, ◌==◌, List, codes, length, drop, fold, nat_eq, Option, Some, None, if◌then◌else◌, option_map, option_and_then}
+use Rattle.std.specs.Prelude.{◌≡◌, ◌≤◌, ◌<◌, ◌+◌, ℕ, ◌==◌, List, codes, length, drop, take, fold, nat_eq, Option, Some, None, if◌then◌else◌, option_map, option_and_then}
 use Rattle.std.specs.List.{starts_with, slice_split}
 use Rattle.gb_spelling.specs.TokenWord.{token_of as word_token}
 use Rattle.gb_cap.specs.Token.{token_of}
 use Rattle.gb_cap.specs.declared.{token.Need.Need, token.Need.TheVariants.Admin, token.Need.TheVariants.Tenant, token.Need.TheVariants.Member}
-use Rattle.gb_client.specs.declared.secrets.Secrets.{Secrets}
+use Rattle.gb_client.specs.declared.secrets.{Secrets.Secrets, SecretsFault.SecretsFault}
+use Rattle.gb_client.specs.declared.secrets.SecretsFault.TheVariants.{Unread, TooLong, Line, OutOfMemory}
 
 -- the secrets with those of one more line: `admin KEY`, `tenant KEY` or `token TOKEN`; an empty line has none
 abbrev pub with_line : Secrets → List ℕ → Option Secrets
@@ -22,9 +23,35 @@ with_next found line = option_and_then (λ s. with_line s line) found
 abbrev pub no_secrets : Secrets
 no_secrets = record { admin = None; tenant = None; token = None }
 
--- the secrets of a text, line by line; none where a line is bad
+-- the secrets of lines, one by one; none where a line is bad
+abbrev pub secrets_in : List (List ℕ) → Option Secrets
+secrets_in lines = fold with_next (Some no_secrets) lines
+
+-- the lines of a text, without their line feeds
+abbrev pub lines_in : List ℕ → List (List ℕ)
+lines_in text = slice_split (λ byte. byte == 10) text
+
+-- the secrets of a text
 abbrev pub secrets_of : List ℕ → Option Secrets
-secrets_of text = fold with_next (Some no_secrets) (slice_split (λ byte. byte == 10) text)
+secrets_of text = secrets_in (lines_in text)
+
+-- the first bad line stands at this place: the lines before it have secrets, and with it there are none
+abbrev pub IsBadPlace : List (List ℕ) → ℕ → Type 0
+IsBadPlace lines place = (before : Secrets) × (secrets_in (take place lines) ≡ Some before) × (secrets_in (take (place + 1) lines) ≡ None)
+
+-- why a text is refused as one of secrets: it is too long, or its line of this number, from 1, is the first bad one; lack of memory says nothing of it
+abbrev pub IsSecretsFault : List ℕ → SecretsFault → Type 0
+IsSecretsFault text Unread = ⊥
+IsSecretsFault text TooLong = 65536 < length text
+IsSecretsFault text (Line number) = (length text ≤ 65536) × ((place : ℕ) × (number ≡ place + 1) × IsBadPlace (lines_in text) place)
+IsSecretsFault text OutOfMemory = Unit {0}
+
+-- the exit status of the client where secrets are refused
+abbrev pub secrets_status : SecretsFault → ℕ
+secrets_status Unread = 2
+secrets_status TooLong = 2
+secrets_status (Line number) = 2
+secrets_status OutOfMemory = 3
 
 -- the key under which the token for a need is made
 abbrev pub key_for : Secrets → Need → Option (List ℕ)

@@ -12,9 +12,6 @@ pub enum ClientFault {
     /// The words behind the subcommand spell no request, or no token can be made of them.
     #[error("the words after the subcommand spell no request")]
     Words,
-    /// The secrets cannot be read, or a line of them is not `admin KEY`, `tenant KEY` or `token TOKEN`.
-    #[error("the secrets cannot be read, or a line of them is not admin KEY, tenant KEY or token TOKEN with 64 hexadecimal digits")]
-    Secrets,
     /// A key or token that is needed is not among the secrets.
     #[error("a key that is needed is not among the secrets")]
     Missing,
@@ -41,15 +38,14 @@ pub enum ClientFault {
     OutOfMemory,
 }
 
-/// Returns the exit status of the client for a fault. 2: the words or secrets are wrong or missing, or what is to be imported is no
+/// Returns the exit status of the client for a fault. 2: the words are wrong, a secret is missing, or what is to be imported is no
 /// exported log. 3: there was no connection, what came is no reply to the request, output could not be written, or memory ran out. 4: the
 /// request was sent, and its outcome is unknown.
 pub fn fault_status(fault: ClientFault) -> u8
     ensures { result ≡ status_of_fault fault }
 {
     match fault {
-        ClientFault::Words | ClientFault::Secrets | ClientFault::Missing | ClientFault::NoExport =>
-            2,
+        ClientFault::Words | ClientFault::Missing | ClientFault::NoExport => 2,
         ClientFault::Connection
         | ClientFault::NoReply
         | ClientFault::Output

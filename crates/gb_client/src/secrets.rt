@@ -1,6 +1,5 @@
 //! The secrets that a client is given: keys of which it makes tokens, or a token.
-ghost use Rattle.std.specs.Prelude.{◌≡◌, ◌==◌, None, Some, IfOk, IfErr, fold, map};
-ghost use Rattle.std.specs.List.{slice_split};
+ghost use Rattle.std.specs.Prelude.{◌≡◌, ◌≤◌, ◌<◌, None, Some, IfOk, IfErr, length, map};
 
 use crate::fault::ClientFault;
 use gb_cap::token::token;
@@ -8,6 +7,7 @@ use gb_cap::{Need, Token};
 use gb_spelling::token_word::read_token;
 use gb_types::OutOfMemory;
 use std::alloc::Global;
+use thiserror::Error;
 
 /// What a client knows to make tokens of, or to give as a token.
 #[derive(Clone, Copy)]
@@ -20,7 +20,41 @@ pub struct Secrets {
     pub token: Option<[u8; 32]>,
 }
 
-ghost use Rattle.gb_client.specs.Secrets.{with_line, with_next, no_secrets, secrets_of, token_for};
+/// The bytes of the longest text of secrets.
+pub const SECRETS: usize = 65_536;
+
+// Contracts name this value.
+const _: () = prove!(SECRETS == 65_536);
+
+/// Why secrets are refused.
+#[derive(Clone, Copy, Debug, PartialEq, Eq, Error)]
+pub enum SecretsFault {
+    /// Their text cannot be read.
+    #[error("the secrets cannot be read")]
+    Unread,
+    /// Their text has more than 65,536 bytes.
+    #[error("the secrets have more than 65536 bytes")]
+    TooLong,
+    /// The line of this number, from 1, is wrong. It is the first such line.
+    #[error("line {0} is not admin KEY, tenant KEY or token TOKEN with 64 hexadecimal digits")]
+    Line(usize),
+    /// A request for memory was refused.
+    #[error("out of memory")]
+    OutOfMemory,
+}
+
+impl From<OutOfMemory> for SecretsFault {
+    ghost use Rattle.std.specs.Prelude.{◌≡◌};
+    ghost use Rattle.gb_client.specs.declared.secrets.SecretsFault.TheVariants.{OutOfMemory as NoMemory};
+
+    ghost from_gives = { λ _ fault. fault ≡ NoMemory };
+
+    fn from(_fault: OutOfMemory) -> SecretsFault {
+        SecretsFault::OutOfMemory
+    }
+}
+
+ghost use Rattle.gb_client.specs.Secrets.{lines_in, with_line, secrets_in, secrets_of, secrets_status, token_for, IsBadPlace, IsSecretsFault};
 
 // The secrets with those of one more line. None where the line is bad.
 fn add_line(secrets: Secrets, line: &[u8]) -> Option<Secrets>
@@ -45,46 +79,58 @@ fn add_line(secrets: Secrets, line: &[u8]) -> Option<Secrets>
     None
 }
 
-// The secrets with those of one more line, where there are any.
-fn add_next(found: Option<Secrets>, line: &[u8]) -> Option<Secrets>
-    ensures { result ≡ with_next found line.now }
+// The secrets of some lines. `Err` with the place of the first bad one.
+fn add_lines(lines: &[&[u8]]) -> Result<Secrets, usize>
+    ensures ok { IfOk result (λ secrets. secrets_in (map (λ line. line.now) lines.now) ≡ Some secrets) }
+    ensures bad { IfErr result (IsBadPlace (map (λ line. line.now) lines.now)) }
+    ensures there { IfErr result (λ place. place < length lines.now) }
 {
-    match found {
-        Some(secrets) => add_line(secrets, line),
-        None => None,
-    }
-}
-
-// The secrets of some lines.
-#[tactic(auto, using(crate::proofs::SecretLemmas::fold_next))]
-fn add_lines(lines: &[&[u8]]) -> Option<Secrets>
-    ensures { result ≡ fold with_next (Some no_secrets) (map (λ line. line.now) lines.now) }
-{
-    let mut found = Some(Secrets {
+    let mut secrets = Secrets {
         admin: None,
         tenant: None,
         token: None,
-    });
-    for line in lines {
-        found = add_next(found, line);
+    };
+    'lines: for (place, line) in lines.iter().enumerate() {
+        match add_line(secrets, line) {
+            Some(more) => secrets = more,
+            None => return Err(place),
+        }
     }
-    found
+    Ok(secrets)
 }
 
 // The lines of a text, without their line feeds.
 fn split_lines(alloc: Global, text: &[u8]) -> Result<Vec<&[u8]>, OutOfMemory>
-    ensures { IfOk result (λ lines. map (λ line. line.now) lines.items ≡ slice_split (λ byte. byte == 10) text.now) }
+    ensures { IfOk result (λ lines. map (λ line. line.now) lines.items ≡ lines_in text.now) }
 {
     Ok(text.split(|byte| *byte == b'\n').collect(alloc)?)
 }
 
 /// Returns the secrets that `text` has, in lines `admin KEY`, `tenant KEY` and `token TOKEN`, each with 64 hexadecimal digits. Empty
-/// lines are skipped, and of two lines with one word the later counts. `None` if any other line stands there. `Err` if memory runs out.
-pub fn read_secrets(alloc: Global, text: &[u8]) -> Result<Option<Secrets>, OutOfMemory>
-    ensures { IfOk result (λ found. found ≡ secrets_of text.now) }
+/// lines are skipped, and of two lines with one word the later counts. `Err` with `TooLong` if the text has more than 65,536 bytes, with
+/// `Line` if another line stands there, and with `OutOfMemory`.
+pub fn read_secrets(alloc: Global, text: &[u8]) -> Result<Secrets, SecretsFault>
+    ensures ok { IfOk result (λ secrets. (length text.now ≤ 65536) × (secrets_of text.now ≡ Some secrets)) }
+    ensures fault { IfErr result (IsSecretsFault text.now) }
 {
+    if text.len() > SECRETS {
+        return Err(SecretsFault::TooLong);
+    }
     let lines = split_lines(alloc, text)?;
-    Ok(add_lines(&lines))
+    match add_lines(&lines) {
+        Ok(secrets) => Ok(secrets),
+        Err(place) => Err(SecretsFault::Line(place + 1)),
+    }
+}
+
+/// Returns the exit status of the client for secrets that are refused: 3 if memory ran out, otherwise 2.
+pub fn secrets_status(fault: SecretsFault) -> u8
+    ensures { result ≡ secrets_status fault }
+{
+    match fault {
+        SecretsFault::Unread | SecretsFault::TooLong | SecretsFault::Line(_) => 2,
+        SecretsFault::OutOfMemory => 3,
+    }
 }
 
 impl Secrets {

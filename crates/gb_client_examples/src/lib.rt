@@ -1,5 +1,5 @@
-//! The client, as tests: what it asks of nodes and what it prints of their replies, how its runs end, logs that are followed, and directory files. This crate has
-//! tests only.
+//! The client, as tests: what it asks of nodes and what it prints of their replies, how its runs end, logs that are followed, directory
+//! files, texts of secrets, and connections that were closed. This crate has tests only.
 #![tactic(auto)]
 
 #[cfg(test)]
@@ -12,3 +12,7 @@ mod followed;
 mod replies;
 #[cfg(test)]
 mod runs;
+#[cfg(test)]
+mod secret_texts;
+#[cfg(test)]
+mod sockets;

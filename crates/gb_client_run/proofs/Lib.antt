@@ -4,3 +4,4 @@ pub mod ExportLemmas
 pub mod ImportLemmas
 mod ListingLemmas
 mod RunningLemmas
+mod SecretTextLemmas

@@ -17,6 +17,7 @@ pub mod once;
 pub mod printing;
 pub mod rows;
 pub mod running;
+pub mod secrets;
 pub mod sockets;
 pub mod target;
 

@@ -5,6 +5,7 @@ use crate::nodes::Nodes;
 use gb_client::ClientFault;
 use gb_client::exchange::{receive, send};
 use std::alloc::Global;
+use std::io::ErrorKind;
 use std::net::{Net, TcpStream};
 use std::thread;
 use std::time::{Clock, Duration};
@@ -42,6 +43,20 @@ pub fn connect<H: Net<Stream = TcpStream>>(
     Ok(stream)
 }
 
+/// Returns true if the other end closed the connection, or it broke, and nothing is left to read. Does not wait. A node closes a
+/// connection without a word if it has too many.
+pub fn is_closed(stream: &TcpStream) -> bool {
+    let mut space = [0u8; 1];
+    if stream.set_nonblocking(true).is_err() {
+        return true;
+    }
+    let is_closed = match stream.peek(&mut space) {
+        Ok(count) => count == 0,
+        Err(error) => error.kind() != ErrorKind::WouldBlock,
+    };
+    stream.set_nonblocking(false).is_err() || is_closed
+}
+
 /// The nodes of a server, each message on a connection of its own.
 #[derive(Drop)]
 pub struct Sockets<'a, H> {
@@ -66,7 +81,10 @@ impl<H: Net<Stream = TcpStream>> Nodes for Sockets<'_, H> {
 
     fn ask(&mut self, alloc: Global, port: u16, body: &[u8]) -> Result<Vec<u8>, ClientFault> {
         let mut stream = connect(self.rt, self.list, port, self.seconds)?;
-        send(&mut stream, body)?;
+        // Of a message that could not be sent whole a node reads no request.
+        if is_closed(&stream) || send(&mut stream, body).is_err() {
+            return Err(ClientFault::Connection);
+        }
         receive(alloc, &mut stream)
     }
 }

@@ -2,12 +2,13 @@
 #![tactic(auto)]
 
 use clap::error::ErrorKind;
-use gb_client::secrets::read_secrets;
+use gb_client::secrets::SecretsFault;
 use gb_client::{ClientFault, Errand, Secrets, Server, Task};
 use gb_client_run::ending::{end_run, refuse_file};
 use gb_client_run::following::WAIT;
 use gb_client_run::listed::list;
 use gb_client_run::running::run_task;
+use gb_client_run::secrets::{refuse_secrets, secrets_from};
 use gb_client_run::sockets::connect;
 use gb_client_run::{ListFault, Listed, Pausing, Sockets};
 use gb_client_words::fault::plan_status;
@@ -23,24 +24,10 @@ use std::process::ExitCode;
 use std::{io, str};
 use toml::Value;
 
-// The bytes of the longest text of secrets.
-const SECRETS: u64 = 65_536;
-
-const _: () = prove!(SECRETS == 65_536);
-
 // The bytes of the longest text of a log that is imported. A log has at most 32 times 1,024 entries, and 32 times 65,536 bytes in them.
 const LOG: u64 = 8_388_608;
 
 const _: () = prove!(LOG == 8_388_608);
-
-// What may be read of the secrets.
-fn read_some<R: Read + Drop>(alloc: Global, reader: R) -> Result<Vec<u8>, ClientFault> {
-    let mut text = Vec::new(alloc);
-    match reader.take(SECRETS).read_to_end(&mut text) {
-        Ok(_) => Ok(text),
-        Err(_) => Err(ClientFault::Secrets),
-    }
-}
 
 // What may be read of a log's text.
 fn read_log<R: Read + Drop>(alloc: Global, reader: R) -> Result<Vec<u8>, ClientFault> {
@@ -52,18 +39,14 @@ fn read_log<R: Read + Drop>(alloc: Global, reader: R) -> Result<Vec<u8>, ClientF
 }
 
 // The secrets of a file, or of standard input.
-fn secrets_of(rt: &HostRuntime, path: Option<&str>) -> Result<Secrets, ClientFault> {
+fn given_secrets(rt: &HostRuntime, path: Option<&str>) -> Result<Secrets, SecretsFault> {
     let alloc = rt.alloc();
-    let text = match path {
+    match path {
         Some(path) => match File::open(rt, path) {
-            Ok(file) => read_some(alloc, file)?,
-            Err(_) => return Err(ClientFault::Secrets),
+            Ok(file) => secrets_from(alloc, file),
+            Err(_) => Err(SecretsFault::Unread),
         },
-        None => read_some(alloc, rt.reader())?,
-    };
-    match read_secrets(alloc, &text)? {
-        Some(secrets) => Ok(secrets),
-        None => Err(ClientFault::Secrets),
+        None => secrets_from(alloc, rt.reader()),
     }
 }
 
@@ -180,7 +163,13 @@ fn go_by(
 
 // Does what the plan says. The exit status, or the fault that came before it.
 fn obey_plan(rt: &HostRuntime, plan: &Plan<'_>) -> Result<u8, ClientFault> {
-    let secrets = secrets_of(rt, plan.secrets)?;
+    let secrets = match given_secrets(rt, plan.secrets) {
+        Ok(secrets) => secrets,
+        Err(fault) => {
+            let name = plan.secrets.unwrap_or("standard input");
+            return Ok(refuse_secrets(name, fault, &mut rt.stderr()));
+        }
+    };
     match (&plan.task, plan.lookup) {
         (Task::At(_, errand), Some(lookup)) => go_by(rt, lookup, &secrets, &plan.task, errand),
         _ => go(rt, None, &secrets, &plan.task),
