@@ -10,3 +10,4 @@ pub mod UsageLemmas
 pub mod MemberListLemmas
 pub mod ObservationLemmas
 pub mod OrderLemmas
+pub mod NoticeLemmas

@@ -1,11 +1,11 @@
 -- One group, by itself: no links, frames, packets or other groups. Histories have the newest first.
-use Rattle.std.specs.Prelude.{ℕ, zero, suc, ◌+◌, ◌-◌, ◌≡◌, ◌≤◌, ◌<◌, ◌&&◌, ◌||◌, not, Bool, true, false, List, [], ◌∷◌, ◌++◌, length, fold, take, Option, Some, None, is_some, option_map, slice_get, nat_eq, nat_lt, if◌then◌else◌}
+use Rattle.std.specs.Prelude.{ℕ, zero, suc, ◌+◌, ◌-◌, ◌≡◌, ◌≢◌, ◌≤◌, ◌<◌, ◌&&◌, ◌||◌, not, Bool, true, false, List, [], ◌∷◌, ◌++◌, length, fold, take, Option, Some, None, is_some, option_map, slice_get, nat_eq, nat_lt, if◌then◌else◌}
 use Rattle.std.specs.{List.list_all, List.list_any, List.range_with_len, Option.option_map_or}
 use Rattle.gb_types.specs.Common.{rising, version_at}
 use Rattle.gb_types.specs.declared.{entry.Entry.Entry, node.NodeId.NodeId, plan.Bounds.Bounds, refusal.Refusal.TheVariants.Stopped, reply.Reply.Reply, spec.Spec.Spec, version.Version.Version, address.Addr.Addr, reply.Reply.TheVariants.Done, reply.Reply.TheVariants.Said, reply.Reply.TheVariants.Refused}
 use Rattle.gb_layer.specs.Common.{was_noticed}
 use Rattle.gb_rules.specs.Common.{calls_of, said_in, bytes_in, log_of, puts_of, falls_after, Shown, is_gone, is_other, is_too_long, open_answer, shut_answer, drop_answer, say_answer, fetch_answer, on_made, make_answer, by_tenant}
-use Rattle.gb_rules.specs.declared.{call.GroupCall.GroupCall, phase.Phase.Phase, usage.Usage.Usage, reserve.Reserve.Reserve, call.GroupCall.TheVariants.Own, call.GroupCall.TheVariants.Other, call.GroupCall.TheVariants.Crashed}
+use Rattle.gb_rules.specs.declared.{room.TheConstants.GENERATIONS, call.GroupCall.GroupCall, phase.Phase.Phase, usage.Usage.Usage, reserve.Reserve.Reserve, call.GroupCall.TheVariants.Own, call.GroupCall.TheVariants.Other, call.GroupCall.TheVariants.Crashed}
 use Rattle.gb_rules.specs.declared.phase.Phase.TheVariants.{Made, Opened, Shut, Gone}
 use Rattle.gb_alone.specs.declared.{event.GroupEvent.GroupEvent, event.GroupStep.GroupStep}
 use Rattle.gb_alone.specs.declared.event.GroupEvent.TheVariants.{Tenant, Make as AskMake, Open as AskOpen, Shut as AskShut, Drop as AskDrop, Say as AskSay, Fetch as AskFetch, OtherMade, OtherDropped, Took, Came, Done as Acknowledged, Notice, Stop}
@@ -190,21 +190,28 @@ alone bounds addr steps = fold (after bounds addr) nobody steps
 abbrev pub alone_from : Bounds → Addr → Group → List GroupStep → Group
 alone_from bounds addr group steps = fold (after bounds addr) group steps
 
--- What may happen next: items that wait are taken, a carried item comes once, an item that came is acknowledged once, and a node is noticed once at another.
--- None of these happens at a stopped node. Commands, tenants, stops, and makes and drops of other generations may happen always.
-abbrev pub MayHappen : NodeId → GroupEvent → Group → Type 0
-MayHappen me (Took b count) group = ((group me.number).stopped ≡ false) × (0 < count) × ((group me.number).taken b.number + count ≤ length ((group me.number).put b.number))
-MayHappen me (Came from place) group =
+-- the number of generations of the group's room that live at the node, this one among them
+abbrev pub living : Member → ℕ
+living m = m.others + (if is_some (held_spec m.phase m.spec) then 1 else 0)
+
+-- What may happen next: the tenant is taken in once; another generation of the room is made where fewer than four live, and one is dropped where another lives; items that wait are taken,
+-- a carried item comes once, an item that came is acknowledged once, and a node is noticed once at another. None of these happens at a stopped node. Commands and stops may happen always.
+abbrev pub MayHappen : Addr → NodeId → GroupEvent → Group → Type 0
+MayHappen addr me (Tenant reserve) group = ((group me.number).stopped ≡ false) × ((group me.number).reserve ≡ None)
+MayHappen addr me (OtherMade generation) group = ((group me.number).stopped ≡ false) × (generation ≢ addr.generation) × (living (group me.number) < GENERATIONS)
+MayHappen addr me OtherDropped group = ((group me.number).stopped ≡ false) × (0 < (group me.number).others)
+MayHappen addr me (Took b count) group = ((group me.number).stopped ≡ false) × (0 < count) × ((group me.number).taken b.number + count ≤ length ((group me.number).put b.number))
+MayHappen addr me (Came from place) group =
     ((group me.number).stopped ≡ false) × (0 < place) × (place ≤ (group from.number).taken me.number) × (is_marked place ((group me.number).come from.number) ≡ false)
-MayHappen me (Acknowledged b place count) group =
+MayHappen addr me (Acknowledged b place count) group =
     ((group me.number).stopped ≡ false) × (0 < count)
     × ((p : ℕ) → place ≤ p → p < place + count → (is_marked p ((group b.number).come me.number) ≡ true) × (is_marked p ((group me.number).done b.number) ≡ false))
-MayHappen me (Notice q) group = ((group me.number).stopped ≡ false) × (is_marked q.number (group me.number).noticed ≡ false)
-MayHappen me event group = Unit {0}
+MayHappen addr me (Notice q) group = ((group me.number).stopped ≡ false) × (is_marked q.number (group me.number).noticed ≡ false)
+MayHappen addr me event group = Unit {0}
 
 abbrev pub IsLegalFrom : Bounds → Addr → Group → List GroupStep → Type 0
 IsLegalFrom bounds addr group [] = Unit {0}
-IsLegalFrom bounds addr group (step ∷ steps) = MayHappen step.node step.event group × IsLegalFrom bounds addr (after bounds addr group step) steps
+IsLegalFrom bounds addr group (step ∷ steps) = MayHappen addr step.node step.event group × IsLegalFrom bounds addr (after bounds addr group step) steps
 
 -- each event may happen at its place in the list
 abbrev pub IsLegal : Bounds → Addr → List GroupStep → Type 0

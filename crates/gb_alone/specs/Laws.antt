@@ -1,11 +1,12 @@
 -- What holds of every group alone, and so of each group in a cluster. A law speaks of every legal list of events. Each beginning of a legal list is
 -- legal too, so what a law says of the whole list it says at every moment: a message was accepted before it stands in any log.
-use Rattle.std.specs.Prelude.{ℕ, ◌-◌, ◌≡◌, ◌≤◌, ◌<◌, List, [], ◌∷◌, ◌++◌, All, count_by, map, Option, Some, None, slice_get, nat_eq, if◌then◌else◌}
+use Rattle.std.specs.Prelude.{ℕ, ◌-◌, ◌≡◌, ◌≤◌, ◌<◌, true, List, [], ◌∷◌, ◌++◌, All, count_by, map, Option, Some, None, slice_get, nat_eq, if◌then◌else◌}
 use Rattle.gb_types.specs.Common.{message_of, same}
-use Rattle.gb_types.specs.declared.{entry.Entry.Entry, kind.Order.TheVariants.Fifo, message.MsgId.MsgId, plan.Bounds.Bounds, reply.Reply.Reply, reply.Reply.TheVariants.Said, spec.Spec.Spec, address.Addr.Addr}
+use Rattle.gb_types.specs.declared.{entry.Entry.Entry, kind.Order.TheVariants.Fifo, message.MsgId.MsgId, node.NodeId.NodeId, plan.Bounds.Bounds, reply.Reply.Reply, reply.Reply.TheVariants.Said, spec.Spec.Spec, address.Addr.Addr}
 use Rattle.gb_fifo.specs.Order.{RunsFromOne}
+use Rattle.gb_rules.specs.Common.{has_noticed, is_other}
 use Rattle.gb_alone.specs.Alone.{Group, Member, reply_to, after, nobody, alone, log_at, held_spec, IsLegal}
-use Rattle.gb_alone.specs.declared.{event.GroupEvent.GroupEvent, event.GroupEvent.TheVariants.Say as AskSay, event.GroupStep.GroupStep}
+use Rattle.gb_alone.specs.declared.{event.GroupEvent.GroupEvent, event.GroupEvent.TheVariants.Say as AskSay, event.GroupEvent.TheVariants.Notice, event.GroupStep.GroupStep}
 
 -- a message that was accepted, with the number that its origin answered
 pub record Accepted : Type 0 where
@@ -66,3 +67,24 @@ KeepsOrder (Some spec) log = spec.kind.order ≡ Fifo → RunsFromOne (map messa
 -- in each legal list of steps the log of each node keeps the order of the kind with which the group was made there
 abbrev pub IsInOrder : Type 0
 IsInOrder = (bounds : Bounds) (addr : Addr) (steps : List GroupStep) → IsLegal bounds addr steps → (b : ℕ) → KeepsOrder (alone bounds addr steps b).spec (log_of_member b (alone bounds addr steps b))
+
+-- Notices.
+
+-- what is seen of a group at a node is the same: the replies to its commands, its log, the items that it put out, and how many of them are carried
+pub record IsSeenSame (a : ℕ) (m n : Member) : Type 0 where
+  pub replies : n.replies ≡ m.replies
+  pub log : log_of_member a n ≡ log_of_member a m
+  pub put : (b : ℕ) → n.put b ≡ m.put b
+  pub taken : (b : ℕ) → n.taken b ≡ m.taken b
+
+-- these steps, and then a node is noticed at another
+abbrev pub then_noticed : NodeId → NodeId → List GroupStep → List GroupStep
+then_noticed me q steps = steps ++ record { node = me; event = Notice q } ∷ []
+
+-- A group that was made and not dropped is told that another member is noticed. A second notice of a member, at any later time, changes nothing that is seen of the group.
+pub record NoticesCountOnce : Type 0 where
+  pub first : (bounds : Bounds) (addr : Addr) (steps : List GroupStep) (me q : NodeId) (spec : Spec)
+      → held_spec (alone bounds addr steps me.number).phase (alone bounds addr steps me.number).spec ≡ Some spec → is_other spec me.number q.number ≡ true
+      → has_noticed (alone bounds addr (then_noticed me q steps) me.number).told q.number ≡ true
+  pub second : (bounds : Bounds) (addr : Addr) (steps : List GroupStep) (me q : NodeId) → has_noticed (alone bounds addr steps me.number).told q.number ≡ true
+      → (a : ℕ) → IsSeenSame a (alone bounds addr steps a) (alone bounds addr (then_noticed me q steps) a)

@@ -37,6 +37,8 @@ mod replayed;
 #[cfg(test)]
 mod requests;
 #[cfg(test)]
+mod rooms;
+#[cfg(test)]
 mod runs;
 #[cfg(test)]
 mod schedule;

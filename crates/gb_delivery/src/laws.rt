@@ -10,7 +10,7 @@ use gb_cluster::laws::{links_hold, nothing_is_outside};
 use gb_detect::laws::noticed_by_calls;
 use gb_duties::laws::delivery;
 use gb_frame::laws::what_is_written_is_read;
-use gb_isolation::laws::groups_are_isolated;
+use gb_isolation::laws::{groups_are_isolated, rooms_are_counted};
 use gb_node::past::{answers_say, packets_say, pasts_say};
 use gb_slot::history::stands;
 use gb_table::each::each_group;
@@ -43,6 +43,7 @@ pub fn what_is_said_is_delivered()
     groups_are_isolated();
     pasts_say();
     answers_say();
+    rooms_are_counted();
     links_hold();
     nothing_is_outside();
     delivery();
@@ -94,6 +95,7 @@ pub fn rounds_make_a_phase()
     groups_are_isolated();
     pasts_say();
     answers_say();
+    rooms_are_counted();
     links_hold();
     nothing_is_outside();
     rounds_carry();

@@ -107,7 +107,7 @@ is_named texts.One = refl
 is_named texts.Two = refl
 is_named texts.Three = refl
 
-node_opens : (kind : Kind) (g : Group) (a : NodeId) → set.contains members a.number ≡ true → g a.number ≡ nobody a.number → alone_from bounds address g (opened_at kind a) ≡ with_at g a.number (ready kind)
+pub node_opens : (kind : Kind) (g : Group) (a : NodeId) → set.contains members a.number ≡ true → g a.number ≡ nobody a.number → alone_from bounds address g (opened_at kind a) ≡ with_at g a.number (ready kind)
 unfolding said_in calls_of known
 node_opens kind g a inside fresh =
     let m1 : Member = record (nobody 0) { reserve = Some row } in
@@ -176,12 +176,12 @@ pub record Leads (g : Group) (steps : List GroupStep) (h : Group) : Type 0 where
 pub stop_here : (g : Group) → Leads g [] g
 stop_here g = record { legal = tt; end = refl }
 
-pub and_then : (g : Group) (step : GroupStep) (m : Member) (rest : List GroupStep) (h : Group) → MayHappen step.node step.event g → member_after bounds address step.node step.event g ≡ m → Leads (with_at g step.node.number m) rest h → Leads g (step ∷ rest) h
+pub and_then : (g : Group) (step : GroupStep) (m : Member) (rest : List GroupStep) (h : Group) → MayHappen address step.node step.event g → member_after bounds address step.node step.event g ≡ m → Leads (with_at g step.node.number m) rest h → Leads g (step ∷ rest) h
 and_then g step m rest h may is run =
     let e = step_is g step m is in
     record { legal = (may, subst (λ (k : Group). IsLegalFrom bounds address k rest) (sym e) run.legal); end = ap (λ (k : Group). alone_from bounds address k rest) e ∙ run.end }
 
-legal_join : (g : Group) (xs ys : List GroupStep) → IsLegalFrom bounds address g xs → IsLegalFrom bounds address (alone_from bounds address g xs) ys → IsLegalFrom bounds address g (xs ++ ys)
+pub legal_join : (g : Group) (xs ys : List GroupStep) → IsLegalFrom bounds address g xs → IsLegalFrom bounds address (alone_from bounds address g xs) ys → IsLegalFrom bounds address g (xs ++ ys)
 legal_join g [] ys l k = k
 legal_join g (x ∷ xs) ys l k = (l.0, legal_join (after bounds address g x) xs ys l.1 k)
 
@@ -192,7 +192,8 @@ join g h k xs ys a b = record {
 }
 
 pub open_all : (kind : Kind) → Leads nobody (opened kind) (group_open kind)
-open_all kind = record { legal = (tt, (tt, (tt, (tt, (tt, (tt, (tt, (tt, (tt, tt))))))))); end = all_open kind }
+unfolding after
+open_all kind = record { legal = ((refl, refl), (tt, (tt, ((refl, refl), (tt, (tt, ((refl, refl), (tt, (tt, tt))))))))); end = all_open kind }
 
 pub length_one : (xs : List Entry) (x : Entry) → xs ≡ x ∷ [] → 1 ≤ length xs
 length_one xs x e = let l : length xs ≡ 1 = ap length e in omega (arith, l)

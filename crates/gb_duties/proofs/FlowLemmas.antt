@@ -23,7 +23,7 @@ pub record Flow (group : Group) : Type 0 where
   pub come : (a b place : ℕ) → is_marked place ((group b).come a) ≡ true → (0 < place) × (place ≤ (group a).taken b)
 
 -- every node goes on
-pub all_goes : (bounds : Bounds) (addr : Addr) (group : Group) (step : GroupStep) → MayHappen step.node step.event group → ((a : ℕ) → Bounded (group a)) → (x : ℕ) → Goes x (group x) (after bounds addr group step x)
+pub all_goes : (bounds : Bounds) (addr : Addr) (group : Group) (step : GroupStep) → MayHappen addr step.node step.event group → ((a : ℕ) → Bounded (group a)) → (x : ℕ) → Goes x (group x) (after bounds addr group step x)
 unfolding after
 all_goes bounds addr group step may bounded x = go (nat_eq x step.node.number) refl
   where
@@ -87,12 +87,12 @@ step_come bounds addr group step b y k h = go (nat_eq b step.node.number) refl h
     go false is h = inl h
 
 -- an item that may come has a carried place
-came_legal : (group : Group) (me : NodeId) (y place : ℕ) (event : GroupEvent) → IsArrival event y place → MayHappen me event group → (0 < place) × (place ≤ (group y).taken me.number)
-came_legal group me y place event new may =
-    let h = subst (λ (e : GroupEvent). MayHappen me e group) new.is may in
+came_legal : (addr : Addr) (group : Group) (me : NodeId) (y place : ℕ) (event : GroupEvent) → IsArrival event y place → MayHappen addr me event group → (0 < place) × (place ≤ (group y).taken me.number)
+came_legal addr group me y place event new may =
+    let h = subst (λ (e : GroupEvent). MayHappen addr me e group) new.is may in
     (h.1, subst (λ z. place ≤ (group z).taken me.number) (sym new.here) h.2)
 
-pub flow_after : (bounds : Bounds) (addr : Addr) (group : Group) (step : GroupStep) → MayHappen step.node step.event group → Flow group → Flow (after bounds addr group step)
+pub flow_after : (bounds : Bounds) (addr : Addr) (group : Group) (step : GroupStep) → MayHappen addr step.node step.event group → Flow group → Flow (after bounds addr group step)
 flow_after bounds addr group step may flow = record {
   fits = (step_fits bounds addr group step flow.fits).0;
   bounded = λ a. (goes a).bounded;
@@ -105,7 +105,7 @@ flow_after bounds addr group step may flow = record {
     by : (a b place : ℕ) → ((is_marked place ((group b).come a) ≡ true) ⊎ ((b ≡ step.node.number) × IsArrival step.event a place)) → (0 < place) × (place ≤ (after bounds addr group step a).taken b)
     by a b place (inl old) = let was = flow.come a b place old in let some = was.0 in let few = was.1 in let more = (goes a).taken b in (some, omega (arith, few, more))
     by a b place (inr new) =
-        let was = came_legal group step.node a place step.event new.1 may in
+        let was = came_legal addr group step.node a place step.event new.1 may in
         let few = subst (λ z. place ≤ (group a).taken z) (sym new.0) was.1 in
         let more = (goes a).taken b in
         (was.0, omega (arith, few, more))
@@ -200,7 +200,7 @@ arrival version spec group from b place x fits sound taking in_a in_b other here
         subst (λ (long : Bool). came_from b (calls_of (if long || falls b from.number x (group b).told (held_spec (group b).phase (group b).spec) then group b else called b (Other from x) (group b)).told) from.number (message_of x) ≡ true) (sym short)
         (subst (λ (o : Option Spec). came_from b (calls_of (if falls b from.number x (group b).told o then group b else called b (Other from x) (group b)).told) from.number (message_of x) ≡ true) (sym held) (by (falls_after spec b (group b).told from.number x) refl))
 
-taking_after : (bounds : Bounds) (addr : Addr) (spec : Spec) (version : Version) → SendAlike bounds spec version → (group : Group) (step : GroupStep) → MayHappen step.node step.event group → Flow group → IsSound group → AllShort bounds group → Taking spec group → Taking spec (after bounds addr group step)
+taking_after : (bounds : Bounds) (addr : Addr) (spec : Spec) (version : Version) → SendAlike bounds spec version → (group : Group) (step : GroupStep) → MayHappen addr step.node step.event group → Flow group → IsSound group → AllShort bounds group → Taking spec group → Taking spec (after bounds addr group step)
 unfolding after
 taking_after bounds addr spec version alike group step may flow sound short taking = record {
   made = λ a in_a. (goes a).spec spec (taking.made a in_a);
@@ -241,7 +241,7 @@ taking_after bounds addr spec version alike group step may flow sound short taki
         → ((is_marked place ((group b).come a) ≡ true) ⊎ ((b ≡ step.node.number) × IsArrival step.event a place)) → came_from b (calls_of (after bounds addr group step b).told) a (message_of x) ≡ true
     by a b in_a in_b other here place x item (inl old) = (goes b).from a (message_of x) (taking.taken a b in_a in_b other ((goes b).here here) place x old (before a b place x (flow.come a b place old) item))
     by a b in_a in_b other here place x item (inr new) =
-        let at = came_legal group step.node a place step.event new.1 may in
+        let at = came_legal addr group step.node a place step.event new.1 may in
         let few = subst (λ z. place ≤ (group a).taken z) (sym new.0) at.1 in
         new_one a b in_a in_b other ((goes b).here here) place x (before a b place x (at.0, few) item) new.0 new.1
 

@@ -18,3 +18,4 @@ pub mod DeliveryLemmas
 mod ExampleLemmas
 mod CrashLemmas
 mod PhaseLemmas
+mod RoomLemmas

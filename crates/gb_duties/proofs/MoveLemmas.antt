@@ -137,7 +137,7 @@ took_moves a b count m room bounded = record { spec = λ s is. is; here = λ h. 
     few y true is = subst (λ z. m.taken z + count ≤ length (m.put z)) (sym (eqb-true y b.number is)) room
     few y false is = bounded y
 
-pub event_moves : (bounds : Bounds) (addr : Addr) (group : Group) (me : NodeId) (event : GroupEvent) → MayHappen me event group → Bounded (group me.number) → Goes me.number (group me.number) (member_after bounds addr me event group)
+pub event_moves : (bounds : Bounds) (addr : Addr) (group : Group) (me : NodeId) (event : GroupEvent) → MayHappen addr me event group → Bounded (group me.number) → Goes me.number (group me.number) (member_after bounds addr me event group)
 event_moves bounds addr group me (Tenant reserve) may bounded = record { spec = λ s is. is; here = λ h. h; from = λ p x h. h; stable = λ b i lt. refl; taken = λ b. omega arith; bounded = bounded }
 event_moves bounds addr group me (OtherMade generation) may bounded = record { spec = λ s is. is; here = λ h. h; from = λ p x h. h; stable = λ b i lt. refl; taken = λ b. omega arith; bounded = bounded }
 event_moves bounds addr group me OtherDropped may bounded = record { spec = λ s is. is; here = λ h. h; from = λ p x h. h; stable = λ b i lt. refl; taken = λ b. omega arith; bounded = bounded }

@@ -6,7 +6,7 @@ use Rattle.std.proofs.Common.{lit<}
 use Rattle.gb_types.specs.declared.{entry.Entry.Entry, kind.Kind.Kind, kind.Module.Module, kind.Order.TheVariants.Any, kind.Order.TheVariants.Fifo, node.NodeId.NodeId, plan.Bounds.Bounds, spec.Spec.Spec, version.Version.TheVariants.One, new_message.NewMessage.NewMessage, address.Addr.Addr}
 use Rattle.gb_alone.specs.Common.{alone, log_of_member}
 use Rattle.gb_alone.specs.declared.{event.GroupEvent.GroupEvent, event.GroupStep.GroupStep}
-use Rattle.gb_alone.specs.declared.event.GroupEvent.TheVariants.{Tenant, Make, Open, Drop, Say, Took, Came, Notice, Stop}
+use Rattle.gb_alone.specs.declared.event.GroupEvent.TheVariants.{Tenant, Make, Open, Drop, Say, OtherMade, Took, Came, Notice, Stop}
 
 abbrev pub first : NodeId
 first = record { number = 0; below = lit< tt }
@@ -48,6 +48,18 @@ at a event = record { node = a; event = event }
 -- a node opens the group
 abbrev pub opened_at : Kind → NodeId → List GroupStep
 opened_at kind a = at a (Tenant (record { groups = 4; msgs = 8; bytes = 64; window = 4 })) ∷ at a (Make (spec_of kind)) ∷ at a Open ∷ []
+
+-- the group's tenant is taken in at node 0
+abbrev pub tenant : GroupStep
+tenant = at first (Tenant (record { groups = 4; msgs = 8; bytes = 64; window = 4 }))
+
+-- three more generations of the group's room are made at node 0
+abbrev pub three_more : List GroupStep
+three_more = at first (OtherMade 1) ∷ at first (OtherMade 2) ∷ at first (OtherMade 3) ∷ []
+
+-- node 0 opens the group, and three more generations of its room are made there
+abbrev pub four_made : Kind → List GroupStep
+four_made kind = opened_at kind first ++ three_more
 
 -- all three nodes open the group
 abbrev pub opened : Kind → List GroupStep

@@ -5,11 +5,11 @@ ghost use Rattle.gb_types.specs.Common.{message_of, has_majority};
 ghost use Rattle.gb_types.specs.declared.kind.Module.TheVariants.{BestEffort, Lazy, Eager, AllAck, Majority};
 ghost use Rattle.gb_rules.specs.Common.{is_member};
 ghost use Rattle.gb_alone.specs.Common.{alone, log_of_member, IsLegal};
-ghost use Rattle.gb_alone.specs.declared.event.GroupEvent.TheVariants.{Notice};
+ghost use Rattle.gb_alone.specs.declared.event.GroupEvent.TheVariants.{Notice, OtherDropped, OtherMade};
 ghost use Rattle.gb_duties.specs.Agreement.{AreEnough, IsSettled};
 ghost use Rattle.gb_duties.specs.Delivery.{ArePhases, IsUp};
 ghost use Rattle.gb_duties.specs.Duties.{HasHad, noticed_at};
-ghost use Rattle.gb_duties.specs.Examples.{address, bounds, first, second, third, plain, fifo, spec_of, message, at, opened, to_one, to_all, third_drops, loss, crash, relay, runs, left_alone, only_first, log_in, put_in};
+ghost use Rattle.gb_duties.specs.Examples.{address, bounds, first, second, third, plain, fifo, spec_of, message, at, opened, tenant, four_made, to_one, to_all, third_drops, loss, crash, relay, runs, left_alone, only_first, log_in, put_in};
 
 /// A worked example of best effort in a group of nodes 0, 1 and 2, with nothing to run: node 0 has queued the message that it said for
 /// node 2. Node 1, which delivered the message, has queued nothing for node 2, even once it holds node 0 for crashed.
@@ -113,4 +113,20 @@ pub fn a_message_is_delivered_after_a_phase()
     ensures phase { ArePhases 1 bounds address (opened (fifo Lazy) ++ loss) relay runs (spec_of (fifo Lazy)) }
     ensures before { log_in (fifo Lazy) loss 2 ≡ [] }
     ensures later { log_of_member 2 (alone bounds address ((opened (fifo Lazy) ++ loss) ++ relay) 2) ≡ message ∷ [] }
+{}
+
+/// A worked example of a room, with nothing to run: node 0 makes the group and three more generations of its room, of which four may
+/// live. A fifth one may be made once one of the others is dropped, and not before.
+pub fn a_fifth_generation_waits_for_a_drop()
+    ensures four { IsLegal bounds address (four_made (plain Eager)) }
+    ensures fifth { IsLegal bounds address (four_made (plain Eager) ++ at first (OtherMade 4) ∷ []) → ⊥ }
+    ensures later { IsLegal bounds address (four_made (plain Eager) ++ at first OtherDropped ∷ at first (OtherMade 4) ∷ []) }
+{}
+
+/// A worked example of lists of events that are not legal, with nothing to run: another generation is dropped where none was made, the
+/// group's own generation is made as another one, and the group's tenant is taken in twice.
+pub fn what_may_not_happen_to_a_room()
+    ensures dropped { IsLegal bounds address (at first OtherDropped ∷ []) → ⊥ }
+    ensures itself { IsLegal bounds address (at first (OtherMade 0) ∷ []) → ⊥ }
+    ensures twice { IsLegal bounds address (tenant ∷ tenant ∷ []) → ⊥ }
 {}

@@ -1,10 +1,10 @@
 -- A group by itself, with a slot at each node that made it: what each event makes of what a node keeps of it.
-use Rattle.std.specs.Prelude.{ℕ, ◌+◌, ◌-◌, ◌≤◌, ◌<◌, ◌||◌, Bool, false, true, List, [], ◌∷◌, ◌++◌, fold, length, replicate, take, drop, slice_get, slice_index_or, slice_set, nat_lt, Option, Some, None, option_map, if◌then◌else◌}
+use Rattle.std.specs.Prelude.{ℕ, ◌+◌, ◌-◌, ◌≡◌, ◌≢◌, ◌≤◌, ◌<◌, ◌||◌, Bool, false, true, List, [], ◌∷◌, ◌++◌, fold, length, replicate, take, drop, slice_get, slice_index_or, slice_set, nat_lt, Option, Some, None, is_some, option_map, if◌then◌else◌}
 use Rattle.std.specs.FinSet as set
 use Rattle.gb_types.specs.Common.{message_of, version_at}
 use Rattle.gb_types.specs.declared.{address.Addr.Addr, entry.Entry.Entry, limits.TheConstants.NODES, node.NodeId.NodeId, plan.Bounds.Bounds, refusal.Refusal.TheVariants.Stopped, reply.Reply.Reply, version.Version.Version, reply.Reply.TheVariants.Done, reply.Reply.TheVariants.Said, reply.Reply.TheVariants.Refused}
 use Rattle.gb_rules.specs.Common.{Shown, is_too_long, open_answer, shut_answer, drop_answer, say_answer, fetch_answer, absent_answer, make_answer, by_tenant}
-use Rattle.gb_rules.specs.declared.{phase.Phase.TheVariants.Opened, phase.Phase.TheVariants.Shut, reserve.Reserve.Reserve}
+use Rattle.gb_rules.specs.declared.{room.TheConstants.GENERATIONS, phase.Phase.TheVariants.Opened, phase.Phase.TheVariants.Shut, reserve.Reserve.Reserve}
 use Rattle.gb_slot.specs.Common.{new_slot, shown, waiting, slot_moved, slot_said, slot_came, slot_noticed, slot_done, slot_took, SlotState}
 use Rattle.gb_alone.specs.Common.{SeenAt}
 use Rattle.gb_alone.specs.declared.{event.GroupEvent.GroupEvent, event.GroupStep.GroupStep}
@@ -123,6 +123,17 @@ HasItems me (Took b count) vs = count ≤ length (waits (member_at vs me.number)
 HasItems me (Came from place) vs = (0 < place) × (place ≤ length (carried_to (member_at vs from.number) me.number))
 HasItems me (Acknowledged b place count) vs = (0 < place) × (place + count ≤ length (carried_to (member_at vs me.number) b.number) + 1)
 HasItems me event vs = Unit {0}
+
+-- the number of generations of the group's room that live at the node, this one among them
+abbrev pub living : SlotMember → ℕ
+living v = v.others + (if is_some v.slot then 1 else 0)
+
+-- what is checked of a step of the group's room: its tenant is taken in once, another generation is made where fewer than four live, and one is dropped where another lives
+abbrev pub HasRoom : Addr → NodeId → GroupEvent → List SlotMember → Type 0
+HasRoom addr me (Tenant reserve) vs = (member_at vs me.number).reserve ≡ None
+HasRoom addr me (OtherMade generation) vs = (generation ≢ addr.generation) × (living (member_at vs me.number) < GENERATIONS)
+HasRoom addr me OtherDropped vs = 0 < (member_at vs me.number).others
+HasRoom addr me event vs = Unit {0}
 
 -- what is seen at a node, in a cluster of this number of nodes
 abbrev pub seen_of : ℕ → SlotMember → SeenAt

@@ -1,6 +1,7 @@
 //! A group at one node: a slot, and what a slot does not have.
-ghost use Rattle.std.specs.Prelude.{◌≡◌, ◌||◌, ◌+◌, ◌-◌, ◌<◌, ◌≤◌, [], nat_lt, IfOk, OnOk, Some, MatchOption, length, replicate, slice_get, option_map, true};
+ghost use Rattle.std.specs.Prelude.{◌≡◌, ◌≢◌, ◌||◌, ◌+◌, ◌-◌, ◌<◌, ◌≤◌, [], nat_lt, IfOk, OnOk, Some, None, MatchOption, length, replicate, slice_get, option_map, true};
 ghost use Rattle.gb_types.specs.declared.{limits.TheConstants.NODES as MOST, node.NodeId.NodeId as AnyNode};
+ghost use Rattle.gb_rules.specs.declared.room.TheConstants.{GENERATIONS as PLACES};
 ghost use Rattle.gb_rules.specs.Common.{absent_answer, open_answer, shut_answer, drop_answer, say_answer, fetch_answer};
 ghost use Rattle.gb_slot.specs.Common.{IsWithinLimits, slot_noticed};
 ghost use Rattle.gb_group_run.specs.SlotMember as model;
@@ -10,6 +11,7 @@ use crate::answers;
 use crate::answers::mark_all;
 use gb_alone::{GroupEvent, NodeSeen};
 use gb_rules::group::is_too_long;
+use gb_rules::room::GENERATIONS;
 use gb_rules::tenant::answer_make;
 use gb_rules::{Maker, Reserve, RoomUse};
 use gb_slot::Slot;
@@ -115,31 +117,48 @@ impl Member {
         })
     }
 
-    /// Takes in the group's tenant.
-    pub(crate) fn take_tenant(&mut self, reserve: Reserve)
-        ensures { self.new ≡ record self.old { reserve = Some reserve } }
+    /// Takes in the group's tenant. `Err` if it was taken in before.
+    pub(crate) fn take_tenant(&mut self, reserve: Reserve) -> Result<(), OutOfMemory>
+        ensures new { OnOk result (self.old.reserve ≡ None) }
+        ensures state { OnOk result (self.new ≡ record self.old { reserve = Some reserve }) }
     {
+        if self.reserve.is_some() {
+            return Err(OutOfMemory);
+        }
         self.reserve = Some(reserve);
+        Ok(())
     }
 
-    /// Takes in that another generation of the room of the group with this address was made. `Err` if the number of other
-    /// generations that live would be above 2^64 - 1.
+    /// Takes in that another generation of the room of the group with this address was made. `Err` if it is this generation, or if
+    /// the room has no place: 4 generations of it live.
     pub(crate) fn other_made(&mut self, address: Addr, generation: u32) -> Result<(), OutOfMemory>
-        ensures { OnOk result (self.new ≡ record self.old { passed = self.old.passed || nat_lt address.generation generation; others = self.old.others + 1 }) }
+        ensures other { OnOk result (generation ≢ address.generation) }
+        ensures room { OnOk result (model.living self.old < PLACES) }
+        ensures state { OnOk result (self.new ≡ record self.old { passed = self.old.passed || nat_lt address.generation generation; others = self.old.others + 1 }) }
     {
-        let Some(others) = self.others.checked_add(1) else {
-            return Err(OutOfMemory);
+        let places = if self.slot.is_some() {
+            GENERATIONS - 1
+        } else {
+            GENERATIONS
         };
-        self.others = others;
+        if generation == address.generation || self.others >= places {
+            return Err(OutOfMemory);
+        }
+        self.others += 1;
         self.passed = self.passed || address.generation < generation;
         Ok(())
     }
 
-    /// Takes in that another generation of the group's room was dropped.
-    pub(crate) fn other_dropped(&mut self)
-        ensures { self.new ≡ record self.old { others = self.old.others - 1 } }
+    /// Takes in that another generation of the group's room was dropped. `Err` if none lives.
+    pub(crate) fn other_dropped(&mut self) -> Result<(), OutOfMemory>
+        ensures there { OnOk result (0 < self.old.others) }
+        ensures state { OnOk result (self.new ≡ record self.old { others = self.old.others - 1 }) }
     {
-        self.others = self.others.saturating_sub(1);
+        if self.others == 0 {
+            return Err(OutOfMemory);
+        }
+        self.others -= 1;
+        Ok(())
     }
 
     /// Stops the node.

@@ -4,7 +4,7 @@ ghost use Rattle.gb_types.specs.declared.limits.TheConstants.{NODES as MOST};
 ghost use Rattle.gb_types.specs.Common.{bounds_of};
 ghost use Rattle.gb_alone.specs.Alone as one_group;
 ghost use Rattle.gb_alone.specs.Common.{observed_alone};
-ghost use Rattle.gb_group_run.specs.SlotMember.{HasItems, new_member, carried_to, member_at, taken_in, slot_members_after, seen_of};
+ghost use Rattle.gb_group_run.specs.SlotMember.{HasItems, HasRoom, new_member, carried_to, member_at, taken_in, slot_members_after, seen_of};
 
 use crate::member::Member;
 use gb_alone::{GroupEvent, GroupStep, Observation};
@@ -43,8 +43,9 @@ fn item_at(
     Ok(())
 }
 
-/// Changes the group by `step`, at the step's node. `Err` also if the step carries items that do not wait, or if items come or are
-/// acknowledged that were not carried.
+/// Changes the group by `step`, at the step's node. `Err` also if the step carries items that do not wait, if items come or are
+/// acknowledged that were not carried, if the tenant was taken in before, or if another generation of the group's room is made where the
+/// room has no place, or dropped where none lives.
 fn step_at(
     alloc: Global,
     bounds: &Bounds,
@@ -54,20 +55,15 @@ fn step_at(
 ) -> Result<(), OutOfMemory>
     requires { length group.old.items ≡ MOST }
     ensures items { OnOk result (HasItems step.now.node step.now.event group.old.items) }
+    ensures room { OnOk result (HasRoom address step.now.node step.now.event group.old.items) }
     ensures state { OnOk result (group.new.items ≡ slot_members_after bounds.now address group.old.items step.now) }
 {
     let me = step.node;
     let at = me.index();
     match &step.event {
-        GroupEvent::Tenant(reserve) => {
-            group[at].take_tenant(*reserve);
-            Ok(())
-        }
+        GroupEvent::Tenant(reserve) => group[at].take_tenant(*reserve),
         GroupEvent::OtherMade(generation) => group[at].other_made(address, *generation),
-        GroupEvent::OtherDropped => {
-            group[at].other_dropped();
-            Ok(())
-        }
+        GroupEvent::OtherDropped => group[at].other_dropped(),
         GroupEvent::Took { to: b, count } => group[at].took(alloc, *b, *count),
         GroupEvent::Done {
             by: b,
@@ -128,9 +124,9 @@ fn seen_by_slots(
 /// Returns what is seen, after `steps`, of the group `addr` by itself, without other tenants, links or frames, in a cluster of `plan`:
 /// for each node, the replies to the group's commands, and the items that are carried from it to each node. It is what
 /// `gb_alone::alone::alone` returns, in time linear in the steps and their payloads: each node that made the group runs a slot. Takes
-/// memory and changes nothing. `Err` if memory runs out, if a tenant's limits exceed those of the service, if the number of other
-/// generations of the group's room that live would exceed 2^64 - 1, or if the steps are not legal: if more items are carried than wait,
-/// or if items come or are acknowledged that were not carried.
+/// memory and changes nothing. `Err` if memory runs out, if a tenant's limits exceed those of the service, or if the steps are not legal:
+/// if more items are carried than wait, if items come or are acknowledged that were not carried, if the tenant is taken in twice, or if
+/// another generation of the group's room is made where 4 live, or dropped where none does.
 pub fn alone_by_slots(
     alloc: Global,
     plan: &Plan,

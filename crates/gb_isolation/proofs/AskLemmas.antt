@@ -153,7 +153,7 @@ passed_fits nodes me carried false others o m fits = record { told = told-passed
 -- a command of the group that does not make it
 pub commands : (bounds : Bounds) (g : Addr) (a : NodeId) (frames_from : ℕ → List (List Item)) (v : View) (group : Group) (e : GroupEvent) (reply : Reply) (o : Option (Option Told)) (dropped : Bool)
     → Fits bounds.nodes g a.number frames_from v (group a.number)
-    → MayHappen a e group
+    → MayHappen g a e group
     → member_after bounds g a e group ≡ commanded a e reply (group a.number)
     → (did a e reply (group a.number)).spec ≡ (group a.number).spec
     → is_gone (did a e reply (group a.number)).phase ≡ dropped

@@ -87,7 +87,7 @@ module _ (plan : NodePlan) (versions : List Version) (g : Addr) (past : List Hap
       → asked_told g plan.me (noticed_after plan past) reply request.what (told_of plan g past) ≡ o
       → made_by g (Asked request) (Replied reply) ≡ None
       → tenant_given g plan.me reply request.what ++ own_requested_by plan g past request reply ≡ record { node = plan.me; event = e } ∷ []
-      → MayHappen plan.me e group
+      → MayHappen g plan.me e group
       → member_after (bounds_with plan versions) g plan.me e group ≡ commanded plan.me e (reply_to (bounds_with plan versions) g plan.me.number e (group plan.me.number)) (group plan.me.number)
       → running_reply (bounds_with plan versions) g plan.me.number e (group plan.me.number) ≡ reply
       → (did plan.me e reply (group plan.me.number)).spec ≡ (group plan.me.number).spec
@@ -107,7 +107,7 @@ module _ (plan : NodePlan) (versions : List Version) (g : Addr) (past : List Hap
       → makes g request.what ≡ None
       → tenant_of g plan.me request.what ≡ []
       → command_for plan.me request.what ≡ record { node = plan.me; event = e } ∷ []
-      → MayHappen plan.me e group
+      → MayHappen g plan.me e group
       → member_after (bounds_with plan versions) g plan.me e group ≡ commanded plan.me e (reply_to (bounds_with plan versions) g plan.me.number e (group plan.me.number)) (group plan.me.number)
       → running_reply (bounds_with plan versions) g plan.me.number e (group plan.me.number) ≡ reply
       → (did plan.me e reply (group plan.me.number)).spec ≡ (group plan.me.number).spec

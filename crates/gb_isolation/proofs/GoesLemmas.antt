@@ -24,7 +24,7 @@ goes_none bounds g a frames_from v group fits = record { legal = tt; elsewhere =
 
 -- one event is given
 pub goes_one : (bounds : Bounds) (g : Addr) (a : NodeId) (frames_from : ℕ → List (List Item)) (v : View) (group : Group) (e : GroupEvent)
-    → MayHappen a e group → Fits bounds.nodes g a.number frames_from v (member_after bounds g a e group) → Goes bounds g a frames_from v group (record { node = a; event = e } ∷ [])
+    → MayHappen g a e group → Fits bounds.nodes g a.number frames_from v (member_after bounds g a e group) → Goes bounds g a frames_from v group (record { node = a; event = e } ∷ [])
 goes_one bounds g a frames_from v group e may fits = record {
   legal = (may, tt);
   elsewhere = λ x other. after_elsewhere bounds g group a x e other;

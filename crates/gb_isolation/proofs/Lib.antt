@@ -16,6 +16,7 @@ pub mod CommandLemmas
 pub mod MakeLemmas
 pub mod RequestLemmas
 pub mod RoomLemmas
+pub mod CountLemmas
 pub mod DoneLemmas
 pub mod ComeLemmas
 pub mod ArriveLemmas

@@ -1,12 +1,13 @@
 -- What the past says of a group stands for the group alone at its node, through each call.
-use Rattle.gb_types.specs.Common.{◌≡◌, ℕ, List, [], ◌∷◌, ◌++◌, length, Option, Some, None, Bool, true, false, not, ◌&&◌, ◌||◌, refl, sym, ◌∙◌, ap, subst, arith, take, if◌then◌else◌, is_some, nat_eq, take-length, append-nil, append_assoc, take-append-le, or-false}
+use Rattle.gb_types.specs.Common.{◌≡◌, ℕ, ◌+◌, List, [], ◌∷◌, ◌++◌, length, Option, Some, None, Bool, true, false, not, ◌&&◌, ◌||◌, refl, sym, ◌∙◌, ap, subst, arith, take, if◌then◌else◌, is_some, nat_eq, take-length, append-nil, append_assoc, take-append-le, or-false}
 use Rattle.gb_types.specs.declared.{entry.Entry.Entry, node.NodeId.NodeId, refusal.Refusal.TheVariants.Spent, reply.Reply.Reply, reply.Reply.TheVariants.Refused, spec.Spec.Spec, version.Version.Version}
 use Rattle.gb_rules.specs.Common.{said_in, bytes_in, log_of, puts_of, falls_after, has_noticed, Shown, absent_answer, is_gone, is_other, is_too_long, on_made, stepped, passed, where_so}
 use Rattle.gb_rules.specs.declared.{call.GroupCall.GroupCall, call.GroupCall.TheVariants.Other, call.GroupCall.TheVariants.Crashed, phase.Phase.Phase}
-use Rattle.gb_alone.specs.Common.{Member, held_spec, is_finished_alone, count_unfinished, called, item_came, put_to, cut, took_notice, node_noticed}
+use Rattle.gb_alone.specs.Common.{Member, held_spec, living, is_finished_alone, count_unfinished, called, item_came, put_to, cut, took_notice, node_noticed}
 use Rattle.gb_alone.specs.Alone as alone
 use Rattle.gb_alone.proofs.UsageLemmas.{shown_of}
 use Rattle.gb_node.specs.Common.{Told, waiting_of, unfinished_in, shown_in, with_call, cut_off, unless_falls, if_other, group_answer}
+use Rattle.gb_isolation.specs.Rooms.{one_living}
 use Rattle.gb_isolation.proofs.View.{MemberIs, IsThere, NotMade, IsSpent}
 
 -- Where the group is not there.
@@ -65,6 +66,12 @@ pub made-is : (o : Option (Option Told)) (m : Member) → MemberIs o m → (is_s
 made-is None m st = λ i. is_some (st.spec i) || st.passed i
 made-is (Some (Some t)) m st = ap (λ (x : Option Spec). is_some x || m.passed) st.spec
 made-is (Some None) m st = st.spent
+
+-- the generations of its room that live
+pub living_is : (o : Option (Option Told)) (m : Member) (n : ℕ) → MemberIs o m → m.others ≡ n → living m ≡ n + one_living o
+living_is None m n st others = λ i. others i + (if is_some (unmade_held m st i) then 1 else 0)
+living_is (Some None) m n st others = λ i. others i + (if is_some (st.held i) then 1 else 0)
+living_is (Some (Some t)) m n st others = λ i. others i + (if is_some (there_held t m st i) then 1 else 0)
 
 -- nothing else of the group matters
 pub same_member : (o : Option (Option Told)) (m n : Member) → n.spec ≡ m.spec → n.passed ≡ m.passed → n.phase ≡ m.phase → n.told ≡ m.told → MemberIs o m → MemberIs o n

@@ -205,7 +205,7 @@ module _ (plan : NodePlan) (versions : List Version) (g : Addr) (past : List Hap
           by x false = refl
   goes_by (suc n) is = goes_one (bounds_with plan versions) g plan.me frames_from (view_packed b f k v) group (Took b (suc n)) may (subst (λ j. Fits plan.nodes g plan.me.number frames_from (view_packed b f k v) (member_took b j m)) (sym is) fits_took)
     where
-      may : MayHappen plan.me (Took b (suc n)) group
+      may : MayHappen g plan.me (Took b (suc n)) group
       may =
           let put = was.put b.number right.inside in
           let taken = was.taken b.number right.inside in

@@ -1,16 +1,18 @@
 -- A request at a node does to each group what it does to the group alone.
-use Rattle.gb_types.specs.Common.{◌≡◌, ◌≢◌, ℕ, ◌+◌, ◌-◌, ◌<◌, ◌≤◌, List, [], ◌∷◌, ◌++◌, Option, Some, None, Bool, true, false, ◌&&◌, ◌||◌, ◌⊎◌, inl, inr, refl, sym, ◌∙◌, ap, subst, arith, option_or, if◌then◌else◌, is_some, nat_eq, nat_lt, option_map, list_any, cases_Bool, and_parts, nat_tests, append-nil, version_at}
+use Rattle.gb_types.specs.Common.{◌≡◌, ◌≢◌, ℕ, ◌+◌, ◌-◌, ◌<◌, ◌≤◌, List, [], ◌∷◌, ◌++◌, Option, Some, None, Bool, true, false, ◌&&◌, ◌||◌, ◌⊎◌, inl, inr, refl, sym, ◌∙◌, ap, subst, arith, option_or, if◌then◌else◌, is_some, nat_eq, nat_le, nat_lt, leb-false, option_map, list_any, cases_Bool, and_parts, nat_tests, append-nil, version_at}
 use Rattle.std.specs.FinSet as set
 use Rattle.gb_types.proofs.BoolLemmas.{and_both}
 use Rattle.gb_types.specs.declared.{address.Addr.Addr, limits.TheConstants.NODES, refusal.Refusal.Refusal, reply.Reply.Reply, request.Action.Action, request.Action.TheVariants.AddTenant, request.Action.TheVariants.Group as AtGroup, request.GroupCommand.GroupCommand, request.Request.Request, spec.Spec.Spec, spec.TenantRow.TenantRow, version.Version.Version, reply.Reply.TheVariants.Done, reply.Reply.TheVariants.Said, reply.Reply.TheVariants.Refused}
-use Rattle.gb_types.specs.declared.refusal.Refusal.TheVariants.{Denied, OverReserve, NoRoom, TenantThere, Stopped, OutOfMemory}
+use Rattle.gb_types.specs.declared.refusal.Refusal.TheVariants.{Denied, NoGroup, Spent, OverReserve, NoRoom, TenantThere, Stopped, OutOfMemory}
 use Rattle.gb_types.specs.declared.request.GroupCommand.TheVariants.{Make, Open, Shut, Drop, Say, Fetch}
 use Rattle.gb_frame.specs.declared.item.Item.{Item}
-use Rattle.gb_rules.specs.Common.{said_in, is_over_limits, reserve_of, reserved, row_of, tenant_answer, is_addr, is_reached_by, is_other_generation, dropped, or_added, passed, where_so, takes_memory}
+use Rattle.gb_rules.specs.Common.{said_in, is_over_limits, reserve_of, reserved, row_of, tenant_answer, make_answer, drop_answer, by_tenant, is_addr, is_reached_by, is_other_generation, dropped, or_added, passed, where_so, takes_memory}
+use Rattle.gb_rules.specs.declared.{room.TheConstants.GENERATIONS, reserve.Reserve.Reserve}
 use Rattle.gb_alone.specs.Common.{Group, MayHappen, member_after}
 use Rattle.gb_alone.specs.Alone as alone
 use Rattle.gb_alone.specs.declared.{event.GroupEvent.GroupEvent, event.GroupEvent.TheVariants.Tenant, event.GroupEvent.TheVariants.OtherMade, event.GroupEvent.TheVariants.OtherDropped}
-use Rattle.gb_node.specs.Common.{Happened, added, added_by, frames_to, is_stopped, tenants_in, Told, noticed_after, told_first, asked_told, told_of, living_after, living_done, living_of, IsAsked, admitted_answer, is_admitted_by, past_answer, has_group_token}
+use Rattle.gb_node.specs.Common.{Happened, added, added_by, frames_to, is_stopped, tenants_in, Told, noticed_after, told_first, asked_told, told_of, living_after, living_done, living_of, IsAsked, admitted_answer, group_answer, is_admitted_by, past_answer, has_group_token, shown_in}
+use Rattle.gb_isolation.specs.Rooms.{one_living}
 use Rattle.gb_node.specs.declared.{answer.NodeAnswer.TheVariants.Reply as Replied, event.NodeEvent.TheVariants.Request as Asked, plan.NodePlan.NodePlan}
 use Rattle.gb_isolation.specs.Project.{is_met, is_named, is_own_request, is_starved_by, group_items_of, makes, made_by, made_with, replies_in, tenant_of, tenant_given, other_of, other_given}
 use Rattle.gb_isolation.specs.RunLaws.{drops, is_dropped, is_dropped_by}
@@ -19,10 +21,11 @@ use Rattle.gb_isolation.proofs.AskLemmas.{MemberFits, asking, carried_in, member
 use Rattle.gb_isolation.proofs.CommandLemmas.{AskedGoes, asking_of, group_token_is, at_open, at_shut, at_drop, at_say, at_fetch}
 use Rattle.gb_isolation.proofs.GoesLemmas.{goes_none, goes_one}
 use Rattle.gb_isolation.proofs.MakeLemmas.{at_make}
-use Rattle.gb_isolation.proofs.MemberLemmas.{same_member}
-use Rattle.gb_isolation.proofs.RoomLemmas.{other_address, reached_later, unreached}
+use Rattle.gb_isolation.proofs.MemberLemmas.{living_is, same_member}
+use Rattle.gb_isolation.proofs.PastLemmas.{running_unmet}
+use Rattle.gb_isolation.proofs.RoomLemmas.{other_address, other_number, reached_later, unreached}
 use Rattle.gb_isolation.proofs.StoppedLemmas.{stopped_goes}
-use Rattle.gb_isolation.proofs.View.{View, view_of, Fits, Goes, bounds_with, asked_by, is_noticed_after, own_requested_by, requested_by}
+use Rattle.gb_isolation.proofs.View.{View, view_of, Fits, Goes, IsCounted, bounds_with, asked_by, is_noticed_after, own_requested_by, requested_by}
 
 -- Tenants.
 
@@ -53,6 +56,29 @@ tenant_new places before there row is = go (is_over_limits row) there (nat_lt pl
 none_of : (o : Option TenantRow) → is_some o ≡ false → o ≡ None
 none_of None is = refl
 none_of (Some row) is = absurd (cc)
+
+-- Rooms.
+
+-- a generation that is made was not made before, and its room had a free place
+made_room : (version : Version) (nodes me : ℕ) (addr : Addr) (spec : Spec) (o : Option (Option Told)) (living : ℕ) (reserve : Option Reserve) → Done ≡ by_tenant (make_answer version nodes me addr (is_some o) living spec) reserve → (o ≡ None) × (living < GENERATIONS)
+made_room version nodes me addr spec o living None is = absurd (cc)
+made_room version nodes me addr spec o living (Some reserve) is = by _ (nat_le reserve.groups addr.group) (is_some o) (nat_le GENERATIONS living) refl refl is
+  where
+    absent : (o : Option (Option Told)) → is_some o ≡ false → o ≡ None
+    absent None e = refl
+    absent (Some t) e = absurd (cc)
+
+    by : (rest : Reply) (beyond past full : Bool) → is_some o ≡ past → nat_le GENERATIONS living ≡ full → Done ≡ (if beyond then Refused NoGroup else (if past then Refused Spent else (if full then Refused NoRoom else rest))) → (o ≡ None) × (living < GENERATIONS)
+    by rest true past full made room e = absurd (cc)
+    by rest false true full made room e = absurd (cc)
+    by rest false false true made room e = absurd (cc)
+    by rest false false false made room e = (absent o made, leb-false GENERATIONS living room)
+
+-- a generation that is dropped lived
+dropped_there : (me : ℕ) (o : Option (Option Told)) → Done ≡ group_answer drop_answer (shown_in me o) → (t : Told) × (o ≡ Some (Some t))
+dropped_there me None is = absurd (cc)
+dropped_there me (Some None) is = absurd (cc)
+dropped_there me (Some (Some t)) is = (t, refl)
 
 -- a request to add a tenant
 abbrev adding : List ℕ → TenantRow → Request
@@ -124,7 +150,7 @@ module _ (plan : NodePlan) (versions : List Version) (g : Addr) (past : List Hap
   tenant_taken token row running new own fits =
       subst (λ es. Goes (bounds_with plan versions) g plan.me frames_from (view_of plan g (asking (adding token row) Done ∷ past)) group es) (sym given)
       (subst (λ (v : View). Goes (bounds_with plan versions) g plan.me frames_from v group (record { node = plan.me; event = Tenant (reserve_of row) } ∷ [])) (sym later)
-      (goes_one (bounds_with plan versions) g plan.me frames_from (record before { reserve = Some (reserve_of row) }) group (Tenant (reserve_of row)) tt (record {
+      (goes_one (bounds_with plan versions) g plan.me frames_from (record before { reserve = Some (reserve_of row) }) group (Tenant (reserve_of row)) (fits.stopped ∙ running_unmet plan g past running, fits.reserve ∙ ap (option_map reserve_of) absent) (record {
         reserve = refl;
         told = same_member before.told (group plan.me.number) (member_after (bounds_with plan versions) g plan.me (Tenant (reserve_of row)) group) refl refl refl refl fits.told;
         others = fits.others;
@@ -144,8 +170,11 @@ module _ (plan : NodePlan) (versions : List Version) (g : Addr) (past : List Hap
       same : row.tenant ≡ g.tenant
       same = grind (arith, nat_tests)
 
+      absent : row_of g.tenant (tenants_in past) ≡ None
+      absent = ap (λ t. row_of t (tenants_in past)) (sym same) ∙ new
+
       there : row_of g.tenant (tenants_in past ++ row ∷ []) ≡ Some row
-      there = row-append g.tenant (tenants_in past) row (ap (λ t. row_of t (tenants_in past)) (sym same) ∙ new) ∙ ap (λ b. if b then Some row else None) own
+      there = row-append g.tenant (tenants_in past) row absent ∙ ap (λ b. if b then Some row else None) own
 
       given : asked_by plan g past (adding token row) Done ≡ record { node = plan.me; event = Tenant (reserve_of row) } ∷ []
       given = by ∙ ap (λ b. (if b then record { node = plan.me; event = Tenant (reserve_of row) } ∷ [] else []) ++ [] ++ []) own
@@ -192,7 +221,7 @@ module _ (plan : NodePlan) (versions : List Version) (g : Addr) (past : List Hap
       → is_dropped_by g (Asked request) (Replied Done) ≡ false
       → tenant_given g plan.me Done request.what ≡ []
       → other_given g plan.me Done request.what ≡ record { node = plan.me; event = event } ∷ []
-      → MayHappen plan.me event group
+      → MayHappen g plan.me event group
       → Fits plan.nodes g plan.me.number frames_from (record before { told = told; living = living }) (member_after (bounds_with plan versions) g plan.me event group)
       → AskedGoes plan versions g past request Done frames_from group
   generation_goes request event told living running foreign rows tells lives unmade undropped no_tenant one may fits =
@@ -206,15 +235,16 @@ module _ (plan : NodePlan) (versions : List Version) (g : Addr) (past : List Hap
           (ap (λ b. replies_in plan.me g past ++ (if b then Done ∷ [] else [])) foreign ∙ append-nil (replies_in plan.me g past))
           (ap (λ b. (b && is_own_request plan.me g past request) || is_met plan.me g past) running)
 
-  generation_made : (token : List ℕ) (addr : Addr) (spec : Spec) → is_stopped past ≡ false → is_own_request plan.me g past (asking_of token addr (Make spec)) ≡ false → is_other_generation g addr ≡ true → FitsBefore
+  generation_made : (token : List ℕ) (addr : Addr) (spec : Spec) → is_stopped past ≡ false → is_own_request plan.me g past (asking_of token addr (Make spec)) ≡ false → is_other_generation g addr ≡ true → living_of g past + one_living (told_of plan g past) < GENERATIONS → FitsBefore
       → AskedGoes plan versions g past (asking_of token addr (Make spec)) Done frames_from group
-  generation_made token addr spec running foreign other fits =
+  generation_made token addr spec running foreign other room fits =
       generation_goes (asking_of token addr (Make spec)) (OtherMade addr.generation) (where_so later passed (told_of plan g past)) (living_of g past + 1) running foreign refl
       (ap (λ b. if b then or_added (told_of plan g past) (Some (Some (told_first spec plan.me (noticed_after plan past)))) else where_so (is_reached_by g addr) passed (told_of plan g past)) (other_address g addr other)
       ∙ ap (λ b. where_so b passed (told_of plan g past)) (reached_later g addr other))
       (ap (λ b. if b then living_of g past + 1 else living_of g past) other)
       (ap (λ b. if b then Some spec else None) (other_address g addr other)) refl refl
-      (ap (λ b. if b then record { node = plan.me; event = OtherMade addr.generation } ∷ [] else []) other) tt
+      (ap (λ b. if b then record { node = plan.me; event = OtherMade addr.generation } ∷ [] else []) other)
+      (fits.stopped ∙ running_unmet plan g past running, other_number g addr other, subst (λ n. n < GENERATIONS) (sym (living_is (told_of plan g past) (group plan.me.number) (living_of g past) fits.told fits.others)) room)
       (record {
         reserve = fits.reserve;
         told = now.told;
@@ -238,13 +268,14 @@ module _ (plan : NodePlan) (versions : List Version) (g : Addr) (past : List Hap
       now : MemberFits plan.nodes plan.me.number (carried_in g before) (where_so later passed (told_of plan g past)) (member_after (bounds_with plan versions) g plan.me (OtherMade addr.generation) group)
       now = passed_fits plan.nodes plan.me.number (carried_in g before) later ((group plan.me.number).others + 1) (told_of plan g past) (group plan.me.number) (member_fits plan.nodes g plan.me.number frames_from before (group plan.me.number) fits)
 
-  generation_dropped : (token : List ℕ) (addr : Addr) → is_stopped past ≡ false → is_own_request plan.me g past (asking_of token addr Drop) ≡ false → is_other_generation g addr ≡ true → FitsBefore
+  generation_dropped : (token : List ℕ) (addr : Addr) → is_stopped past ≡ false → is_own_request plan.me g past (asking_of token addr Drop) ≡ false → is_other_generation g addr ≡ true → 0 < living_of g past → FitsBefore
       → AskedGoes plan versions g past (asking_of token addr Drop) Done frames_from group
-  generation_dropped token addr running foreign other fits =
+  generation_dropped token addr running foreign other there fits =
       generation_goes (asking_of token addr Drop) OtherDropped (told_of plan g past) (living_of g past - 1) running foreign refl
       (ap (λ b. where_so b dropped (told_of plan g past)) (other_address g addr other))
       (ap (λ b. if b then living_of g past - 1 else living_of g past) other) refl (other_address g addr other) refl
-      (ap (λ b. if b then record { node = plan.me; event = OtherDropped } ∷ [] else []) other) tt
+      (ap (λ b. if b then record { node = plan.me; event = OtherDropped } ∷ [] else []) other)
+      (fits.stopped ∙ running_unmet plan g past running, subst (λ n. 0 < n) (sym fits.others) there)
       (record {
         reserve = fits.reserve;
         told = same_member before.told (group plan.me.number) (member_after (bounds_with plan versions) g plan.me OtherDropped group) refl refl refl refl fits.told;
@@ -264,29 +295,34 @@ module _ (plan : NodePlan) (versions : List Version) (g : Addr) (past : List Hap
 
   -- Another group's request.
 
-  other_make : (token : List ℕ) (addr : Addr) (spec : Spec) (r : Reply) → is_stopped past ≡ false → is_own_request plan.me g past (asking_of token addr (Make spec)) ≡ false → is_addr g addr ≡ false → FitsBefore → AskedGoes plan versions g past (asking_of token addr (Make spec)) r frames_from group
-  other_make token addr spec Done running foreign unnamed fits = go (cases_Bool (is_other_generation g addr))
+  other_make : (token : List ℕ) (addr : Addr) (spec : Spec) (r : Reply) → is_stopped past ≡ false → is_own_request plan.me g past (asking_of token addr (Make spec)) ≡ false → is_addr g addr ≡ false → r ≡ admitted_answer plan past (AtGroup addr (Make spec)) → IsCounted plan g past → FitsBefore
+      → AskedGoes plan versions g past (asking_of token addr (Make spec)) r frames_from group
+  other_make token addr spec Done running foreign unnamed is counted fits = go (cases_Bool (is_other_generation g addr))
     where
       go : ((is_other_generation g addr ≡ true) ⊎ (is_other_generation g addr ≡ false)) → AskedGoes plan versions g past (asking_of token addr (Make spec)) Done frames_from group
-      go (inl other) = generation_made token addr spec running foreign other fits
+      go (inl other) =
+          let made = made_room plan.version plan.nodes plan.me.number addr spec (told_of plan addr past) (living_of addr past) (option_map reserve_of (row_of addr.tenant (tenants_in past))) is in
+          let most = counted.absent addr other made.0 in
+          generation_made token addr spec running foreign other (omega (arith, most, made.1)) fits
       go (inr apart) = passes (asking_of token addr (Make spec)) Done running foreign refl
           (ap (λ b. if b then or_added (told_of plan g past) (Some (Some (told_first spec plan.me (noticed_after plan past)))) else where_so (is_reached_by g addr) passed (told_of plan g past)) unnamed
           ∙ ap (λ b. where_so b passed (told_of plan g past)) (unreached g addr unnamed apart))
           (ap (λ b. if b then living_of g past + 1 else living_of g past) apart)
           (ap (λ b. if b then Some spec else None) unnamed) refl refl
           (ap (λ b. if b then record { node = plan.me; event = OtherMade addr.generation } ∷ [] else []) apart) fits
-  other_make token addr spec r running foreign unnamed fits = passes (asking_of token addr (Make spec)) r running foreign refl refl refl refl refl refl refl fits
+  other_make token addr spec r running foreign unnamed is counted fits = passes (asking_of token addr (Make spec)) r running foreign refl refl refl refl refl refl refl fits
 
-  other_drop : (token : List ℕ) (addr : Addr) (r : Reply) → is_stopped past ≡ false → is_own_request plan.me g past (asking_of token addr Drop) ≡ false → is_addr g addr ≡ false → FitsBefore → AskedGoes plan versions g past (asking_of token addr Drop) r frames_from group
-  other_drop token addr Done running foreign unnamed fits = go (cases_Bool (is_other_generation g addr))
+  other_drop : (token : List ℕ) (addr : Addr) (r : Reply) → is_stopped past ≡ false → is_own_request plan.me g past (asking_of token addr Drop) ≡ false → is_addr g addr ≡ false → r ≡ admitted_answer plan past (AtGroup addr Drop) → IsCounted plan g past → FitsBefore
+      → AskedGoes plan versions g past (asking_of token addr Drop) r frames_from group
+  other_drop token addr Done running foreign unnamed is counted fits = go (cases_Bool (is_other_generation g addr))
     where
       go : ((is_other_generation g addr ≡ true) ⊎ (is_other_generation g addr ≡ false)) → AskedGoes plan versions g past (asking_of token addr Drop) Done frames_from group
-      go (inl other) = generation_dropped token addr running foreign other fits
+      go (inl other) = let there = dropped_there plan.me.number (told_of plan addr past) is in generation_dropped token addr running foreign other (counted.living addr other there.0 there.1) fits
       go (inr apart) = passes (asking_of token addr Drop) Done running foreign refl
           (ap (λ b. where_so b dropped (told_of plan g past)) unnamed)
           (ap (λ b. if b then living_of g past - 1 else living_of g past) apart) refl unnamed refl
           (ap (λ b. if b then record { node = plan.me; event = OtherDropped } ∷ [] else []) apart) fits
-  other_drop token addr r running foreign unnamed fits = passes (asking_of token addr Drop) r running foreign refl refl refl refl refl refl refl fits
+  other_drop token addr r running foreign unnamed is counted fits = passes (asking_of token addr Drop) r running foreign refl refl refl refl refl refl refl fits
 
   other_told : (addr : Addr) (command : GroupCommand) (r : Reply) → is_addr g addr ≡ false → IsIdle command → asked_told g plan.me (noticed_after plan past) r (AtGroup addr command) (told_of plan g past) ≡ told_of plan g past
   other_told addr Open Done other idle = rw other refl
@@ -300,22 +336,22 @@ module _ (plan : NodePlan) (versions : List Version) (g : Addr) (past : List Hap
   other_told addr (Fetch from most) Done other idle = refl
   other_told addr (Fetch from most) r other idle = refl
 
-  other_goes : (request : Request) (r : Reply) → is_stopped past ≡ false → is_own_request plan.me g past request ≡ false → is_named g request.what ≡ false → ((row : TenantRow) → request.what ≡ AddTenant row → r ≡ Done → row_of row.tenant (tenants_in past) ≡ None)
-      → FitsBefore → AskedGoes plan versions g past request r frames_from group
-  other_goes request r running own named new fits = by request.what own named new
+  other_goes : (request : Request) (r : Reply) → is_stopped past ≡ false → is_own_request plan.me g past request ≡ false → is_named g request.what ≡ false → r ≡ admitted_answer plan past request.what → IsCounted plan g past → FitsBefore
+      → AskedGoes plan versions g past request r frames_from group
+  other_goes request r running own named is counted fits = by request.what own named is
     where
       token : List ℕ
       token = request.token
 
-      by : (what : Action) → is_own_request plan.me g past (record { token = token; what = what }) ≡ false → is_named g what ≡ false → ((row : TenantRow) → what ≡ AddTenant row → r ≡ Done → row_of row.tenant (tenants_in past) ≡ None)
+      by : (what : Action) → is_own_request plan.me g past (record { token = token; what = what }) ≡ false → is_named g what ≡ false → r ≡ admitted_answer plan past what
           → AskedGoes plan versions g past (record { token = token; what = what }) r frames_from group
-      by (AddTenant row) own named new = at_tenant token row r running (new row refl) fits
-      by (AtGroup addr (Make spec)) own named new = other_make token addr spec r running own named fits
-      by (AtGroup addr Drop) own named new = other_drop token addr r running own named fits
-      by (AtGroup addr Open) own named new = idle (asking_of token addr Open) r running own refl (other_told addr Open r named tt) refl refl refl refl refl fits
-      by (AtGroup addr Shut) own named new = idle (asking_of token addr Shut) r running own refl (other_told addr Shut r named tt) refl refl refl refl refl fits
-      by (AtGroup addr (Say message)) own named new = idle (asking_of token addr (Say message)) r running own refl (other_told addr (Say message) r named tt) refl refl refl refl refl fits
-      by (AtGroup addr (Fetch from most)) own named new = idle (asking_of token addr (Fetch from most)) r running own refl (other_told addr (Fetch from most) r named tt) refl refl refl refl refl fits
+      by (AddTenant row) own named is = at_tenant token row r running (λ done. none_of (row_of row.tenant (tenants_in past)) (tenant_new plan.places (reserved (tenants_in past)) (is_some (row_of row.tenant (tenants_in past))) row (sym is ∙ done))) fits
+      by (AtGroup addr (Make spec)) own named is = other_make token addr spec r running own named is counted fits
+      by (AtGroup addr Drop) own named is = other_drop token addr r running own named is counted fits
+      by (AtGroup addr Open) own named is = idle (asking_of token addr Open) r running own refl (other_told addr Open r named tt) refl refl refl refl refl fits
+      by (AtGroup addr Shut) own named is = idle (asking_of token addr Shut) r running own refl (other_told addr Shut r named tt) refl refl refl refl refl fits
+      by (AtGroup addr (Say message)) own named is = idle (asking_of token addr (Say message)) r running own refl (other_told addr (Say message) r named tt) refl refl refl refl refl fits
+      by (AtGroup addr (Fetch from most)) own named is = idle (asking_of token addr (Fetch from most)) r running own refl (other_told addr (Fetch from most) r named tt) refl refl refl refl refl fits
 
   -- The group's own request.
 
@@ -368,11 +404,12 @@ pub asked_goes : (plan : NodePlan) (versions : List Version) (g : Addr) (past : 
     → is_noticed_after plan past ≡ set.contains (noticed_after plan past)
     → ((b : ℕ) → set.contains (noticed_after plan past) b ≡ true → (b < plan.nodes) × (b ≢ plan.me.number))
     → ((t : Told) → told_of plan g past ≡ Some (Some t) → (b : ℕ) → b < plan.nodes → list_any (alone.is_message plan.me.number (said_in t.calls + 1)) (group_items_of g (frames_to plan.cluster_key b past)) ≡ false)
+    → IsCounted plan g past
     → IsAsked plan past request reply
     → is_starved_by plan.me g past (Asked request) (Replied reply) ≡ false
     → Fits plan.nodes g plan.me.number frames_from (view_of plan g past) (group plan.me.number)
     → Goes (bounds_with plan versions) g plan.me frames_from (view_of plan g (record { event = Asked request; answer = Replied reply } ∷ past)) group (asked_by plan g past request reply)
-asked_goes plan versions g past request reply frames_from group right few silent noticed fresh answered fed fits = go (cases_Bool (is_stopped past)) (cases_Bool (is_own_request plan.me g past request)) answered
+asked_goes plan versions g past request reply frames_from group right few silent noticed fresh counted answered fed fits = go (cases_Bool (is_stopped past)) (cases_Bool (is_own_request plan.me g past request)) answered
   where
     Wanted : Reply → Type 0
     Wanted r = AskedGoes plan versions g past request r frames_from group
@@ -386,11 +423,6 @@ asked_goes plan versions g past request reply frames_from group right few silent
         clash : true ≡ false → ⊥
         clash e = cc
 
-    new_tenant : is_stopped past ≡ false → is_admitted_by plan past request ≡ true → reply ≡ past_answer plan past request → (row : TenantRow) → request.what ≡ AddTenant row → reply ≡ Done → row_of row.tenant (tenants_in past) ≡ None
-    new_tenant running admitted is row same done =
-        none_of (row_of row.tenant (tenants_in past)) (tenant_new plan.places (reserved (tenants_in past)) (is_some (row_of row.tenant (tenants_in past))) row
-        (sym (ap (admitted_answer plan past) same) ∙ (sym (running_answer plan past request reply running true admitted) ∙ (sym is ∙ done))))
-
     unnamed : is_own_request plan.me g past request ≡ false → is_admitted_by plan past request ≡ true → is_named g request.what ≡ false
     unnamed other admitted = by (is_named g request.what) refl
       where
@@ -399,7 +431,7 @@ asked_goes plan versions g past request reply frames_from group right few silent
         by false named = refl
 
     foreign : is_stopped past ≡ false → is_own_request plan.me g past request ≡ false → reply ≡ past_answer plan past request → ((is_admitted_by plan past request ≡ true) ⊎ (is_admitted_by plan past request ≡ false)) → Wanted reply
-    foreign running other is (inl admitted) = other_goes plan versions g past frames_from group request reply running other (unnamed other admitted) (new_tenant running admitted is) fits
+    foreign running other is (inl admitted) = other_goes plan versions g past frames_from group request reply running other (unnamed other admitted) (is ∙ running_answer plan past request reply running true admitted) counted fits
     foreign running other is (inr denied) = subst Wanted (sym (is ∙ running_answer plan past request reply running false denied)) (refusal_passes plan versions g past frames_from group request Denied running other fits)
 
     go : ((is_stopped past ≡ true) ⊎ (is_stopped past ≡ false)) → ((is_own_request plan.me g past request ≡ true) ⊎ (is_own_request plan.me g past request ≡ false)) → IsAsked plan past request reply → Wanted reply

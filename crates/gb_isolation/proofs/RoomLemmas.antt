@@ -1,5 +1,5 @@
 -- Other generations of a group's room, and the group's own requests, which make and drop none of them.
-use Rattle.gb_types.specs.Common.{◌≡◌, ℕ, ◌+◌, ◌-◌, [], ◌∷◌, ◌++◌, true, false, not, refl, ap, ◌∙◌, arith, if◌then◌else◌, nat_lt, and_right, nat_tests, append-nil}
+use Rattle.gb_types.specs.Common.{◌≡◌, ◌≢◌, ℕ, ◌+◌, ◌-◌, [], ◌∷◌, ◌++◌, true, false, not, refl, sym, ap, ◌∙◌, arith, if◌then◌else◌, nat_lt, and_right, nat_tests, append-nil}
 use Rattle.gb_types.specs.declared.{address.Addr.Addr, node.NodeId.NodeId, reply.Reply.Reply, request.Action.Action, request.Action.TheVariants.Group as AtGroup, request.GroupCommand.TheVariants.Make, request.GroupCommand.TheVariants.Drop}
 use Rattle.gb_rules.specs.Common.{is_addr, is_same_room, is_reached_by, is_other_generation}
 use Rattle.gb_alone.specs.declared.event.GroupEvent.TheVariants.{OtherMade, OtherDropped}
@@ -14,6 +14,13 @@ own_generation g addr own = and_right (is_same_room g addr) (not (is_addr g addr
 -- another generation has another address
 pub other_address : (g addr : Addr) → is_other_generation g addr ≡ true → is_addr g addr ≡ false
 other_address g addr other = grind (arith, nat_tests, other)
+
+-- and another number
+pub other_number : (g addr : Addr) → is_other_generation g addr ≡ true → addr.generation ≢ g.generation
+other_number g addr other = λ same. let own : is_addr g addr ≡ true = grind (arith, nat_tests, other, same) in clash (sym own ∙ other_address g addr other)
+  where
+    clash : true ≡ false → ⊥
+    clash e = cc
 
 -- another generation reaches the group if it is a later one
 pub reached_later : (g addr : Addr) → is_other_generation g addr ≡ true → is_reached_by g addr ≡ nat_lt g.generation addr.generation

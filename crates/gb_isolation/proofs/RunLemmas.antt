@@ -8,6 +8,7 @@ use Rattle.gb_rules.specs.Common.{said_in}
 use Rattle.gb_alone.specs.Common.{Group, Member, nobody, after, alone, alone_from, is_message, accepted}
 use Rattle.gb_alone.proofs.{AcceptedLemmas.alone_said, AcceptedLemmas.length-own_said, IntegrityLemmas.is_integral}
 use Rattle.gb_node.specs.Common.{node_numbered, Happened, read, frames_to, is_acked, is_first, is_taken, is_stopped, packed_for, Told, waiting_of, told_of, living_of, living_after, IsAnswered, AnswersSay, added, tenants_in}
+use Rattle.gb_isolation.specs.Rooms.{RoomsAreCounted}
 use Rattle.gb_node.specs.Past.{ComesTo as NodeComesTo}
 use Rattle.gb_node.specs.declared.{answer.Good.Good, answer.NodeAnswer.NodeAnswer, answer.PacketAnswer.TheVariants.Good as TakenGood, answer.Sent.TheVariants.Packet as SentPacket, answer.Ticked.TheVariants.Noticed, event.NodeEvent.NodeEvent, plan.NodePlan.NodePlan}
 use Rattle.gb_node.specs.declared.answer.NodeAnswer.TheVariants.{Reply as Replied, Taken, Sent, Ticked}
@@ -16,7 +17,7 @@ use Rattle.gb_cluster.specs.Common.{ClusterValue, node_plan, node_at, IsAlwaysWh
 use Rattle.gb_cluster.proofs.NodesLemmas.{Stays, stays, have_pasts, past_same, past_other}
 use Rattle.gb_isolation.specs.Project.{made_by, gives, project, group_items_of, is_fed, is_starved_by, is_new_frame, made_with, replies_in, is_met}
 use Rattle.gb_isolation.specs.RunLaws.{is_dropped, is_dropped_by}
-use Rattle.gb_isolation.proofs.View.{View, view_of, view_at, frames_for, AreMarked, MemberIs, IsThere, Fits, Goes, AllFit, BehavesAlone}
+use Rattle.gb_isolation.proofs.View.{View, view_of, view_at, frames_for, AreMarked, MemberIs, IsThere, IsCounted, Fits, Goes, AllFit, BehavesAlone}
 use Rattle.gb_isolation.proofs.NextLemmas.{none_beyond_accepted, none_of_front}
 use Rattle.gb_isolation.proofs.ArriveLemmas.{arrived_goes}
 use Rattle.gb_isolation.proofs.FitLemmas.{frames_fit}
@@ -96,6 +97,7 @@ not_replied g request x n no_reply = (refl, refl, refl, refl)
 -- The laws of nodes and links that the theorem stands on.
 pub record Laws : Type 0 where
   pub answers : AnswersSay
+  pub rooms : RoomsAreCounted
   pub links : LinksHold
   pub new : (plan : Plan) (run : List NodeStep) (a : NodeId) (bytes : List ℕ) (good : Good) (v : ClusterValue) (c : Content) → ComesTo plan (record { node = a; event = Brought bytes; answer = Taken (TakenGood good) } ∷ run) v → read plan.cluster_key bytes ≡ c ∷ []
       → is_first good.frame ≡ is_new_frame plan.cluster_key (past_at a run) c
@@ -124,6 +126,15 @@ module _ (laws : Laws) (plan : Plan) (g : Addr) (run : List NodeStep) (before : 
       low : length (accepted (bounds_of plan) g (project plan g run) a.number) < said_in t.calls + 1
       low = omega (arith, ap said_in st.calls, ap length (alone_said (bounds_of plan) g a.number (project plan g run)), length-own_said (group a.number).told)
 
+  -- the generations of the group's room
+  counted : (a : NodeId) → a.number < plan.nodes → IsCounted (node_plan plan a) g (past_at a run)
+  counted a within =
+      let come = have_pasts plan run before a comes within in
+      record {
+        living = λ addr other t is. laws.rooms.living (node_plan plan a) (past_at a run) (node_at before a) come g addr other t is;
+        absent = λ addr other is. laws.rooms.absent (node_plan plan a) (past_at a run) (node_at before a) come g addr other is;
+      }
+
   -- what an event gives the group
   step_goes : (a : NodeId) (e : NodeEvent) (x : NodeAnswer) (v : ClusterValue) → a.number < plan.nodes → ComesTo plan (record { node = a; event = e; answer = x } ∷ run) v → IsAnswered (node_plan plan a) (past_at a run) e x
       → is_starved_by a g (past_at a run) e x ≡ false
@@ -132,7 +143,7 @@ module _ (laws : Laws) (plan : Plan) (g : Addr) (run : List NodeStep) (before : 
   step_goes a (Asked request) (Replied reply) v within goes answered fed =
       asked_goes (node_plan plan a) plan.versions g (past_at a run) request reply (frames_for plan run a) group refl few
       (silent_is (node_plan plan a) (past_at a run) few least)
-      (λ b is. laws.answers.noticed (node_plan plan a) (past_at a run) (node_at before a) b (have_pasts plan run before a comes within) is) (unsaid a within) answered fed (was.fits a within)
+      (λ b is. laws.answers.noticed (node_plan plan a) (past_at a run) (node_at before a) b (have_pasts plan run before a comes within) is) (unsaid a within) (counted a within) answered fed (was.fits a within)
   step_goes a (Pack b) (Sent (SentPacket text)) v within goes answered fed = packed_goes (node_plan plan a) plan.versions g (past_at a run) b text (frames_for plan run a) group few answered (was.fits a within)
   step_goes a Tick (Ticked (Noticed found)) v within goes answered fed = ticked_goes (node_plan plan a) plan.versions g (past_at a run) found (frames_for plan run a) group few answered (was.fits a within)
   step_goes a (Brought bytes) (Taken (TakenGood good)) v within goes answered fed =

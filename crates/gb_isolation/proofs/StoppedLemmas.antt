@@ -23,7 +23,7 @@ refused = Refused Stopped
 pub record IsCommand (g : Addr) (a : NodeId) (what : Action) : Type 0 where
   pub event : GroupEvent
   pub one : command_for a what ≡ record { node = a; event = event } ∷ []
-  pub may : (group : Group) → MayHappen a event group
+  pub may : (group : Group) → MayHappen g a event group
   pub replied : (bounds : Bounds) (addr : Addr) (group : Group) → member_after bounds addr a event group ≡ commanded a event (reply_to bounds addr a.number event (group a.number)) (group a.number)
   pub nothing : (m : Member) → did a event refused m ≡ m
 

@@ -4,11 +4,12 @@ use Rattle.std.specs.FinSet as set
 use Rattle.gb_types.specs.declared.{address.Addr.Addr, entry.Entry.Entry, node.NodeId.NodeId, reply.Reply.Reply, request.Request.Request, spec.Spec.Spec, plan.Plan.Plan, plan.Bounds.Bounds, version.Version.Version}
 use Rattle.gb_frame.specs.declared.item.Item.{Item}
 use Rattle.gb_detect.specs.Silence.{is_noticed}
-use Rattle.gb_rules.specs.Common.{said_in, is_gone, is_other, is_member, reserve_of, row_of}
+use Rattle.gb_rules.specs.Common.{said_in, is_gone, is_other, is_other_generation, is_member, reserve_of, row_of}
 use Rattle.gb_rules.specs.declared.{phase.Phase.TheVariants.Made, reserve.Reserve.Reserve}
 use Rattle.gb_alone.specs.Common.{Member, Group, alone, alone_from, held_spec, is_marked, is_acknowledged, IsLegal, IsLegalFrom}
 use Rattle.gb_alone.specs.declared.event.GroupStep.{GroupStep}
 use Rattle.gb_node.specs.Common.{node_numbered, Happened, frames_to, is_acked, is_taken, tenants_in, watched, Told, noticed_after, waiting_of, told_of, living_of}
+use Rattle.gb_isolation.specs.Rooms.{one_living}
 use Rattle.gb_node.specs.declared.{answer.NodeAnswer.TheVariants.Reply as Replied, event.NodeEvent.TheVariants.Request as Asked, plan.NodePlan.NodePlan}
 use Rattle.gb_cluster.specs.Common.{node_plan, NodeStep, past_at}
 use Rattle.gb_isolation.specs.Project.{project, asked, is_own_request, command_for, tenant_given, other_given, ticked, group_items_of, offset, made_by, made_with, replies_in, is_met}
@@ -126,6 +127,11 @@ pub record Fits (nodes : ℕ) (g : Addr) (me : ℕ) (frames_from : ℕ → List 
   pub come : (b : ℕ) → b < nodes → AreMarked g (frames_from b) (v.taken b) (m.come b)
   pub done : (b : ℕ) → b < nodes → AreMarked g (v.frames b) (v.acked b) (m.done b)
   pub acks : KeepsAcks nodes me v.told (λ b. group_items_of g (v.frames b)) m.done
+
+-- At the node the group counts each other generation of its room that lives, and one that may still be made counts all that live.
+pub record IsCounted (plan : NodePlan) (g : Addr) (past : List Happened) : Type 0 where
+  pub living : (addr : Addr) → is_other_generation g addr ≡ true → (t : Told) → told_of plan addr past ≡ Some (Some t) → 0 < living_of g past
+  pub absent : (addr : Addr) → is_other_generation g addr ≡ true → told_of plan addr past ≡ None → living_of g past + one_living (told_of plan g past) ≤ living_of addr past
 
 -- the bounds of a cluster in which a node has this plan and the nodes send these versions
 abbrev pub bounds_with : NodePlan → List Version → Bounds

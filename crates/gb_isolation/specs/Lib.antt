@@ -1,4 +1,5 @@
 pub mod Project
 pub mod Isolation
+pub mod Rooms
 pub mod Decides
 pub mod RunLaws

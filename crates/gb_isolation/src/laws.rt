@@ -1,12 +1,29 @@
 //! What holds of each group in every run of a cluster.
 ghost use Rattle.gb_isolation.specs.Decides.{EachNodeDecides};
 ghost use Rattle.gb_isolation.specs.Isolation.{AmpleRunsFeedAll, EveryGroupIsIsolated, GroupsAreIsolated};
+ghost use Rattle.gb_isolation.specs.Rooms.{RoomsAreCounted};
 ghost use Rattle.gb_isolation.specs.RunLaws.{GroupsDoTheirDuties, GroupsKeepIntegrity, GroupsKeepOrder, LogsMayBeFetched, OnlySomeTakeMemory, RefusalsChangeNothing, RefusalsMayBeLeftOut, RunsAgree, RunsAgreeNodeByNode, SettledGroupsAgree, StrangersAreDenied, TicksAnswerNewNotices};
 
 use gb_alone::laws::{integrity, order};
 use gb_cluster::laws::{links_hold, nothing_is_outside};
 use gb_duties::laws::{agreement, duties};
+use gb_detect::laws::noticed_by_calls;
+use gb_frame::laws::what_is_written_is_read;
 use gb_node::past::{answers_say, pasts_say};
+use gb_slot::history::stands;
+use gb_table::each::each_group;
+
+/// A law of every node, whatever happens at it: the generations of a room that live there count each other. So a generation that lives is
+/// among the others of each other one, and one that may still be made counts all that live. The function does nothing when it runs; its
+/// contract is the law.
+pub fn rooms_are_counted()
+    ensures { RoomsAreCounted }
+{
+    what_is_written_is_read();
+    each_group();
+    stands();
+    noticed_by_calls();
+}
 
 /// The main law. It holds for every plan, every run of a cluster and every group that had no request refused for lack of memory.
 /// What happened to the group in the run is a legal list of events of the group by itself, without other tenants, links or frames.
@@ -17,6 +34,7 @@ pub fn groups_are_isolated()
 {
     pasts_say();
     answers_say();
+    rooms_are_counted();
     links_hold();
     nothing_is_outside();
 }
@@ -51,6 +69,7 @@ pub fn logs_may_be_fetched()
 {
     pasts_say();
     answers_say();
+    rooms_are_counted();
     links_hold();
     nothing_is_outside();
 }
@@ -104,6 +123,7 @@ pub fn groups_keep_order()
     refusals_may_be_left_out();
     pasts_say();
     answers_say();
+    rooms_are_counted();
     links_hold();
     nothing_is_outside();
     order();
@@ -122,6 +142,7 @@ pub fn groups_do_their_duties()
     refusals_may_be_left_out();
     pasts_say();
     answers_say();
+    rooms_are_counted();
     links_hold();
     nothing_is_outside();
     duties();
@@ -140,6 +161,7 @@ pub fn settled_groups_agree()
     refusals_may_be_left_out();
     pasts_say();
     answers_say();
+    rooms_are_counted();
     links_hold();
     nothing_is_outside();
     agreement();

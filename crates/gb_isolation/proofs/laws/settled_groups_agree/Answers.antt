@@ -6,4 +6,4 @@ use Rattle.gb_isolation.proofs.RunLemmas.{behaves}
 use Rattle.gb_isolation.proofs.laws.settled_groups_agree.Goals as goal
 
 pub returns : goal.returns
-returns c = of_every c.refusals_may_be_left_out.ensures RunAgreement (all_agreed c.agreement.ensures c.groups_are_isolated.ensures (behaves (laws_hold c.pasts_say.ensures c.answers_say.ensures c.links_hold.ensures c.nothing_is_outside.ensures)))
+returns c = of_every c.refusals_may_be_left_out.ensures RunAgreement (all_agreed c.agreement.ensures c.groups_are_isolated.ensures (behaves (laws_hold c.pasts_say.ensures c.answers_say.ensures c.rooms_are_counted.ensures c.links_hold.ensures c.nothing_is_outside.ensures)))
