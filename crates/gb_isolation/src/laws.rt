@@ -6,8 +6,8 @@ ghost use Rattle.gb_isolation.specs.RunLaws.{GroupsDoTheirDuties, GroupsKeepInte
 
 use gb_alone::laws::{integrity, order};
 use gb_cluster::laws::{links_hold, nothing_is_outside};
-use gb_duties::laws::{agreement, duties};
 use gb_detect::laws::noticed_by_calls;
+use gb_duties::laws::{agreement, duties};
 use gb_frame::laws::what_is_written_is_read;
 use gb_node::past::{answers_say, pasts_say};
 use gb_slot::history::stands;
