@@ -24,9 +24,6 @@ EMBEDDED = {
     "crates/gb_frame/src/writing.rt": ("encode",),
     "crates/gb_frame/src/item.rt": ("put_items", "view"),
     "crates/gb_host/src/seat.rt": ("mine",),
-    "crates/gb_merge/src/fed.rt": ("merge_fed",),
-    "crates/gb_merge/src/rest.rt": ("fed",),
-    "crates/gb_merge/src/weave.rt": ("whole_fed",),
 }
 
 

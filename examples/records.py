@@ -288,7 +288,7 @@ class Changes:
     def other_run(self, run: int) -> None:
         """The record of a node is of another run."""
         lines = read(self.cluster.path(run, 1, "record"))
-        expect("a record is of another run", self.audited({1: lines}), 1, r"audit fault 3 node-1 line \d+")
+        expect("a record is of another run", self.audited({1: lines}), 1, r"other keys node-1 line \d+")
 
 
 def walk(cluster: Cluster) -> None:
@@ -298,7 +298,7 @@ def walk(cluster: Cluster) -> None:
     if any(os.stat(name).st_mode & 0o777 != 0o600 for name in names):
         raise Wrong("a record may be read by others than its owner")
     found = cluster.audited(1, names)
-    expect("the records of all three", found, 0, r"merged \d+ events")
+    expect("the records of all three", found, 0, "whole of the records given, partial")
     cluster.start(1, KILLED)
     if cluster.printed(1, KILLED) != [f"node {KILLED} has begun in run 1 already"]:
         raise Wrong(f"node {KILLED} started again and printed {cluster.printed(1, KILLED)}")
@@ -310,7 +310,7 @@ def walk(cluster: Cluster) -> None:
     for node in NODES:
         cluster.end(2, node)
     names = [cluster.path(2, node, "record") for node in NODES]
-    expect("the records of the next run", cluster.audited(2, names), 0, r"merged \d+ events")
+    expect("the records of the next run", cluster.audited(2, names), 0, "whole of the records given, complete")
     group = f"group {TENANT} 1"
     expect("a group in that run", cluster.audited(2, names, "--group", str(TENANT), "1"), 0, f"{group} same")
     changes = Changes(cluster, 1)

@@ -4,7 +4,7 @@
 #![tactic(auto)]
 
 ghost use Rattle.gb_cluster.specs.Common.{IsClusterPlan};
-ghost use Rattle.gb_merge.specs.Common.{IsMergedFront};
+ghost use Rattle.gb_merge.specs.Common.{IsMergedFront, fed_tapes};
 
 use clap::error::ErrorKind;
 use clap::{Arg, ArgAction, Command};
@@ -224,7 +224,7 @@ fn write_replay(
 // Prints what the audited run shows of a group, beside what the group is alone.
 fn print_group(rt: &HostRuntime, run: &Audited, addr: Addr) -> Result<(), Trouble>
     requires plan { IsClusterPlan run.now.plan }
-    requires front { IsMergedFront run.now.plan run.now.tapes.items run.now.events.items }
+    requires front { IsMergedFront run.now.plan (fed_tapes run.now.tapes.items) run.now.events.items }
 {
     let alloc = rt.alloc();
     let found = compare(alloc, &run.plan, &run.events, addr)?;
@@ -323,7 +323,7 @@ fn audit_files(rt: &HostRuntime, names: &Names<'_>) -> Result<u8, Trouble> {
     print(rt, &lines)?;
     let found = found?;
     let status = status_of(&found);
-    let Some(run) = &found else {
+    let Ok(run) = &found else {
         return Ok(status);
     };
     if let Some(addr) = names.group {

@@ -95,7 +95,7 @@ fn an_answer_is_another(rt: HostRuntime) {
     judge(&rt, rt.alloc(), &REFUSED);
 }
 
-// The packet that no tape sent, and each entry behind it, are not in the run.
+// The packet that no tape sent, and each entry behind it, are not in the run. Nor is an entry that lack of memory refused.
 #[test]
 fn a_front_ends_where_a_packet_was_never_sent(rt: HostRuntime) {
     let none: &[&str] = &[];
@@ -103,6 +103,7 @@ fn a_front_ends_where_a_packet_was_never_sent(rt: HostRuntime) {
     judge_part(&rt, rt.alloc(), Part::Front, &UNSENT, Ok(none));
     judge_part(&rt, rt.alloc(), Part::Front, &STUCK, Ok(first));
     judge_part(&rt, rt.alloc(), Part::Front, &STRANGER, Ok(none));
+    judge_part(&rt, rt.alloc(), Part::Front, &REFUSED, Ok(none));
 }
 
 // A packet of the second node comes to the first, whose tick follows. The second node's tape is lost: the first ends before that
@@ -134,5 +135,4 @@ fn a_tape_that_is_cut_short_ends_others_where_they_took_what_it_sent(rt: HostRun
 fn a_front_with_another_answer_differs(rt: HostRuntime) {
     let differs = Err(AuditFault::Differs);
     judge_part(&rt, rt.alloc(), Part::Front, &ITSELF_NOTICED, differs);
-    judge_part(&rt, rt.alloc(), Part::Front, &REFUSED, differs);
 }

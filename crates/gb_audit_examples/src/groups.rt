@@ -1,6 +1,6 @@
 // What an audited run shows of the groups of two tenants, beside what they are alone.
 ghost use Rattle.gb_cluster.specs.Common.{IsClusterPlan};
-ghost use Rattle.gb_merge.specs.Common.{IsMergedFront};
+ghost use Rattle.gb_merge.specs.Common.{IsMergedFront, fed_tapes};
 
 use crate::merged::plan_with;
 use crate::records::{KEYS, records_of, sources};
@@ -89,7 +89,7 @@ static CASES: [Case; 4] = [
 // Returns what is told of a group in an audited run. `None` if the group is not what it is alone.
 fn lines_of(alloc: Global, audited: &Audited, addr: Addr) -> Result<Option<Vec<u8>>, OutOfMemory>
     requires plan { IsClusterPlan audited.now.plan }
-    requires front { IsMergedFront audited.now.plan audited.now.tapes.items audited.now.events.items }
+    requires front { IsMergedFront audited.now.plan (fed_tapes audited.now.tapes.items) audited.now.events.items }
 {
     let found = compare(alloc, &audited.plan, &audited.events, addr)?;
     if !found.is_same {
@@ -107,7 +107,7 @@ fn are_shown(alloc: Global) -> Result<bool, OutOfMemory> {
         return Ok(false);
     };
     let mut told = Vec::new(alloc);
-    let Some(audited) = audit(alloc, &sources(first, second), KEYS, &mut told)? else {
+    let Ok(audited) = audit(alloc, &sources(first, second), KEYS, &mut told)? else {
         return Ok(false);
     };
     for case in &CASES {

@@ -31,7 +31,7 @@ const LACKING: Case = Case {
 fn what_was_refused_is_left_out(rt: HostRuntime) {
     judge(&rt, rt.alloc(), &LACKING);
     let fed: &[&str] = &["0r", "0r", "0r", "0r", "0p", "#1", "1t"];
-    judge_part(&rt, rt.alloc(), Part::Fed, &LACKING, Ok(fed));
+    judge_part(&rt, rt.alloc(), Part::Front, &LACKING, Ok(fed));
 }
 
 // The group was never made, so a message in it is refused. The run has that answer.
@@ -49,7 +49,7 @@ const NEVER_MADE: Case = Case {
 #[test]
 fn what_was_refused_did_not_happen(rt: HostRuntime) {
     judge(&rt, rt.alloc(), &NEVER_MADE);
-    judge_part(&rt, rt.alloc(), Part::Fed, &NEVER_MADE, Ok(&["0r", "0r"]));
+    judge_part(&rt, rt.alloc(), Part::Front, &NEVER_MADE, Ok(&["0r", "0r"]));
 }
 
 // A packet that was refused was not sent. Another node took it in, so no tape sent it.
@@ -89,10 +89,15 @@ const WRONG: Case = Case {
 #[test]
 fn other_faults_are_told_beside_refusals(rt: HostRuntime) {
     judge(&rt, rt.alloc(), &NOT_SENT);
-    let stranger = Err(AuditFault::Stranger);
-    judge_part(&rt, rt.alloc(), Part::Fed, &NOT_SENT, stranger);
+    judge_part(&rt, rt.alloc(), Part::Front, &NOT_SENT, Ok(&[]));
     judge(&rt, rt.alloc(), &WAITING);
-    judge_part(&rt, rt.alloc(), Part::Fed, &WAITING, Err(AuditFault::Stuck));
+    judge_part(&rt, rt.alloc(), Part::Front, &WAITING, Ok(&[]));
     judge(&rt, rt.alloc(), &WRONG);
-    judge_part(&rt, rt.alloc(), Part::Fed, &WRONG, Err(AuditFault::Differs));
+    judge_part(
+        &rt,
+        rt.alloc(),
+        Part::Front,
+        &WRONG,
+        Err(AuditFault::Differs),
+    );
 }

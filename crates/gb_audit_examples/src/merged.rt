@@ -6,7 +6,7 @@ use crate::requests::ADMIN_KEY;
 use crate::steps::{At, Taped, hand_over, lose, start, take_all};
 use gb_cluster::Event;
 use gb_merge::AuditFault;
-use gb_merge::fed::{fed_is_one_run, merge_fed, refusals_leave_nodes};
+use gb_merge::fed::{fed_is_one_run, refusals_leave_nodes};
 use gb_merge::front::merge_front;
 use gb_merge::merge::merge;
 use gb_node::{NodeEvent, Tape};
@@ -106,10 +106,8 @@ fn are_told(events: &[Event], told: &[&str]) -> bool {
 pub enum Part {
     /// All entries; a fault if they are not one run.
     All,
-    /// The first entries that are one run.
+    /// The first entries that are one run, without those that were refused for lack of memory.
     Front,
-    /// The entries that were not refused for lack of memory; a fault if they are not one run.
-    Fed,
 }
 
 /// Merges tapes, one for each node.
@@ -126,11 +124,10 @@ fn merge_part(
     }
     match part {
         Part::All => merge(alloc, plan, tapes),
-        Part::Front => merge_front(alloc, plan, tapes),
-        Part::Fed => {
+        Part::Front => {
             fed_is_one_run();
             refusals_leave_nodes();
-            merge_fed(alloc, plan, tapes)
+            merge_front(alloc, plan, tapes)
         }
     }
 }
@@ -181,22 +178,17 @@ fn gives(alloc: Global, part: Part, case: &Case, wanted: Result<&[&str], AuditFa
     }
 }
 
-/// Returns true if merging returns what the case says. If the tapes are one run, merging their front, and merging the entries that
-/// were not refused for lack of memory, return the same events.
+/// Returns true if merging returns what the case says. If the tapes are one run, merging their front returns the same events.
 fn holds(alloc: Global, case: &Case) -> bool {
     let all = gives(alloc, Part::All, case, case.told);
     match case.told {
-        Ok(_) => {
-            all && gives(alloc, Part::Front, case, case.told)
-                && gives(alloc, Part::Fed, case, case.told)
-        }
+        Ok(_) => all && gives(alloc, Part::Front, case, case.told),
         Err(_) => all,
     }
 }
 
 /// Takes the steps of a case and merges their tapes. The test aborts with a message unless that returns the events or the fault of
-/// the case. If the case has events, merging the front of the tapes, and merging the entries that were not refused for lack of
-/// memory, must return the same.
+/// the case. If the case has events, merging the front of the tapes must return the same.
 pub fn judge(rt: &impl Abort, alloc: Global, case: &Case) {
     let held = holds(alloc, case);
     assert!(rt; held);

@@ -197,11 +197,11 @@ fn is_told(alloc: Global, texts: &[Vec<u8>], case: &Case) -> Result<bool, OutOfM
     is_audited(alloc, &sources, KEYS, case.lines, case.status)
 }
 
-static CASES: [Case; 13] = [
+static CASES: [Case; 15] = [
     Case {
         first: Change::None,
         second: Change::None,
-        lines: "tape a node 0 entries 7 whole\ntape b node 1 entries 8 whole\nmerged 15 events\n",
+        lines: "tape a node 0 entries 7 whole\ntape b node 1 entries 8 whole\nmerged 15 events\nwhole of the records given, complete\n",
         status: 0,
     },
     // An answer is changed: what node 1 fetched.
@@ -211,12 +211,19 @@ static CASES: [Case; 13] = [
         lines: "tape a node 0 entries 7 whole\ntape b node 1 entries 8 whole\naudit fault 3 b line 7\n",
         status: 1,
     },
-    // An answer says that the node had no memory. A record with such an answer is not replayed further.
+    // An answer is changed, and says that the node had no memory: what the node did further is not what it does without the message.
     Case {
         first: Change::Replace(5, b"> said 1", b"> refused 16 OutOfMemory"),
         second: Change::None,
-        lines: "tape a node 0 entries 7 whole\ntape b node 1 entries 8 whole\naudit fault 3 a line 5\n",
+        lines: "tape a node 0 entries 7 whole\npassed over a entries 1\ntape b node 1 entries 8 whole\naudit fault 3 a line 6\n",
         status: 1,
+    },
+    // A tick is answered so.
+    Case {
+        first: Change::Replace(8, b"> noticed -", b"> refused 16 OutOfMemory"),
+        second: Change::None,
+        lines: "tape a node 0 entries 7 whole\npassed over a entries 1\ntape b node 1 entries 8 whole\nmerged 14 events\nwhole of the records given, complete\n",
+        status: 0,
     },
     // An entry is dropped: the opening of the group in which node 0 says a message.
     Case {
@@ -252,6 +259,13 @@ static CASES: [Case; 13] = [
         second: Change::None,
         lines: "tape a node 0 entries 4 cut torn 3\ntape b node 1 entries 8 whole\nleft b line 6 entries 4 awaits 0\nmerged 8 events\n",
         status: 3,
+    },
+    // The end of a record is missing, and no other record heard of what stood there.
+    Case {
+        first: Change::None,
+        second: Change::Cut(8, 0),
+        lines: "tape a node 0 entries 7 whole\ntape b node 1 entries 7 cut torn 0\nmerged 14 events\nwhole of the records given, partial\n",
+        status: 0,
     },
     // The record is said to be another node's.
     Case {
@@ -291,14 +305,62 @@ static CASES: [Case; 13] = [
 ];
 
 // Returns true if the audit of each case prints its lines.
-fn are_told(alloc: Global) -> Result<bool, OutOfMemory> {
-    let texts = records_of(alloc, &plan(2), &STEPS)?;
-    for case in &CASES {
-        if !is_told(alloc, &texts, case)? {
+fn are_all_told(alloc: Global, texts: &[Vec<u8>], cases: &[Case]) -> Result<bool, OutOfMemory> {
+    for case in cases {
+        if !is_told(alloc, texts, case)? {
             return Ok(false);
         }
     }
     Ok(true)
+}
+
+fn are_told(alloc: Global) -> Result<bool, OutOfMemory> {
+    let texts = records_of(alloc, &plan(2), &STEPS)?;
+    are_all_told(alloc, &texts, &CASES)
+}
+
+// Node 1 takes a packet of node 2, of which there is no record, and behind it one of node 0.
+static BEHIND: [At; 12] = [
+    (0, Step::Ask(Asked::AddTenant)),
+    (0, Step::Ask(Asked::MakeGroup)),
+    (0, Step::Ask(Asked::OpenGroup)),
+    (0, Step::Ask(Asked::Say(b"a"))),
+    (0, Step::Pack(1)),
+    (1, Step::Ask(Asked::AddTenant)),
+    (1, Step::Ask(Asked::MakeGroup)),
+    (1, Step::Ask(Asked::OpenGroup)),
+    (2, Step::Ack(1)),
+    (1, Step::Come(2, 0)),
+    (1, Step::Come(0, 4)),
+    (1, Step::Tick),
+];
+
+static BEHIND_CASES: [Case; 2] = [
+    // The record of node 2 may have what it sent.
+    Case {
+        first: Change::None,
+        second: Change::None,
+        lines: "tape a node 0 entries 5 whole\ntape b node 1 entries 6 whole\nleft b line 5 entries 3 awaits 2\nmerged 8 events\n",
+        status: 3,
+    },
+    // That explains nothing of the packet behind, which node 0, whose record is whole, did not send.
+    Case {
+        first: Change::End(5),
+        second: Change::None,
+        lines: "tape a node 0 entries 4 whole\ntape b node 1 entries 6 whole\naudit fault 1 b line 6\nmerged 7 events\n",
+        status: 1,
+    },
+];
+
+fn are_told_behind(alloc: Global) -> Result<bool, OutOfMemory> {
+    let texts = records_of(alloc, &plan(3), &BEHIND)?;
+    are_all_told(alloc, &texts, &BEHIND_CASES)
+}
+
+#[test]
+fn a_missing_record_hides_no_packet_that_nobody_sent(rt: HostRuntime) {
+    let told = are_told_behind(rt.alloc());
+    assert!(rt; told == Ok(true));
 }
 
 // A record of another run stands in for node 1's. Its packets are tagged under that run's key, so the first that it sent is not what the
@@ -306,7 +368,7 @@ fn are_told(alloc: Global) -> Result<bool, OutOfMemory> {
 const OTHER_RUN: Case = Case {
     first: Change::None,
     second: Change::None,
-    lines: "tape a node 0 entries 7 whole\ntape b node 1 entries 8 whole\naudit fault 3 b line 5\n",
+    lines: "tape a node 0 entries 7 whole\ntape b node 1 entries 8 whole\nother keys b line 5\n",
     status: 1,
 };
 

@@ -6,7 +6,8 @@ use crate::steps::{At, Step};
 use gb_audit_run::ClusterKeys;
 use gb_cap::Key;
 use gb_redact::laws::{
-    denied_leave_nothing, marked_are_read, redacted_are_a_tape, right_stay_right,
+    copies_are_audited_alike, denied_leave_nothing, marked_are_read, redacted_are_a_tape,
+    right_stay_right,
 };
 use gb_redact::text::{keys_text, redact_text, unmarked_text};
 use gb_spelling::token_word::read_token;
@@ -104,9 +105,9 @@ fn are_audited(alloc: Global, first: &[u8], second: &[u8]) -> Result<bool, OutOf
     let Some(admin) = read_token(ADMIN) else {
         return Ok(false);
     };
-    let run = "tape a node 0 entries 6 whole\ntape b node 1 entries 6 whole\nmerged 12 events\n";
-    let old =
-        "tape a node 0 entries 6 whole\ntape b node 1 entries 6 whole\naudit fault 3 a line 3\n";
+    let run =
+        "tape a node 0 entries 6 whole\ntape b node 1 entries 6 whole\nmerged 12 events\nwhole of the records given, complete\n";
+    let old = "tape a node 0 entries 6 whole\ntape b node 1 entries 6 whole\nother keys a line 3\n";
     let left =
         "tape a node 0 entries 4 cut torn 0\ntape b node 1 entries 6 whole\nleft b line 5 entries 3 awaits 0\nmerged 7 events\n";
     let cut = changed(alloc, first, Change::Cut(5, 60))?;
@@ -137,6 +138,7 @@ fn redacted_records_are_audited_with_the_keys_beside_them(rt: HostRuntime) {
     redacted_are_a_tape();
     denied_leave_nothing();
     marked_are_read();
+    copies_are_audited_alike();
     let right = outcome(rt.alloc());
     assert!(rt; right == Ok(true));
 }

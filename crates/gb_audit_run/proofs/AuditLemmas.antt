@@ -1,13 +1,19 @@
 -- Records, one after another, and the tapes that they make.
-use Rattle.gb_types.specs.Common.{◌≡◌, ◌≢◌, ℕ, zero, suc, ◌+◌, ◌<◌, ◌≤◌, List, [], ◌∷◌, ◌++◌, length, map, take, get_or, All, ◌↔◌, refl, sym, ap, ◌∙◌, subst, arith, Option, Some, None, IsSome, Vec, vec_len, AllPairs, sum, slice_get, range_with_len, AllZip, set, take_more, take_all, take-map, get_or-take, length-take-le, map-append, get_or-set_same, get_or-set_other, length-map, same_lists, get_or_default, append-nil, All-append, All-get_or, All-head, All-tail, sum_by-take-le, sum_by-append, sum_by-cons, version_at}
-use Rattle.std.proofs.{Math.ListN.get_or-map, lemmas.Slice.Zip.all_zipped_more, lemmas.List.FromFn.length-map-range_with_len, lemmas.List.FromFn.get_or-map-range_with_len}
+use Rattle.gb_types.specs.Common.{◌≡◌, ◌≢◌, ℕ, zero, suc, ◌+◌, ◌<◌, ◌≤◌, ◌⊎◌, List, [], ◌∷◌, ◌++◌, length, map, take, get_or, All, ◌↔◌, refl, sym, ap, ◌∙◌, subst, arith, Option, Some, None, IsSome, Vec, vec_len, AllPairs, sum, slice_get, range_with_len, AllZip, set, take_more, take_all, take-map, get_or-take, length-take-le, map-append, get_or-set_same, get_or-set_other, length-map, same_lists, get_or_default, append-nil, All-append, All-get_or, All-head, All-tail, sum_by-take-le, sum_by-append, sum_by-cons, version_at, limits_of, inl, inr, cases_eq, length-append, get_or_append_left, get_or-append_seam, not, Bool, true}
+use Rattle.std.proofs.{Math.ListN.get_or-map, lemmas.List.Sums.length-filter, lemmas.Slice.Zip.all_zipped_more, lemmas.List.FromFn.length-map-range_with_len, lemmas.List.FromFn.get_or-map-range_with_len}
 use Rattle.std.specs.declared.alloc.Global.{Global}
-use Rattle.gb_types.specs.declared.{version.Version.Version, version.Version.TheVariants.One}
+use Rattle.gb_types.specs.declared.{limits.TheConstants.NODES, plan.Plan.Plan, version.Version.Version, version.Version.TheVariants.One}
+use Rattle.gb_cluster.specs.Common.{IsClusterPlan}
 use Rattle.gb_node.specs.declared.tape.TapeEntry.{TapeEntry}
 use Rattle.gb_record_text.specs.declared.{head.RecordHead.RecordHead, reader.Record.Record}
 use Rattle.gb_audit_run.specs.declared.audit.Source.{Source}
 use Rattle.gb_record_text.specs.{Fits.FitsRecord, Laws.AreSame, Laws.OneTextOneRecord}
-use Rattle.gb_audit_run.specs.Audits.{AreOfOne, HasText, entries_of, IsAllAnswered, AreTheOnly}
+use Rattle.gb_cluster.specs.declared.event.Event.{Event}
+use Rattle.gb_merge.specs.Common.{IsMergedFront, fed_of, fed_tapes, wants_memory}
+use Rattle.gb_audit_run.specs.Audits.{AreEnded, AreFaulty, AreOfOne, AreRecords, AreUnlike, AreUnplanned, HasGapAt, HasText, HasWrong, ended_of, entries_of, fed_count, IsAllAnswered, IsAudit, IsAudited, IsFaulty, IsMergedFrom, IsRight, IsVerdict, AreSent, AreTheOnly, IsCluster, IsOfPlan, IsUnaudited, IsUnplanned, SendsOne, tapes_of}
+use Rattle.gb_audit_run.specs.Counts.{IsFirstGap}
+use Rattle.gb_audit_run.specs.Replayed.{IsFirstWrong}
+use Rattle.gb_audit_run.specs.declared.{audit.Audited.Audited, audit.Unaudited.Unaudited, cluster.ClusterKeys.ClusterKeys}
 
 -- a test of each element of a list, from the first on
 
@@ -99,14 +105,76 @@ read_more sources records i d record_read lt has before =
 pub mapped_more : {X Y : Type 0} (f : X → Y) (xs : List X) (i : ℕ) (x : X) → i < length xs → x ≡ get_or xs i x → map f (take (i + 1) xs) ≡ map f (take i xs) ++ f x ∷ []
 mapped_more f xs i x lt is = ap (map f) (take_more xs i x lt ∙ ap (λ y. take i xs ++ y ∷ []) (sym is)) ∙ map-append f (take i xs) (x ∷ [])
 
--- a tape's entries and those of the tapes before it are not more than all
-pub sum_past : (tapes : List (List TapeEntry)) (i : ℕ) (tape : List TapeEntry) → i < length tapes → tape ≡ get_or tapes i tape → sum (map length (take i tapes)) + length tape ≤ sum (map length tapes)
-sum_past tapes i tape lt is =
-    let more : sum (map length (take (i + 1) tapes)) ≡ sum (map length (take i tapes)) + sum (length tape ∷ []) = ap sum (mapped_more length tapes i tape lt is) ∙ sum_by-append (λ n. n) (map length (take i tapes)) (length tape ∷ []) in
-    let one = sum_by-cons (λ n. n) (length tape) [] in
-    let le = sum_by-take-le (λ n. n) (map length tapes) (i + 1) in
-    let same = ap sum (take-map length (i + 1) tapes) in
+-- what is counted of a tape and of the tapes before it is not more than what is counted of all
+pub sum_past : (f : List TapeEntry → ℕ) (tapes : List (List TapeEntry)) (i : ℕ) (tape : List TapeEntry) → i < length tapes → tape ≡ get_or tapes i tape → sum (map f (take i tapes)) + f tape ≤ sum (map f tapes)
+sum_past f tapes i tape lt is =
+    let more : sum (map f (take (i + 1) tapes)) ≡ sum (map f (take i tapes)) + sum (f tape ∷ []) = ap sum (mapped_more f tapes i tape lt is) ∙ sum_by-append (λ n. n) (map f (take i tapes)) (f tape ∷ []) in
+    let one = sum_by-cons (λ n. n) (f tape) [] in
+    let le = sum_by-take-le (λ n. n) (map f tapes) (i + 1) in
+    let same = ap sum (take-map f (i + 1) tapes) in
     omega (arith, more, one, le, same)
+
+pub sum_more : (f : List TapeEntry → ℕ) (tapes : List (List TapeEntry)) (i : ℕ) (tape : List TapeEntry) → i < length tapes → tape ≡ get_or tapes i tape → sum (map f (take (i + 1) tapes)) ≡ sum (map f (take i tapes)) + f tape
+sum_more f tapes i tape lt is =
+    let more : sum (map f (take (i + 1) tapes)) ≡ sum (map f (take i tapes)) + sum (f tape ∷ []) = ap sum (mapped_more f tapes i tape lt is) ∙ sum_by-append (λ n. n) (map f (take i tapes)) (f tape ∷ []) in
+    let one = sum_by-cons (λ n. n) (f tape) [] in
+    omega (arith, more, one)
+
+-- how many entries were not refused
+pub fed_counted : (entries : List TapeEntry) → length (fed_of entries) ≡ fed_count entries
+unfolding fed_of
+fed_counted entries = length-filter (λ (x : TapeEntry). not (wants_memory x.answer)) entries
+
+-- records with one that is not of their cluster, or of one of their nodes
+pub unlike_of : (records : List Record) (r : Record) → (All (λ (x : Record). AreOfOne x.head r.head) records → ⊥) → AllPairs (λ (x : Record) (y : Record). AreOfOne x.head y.head) (records ++ r ∷ []) → ⊥
+unlike_of records r none pairs = none (λ k d lt.
+    let last = length records in
+    let both = pairs k last d lt (omega (arith, length-append records (r ∷ []))) in
+    subst (λ (y : Record). AreOfOne (get_or records k d).head y.head) (get_or-append_seam records r [] d)
+    (subst (λ (x : Record). AreOfOne x.head (get_or (records ++ r ∷ []) last d).head) (get_or_append_left records (r ∷ []) d k lt) both))
+
+-- First lines that no plan has.
+
+pub sent_more : (heads : List RecordHead) (other : Version) (versions : List Version) (i : ℕ) (h : RecordHead) → i < length heads → h ≡ get_or heads i h → h.node.number < length versions → AreSent heads other versions → AreSent heads other (set versions h.node.number h.version)
+sent_more heads other versions i h lt is within before a small =
+    elim (cases_eq a h.node.number) [
+      | inl same ↦ inr (i, h, lt, is, sym (ap (version_at (set versions h.node.number h.version)) same ∙ get_or-set_same versions h.node.number h.version One within))
+      | inr apart ↦ subst (λ (v : Version). (v ≡ other) ⊎ SendsOne heads v) (sym (get_or-set_other versions h.node.number a h.version One apart)) (before a small)
+    ]
+
+of_first : (plan : Plan) (heads : List RecordHead) (first : RecordHead) → 0 < length heads → first ≡ get_or heads 0 first → All (IsOfPlan plan) heads → IsOfPlan plan first
+of_first plan heads first some is fit = subst (IsOfPlan plan) (sym is) (fit 0 first some)
+
+-- a node is not one of the cluster's
+pub not_below : (heads : List RecordHead) (first : RecordHead) → 0 < length heads → first ≡ get_or heads 0 first → (All (λ (h : RecordHead). h.node.number < first.nodes) heads → ⊥) → IsUnplanned heads
+not_below heads first some is none plan cluster fit =
+    let of = of_first plan heads first some is fit in
+    none (λ k d lt. let at = fit k d lt in omega (arith, at.here, of.nodes))
+
+-- the plan that the first lines make starts no cluster
+pub no_cluster : (heads : List RecordHead) (first : RecordHead) (made : Plan) → 0 < length heads → first ≡ get_or heads 0 first → AreSent heads first.version made.versions → made.nodes ≡ first.nodes → made.silence ≡ first.silence → made.places ≡ first.places → (IsClusterPlan made → ⊥) → IsUnplanned heads
+no_cluster heads first made some is sent nodes silence places none plan cluster fit =
+    let of = of_first plan heads first some is fit in
+    let same : made.nodes ≡ plan.nodes = nodes ∙ of.nodes in
+    none (record {
+      some = omega (arith, cluster.some, same);
+      few = omega (arith, cluster.few, same);
+      named = λ a lt. named of same a (sent a (omega (arith, lt, cluster.few, same)));
+      places = omega (arith, cluster.places, places, of.places);
+      least = omega (arith, cluster.least, silence, of.silence);
+      most = omega (arith, cluster.most, silence, of.silence);
+    })
+  where
+    can : (h : RecordHead) → made.nodes ≡ plan.nodes → IsOfPlan plan h → made.nodes ≤ (limits_of h.version).nodes
+    can h same at =
+        let names : plan.nodes ≤ (limits_of h.version).nodes = subst (λ (v : Version). plan.nodes ≤ (limits_of v).nodes) at.version (cluster.named h.node.number at.here) in
+        omega (arith, names, same)
+
+    named : IsOfPlan plan first → made.nodes ≡ plan.nodes → (a : ℕ) → (version_at made.versions a ≡ first.version) ⊎ SendsOne heads (version_at made.versions a) → made.nodes ≤ (limits_of (version_at made.versions a)).nodes
+    named of same a (inl e) = subst (λ (v : Version). made.nodes ≤ (limits_of v).nodes) (sym e) (can first same of)
+    named of same a (inr one) =
+        let at : IsOfPlan plan one.1 = subst (IsOfPlan plan) (sym one.3) (fit one.0 one.1 one.2) in
+        subst (λ (v : Version). made.nodes ≤ (limits_of v).nodes) one.4 (can one.1 same at)
 
 -- the first lines say the same of the cluster as the first of them
 pub like_first : (heads : List RecordHead) (first : RecordHead) (k : ℕ) (d : RecordHead) → first ≡ get_or heads 0 first → AllPairs AreOfOne heads → k < length heads
@@ -150,3 +218,64 @@ same_each law (x ∷ sources) (r ∷ records) (s ∷ others) have its fits fit a
 
 pub the_only : OneTextOneRecord → (sources : List Source) (records : List Record) → AllZip HasText sources records → All FitsRecord records → All IsAllAnswered records → AreTheOnly sources records
 the_only law sources records have fits answered others are fit its = same_each law sources records others have are.read fits fit answered its
+
+-- Why records are not audited.
+
+-- a record is not one of the first's cluster, or is one of a node that has one
+pub unlike_so : (sources : List Source) (records : List Record) (i : ℕ) (d : Source) (r : Record) → i < length sources → HasText (get_or sources i d) r → AllZip HasText (take i sources) records → (All (λ (x : Record). AreOfOne x.head r.head) records → ⊥) → AreUnlike sources
+unlike_so sources records i d r lt has before none = record { count = i + 1; records = records ++ r ∷ []; read = read_more sources records i d r lt has before; unlike = unlike_of records r none }
+
+-- a list with an element is not empty
+pub not_empty : {X : Type 0} (xs : List X) (i : ℕ) → i < length xs → xs ≢ []
+not_empty xs i lt none = absurd (let size = ap length none in omega (arith, size, lt))
+
+pub wrong_so : (plan : Plan) (records : List Record) (i : ℕ) (r : Record) (n : ℕ) → i < length records → r ≡ get_or records i r → IsFirstWrong plan r.head.node r.entries.items n → HasWrong plan records
+wrong_so plan records i r n lt is wrong = record { place = i; wrong_record = r; count = n; there = (lt, is); wrong = wrong }
+
+pub gap_so : (records : List Record) (i : ℕ) (r : Record) (n : ℕ) → i < length records → r ≡ get_or records i r → IsFirstGap r.entries.items n → HasGapAt records i n
+gap_so records i r n lt is gap = record { gap_record = r; there = (lt, is); gap = gap }
+
+-- texts of no records are none
+pub no_texts : (sources : List Source) (records : List Record) → AllZip HasText sources records → map (λ (r : Record). r.head) records ≡ [] → sources ≡ []
+no_texts [] records have none = refl
+no_texts (x ∷ sources) [] have none = absurd have
+no_texts (x ∷ sources) (r ∷ records) have none = absurd (cc)
+
+pub unplanned_so : (sources : List Source) (records : List Record) → sources ≢ [] → AreRecords sources records → (map (λ (r : Record). r.head) records ≡ []) ⊎ IsUnplanned (map (λ (r : Record). r.head) records) → AreUnplanned sources
+unplanned_so sources records some are (inl none) = absurd (some (no_texts sources records are.read none))
+unplanned_so sources records some are (inr unplanned) = record { records = records; are = are; unplanned = unplanned }
+
+-- Records of a cluster.
+
+pub cluster_so : (keys : ClusterKeys) (records : List Record) (plan : Plan) → IsClusterPlan plan → (plan.cluster_key ≡ keys.cluster) × (plan.admin_key ≡ keys.admin) → All (IsOfPlan plan) (map (λ (r : Record). r.head) records) → IsCluster keys records plan
+cluster_so keys records plan is are fit = record { is = is; fit = heads_of_all (IsOfPlan plan) records fit; cluster_key = are.0; admin_key = are.1 }
+
+pub all_here : (records : List Record) (plan : Plan) → All (λ (r : Record). IsOfPlan plan r.head) records → All (λ (r : Record). r.head.node.number < plan.nodes) records
+all_here records plan fit k d lt = (fit k d lt).here
+
+pub tapes_count : (plan : Plan) (records : List Record) → length (tapes_of plan records) ≡ plan.nodes
+tapes_count plan records = length-map-range_with_len (entries_of records) 0 plan.nodes
+
+-- what was merged of records is what it is made of
+pub merged_so : (records : List Record) (run : Audited) (tapes : List (List TapeEntry)) (events : List Event) (ended : List Bool) → run.tapes.items ≡ tapes_of run.plan records → ended ≡ ended_of run.plan records → tapes ≡ run.tapes.items → events ≡ run.events.items
+    → IsMergedFront run.plan (fed_tapes tapes) events → IsVerdict run.plan tapes events ended run.verdict → (run.is_complete ≡ true) ↔ AreEnded ended → IsMergedFrom records run
+merged_so records run tapes events ended made are_ended same_tapes same_events front verdict complete = record {
+  tapes = made;
+  front = subst (λ (ts : List (List TapeEntry)). IsMergedFront run.plan (fed_tapes ts) run.events.items) same_tapes (subst (IsMergedFront run.plan (fed_tapes tapes)) same_events front);
+  verdict = subst (λ (bs : List Bool). IsVerdict run.plan run.tapes.items run.events.items bs run.verdict) are_ended
+      (subst (λ (ts : List (List TapeEntry)). IsVerdict run.plan ts run.events.items ended run.verdict) same_tapes (subst (λ (es : List Event). IsVerdict run.plan tapes es ended run.verdict) same_events verdict));
+  complete = subst (λ (bs : List Bool). (run.is_complete ≡ true) ↔ AreEnded bs) are_ended complete;
+}
+
+pub audit_so : OneTextOneRecord → (sources : List Source) (keys : ClusterKeys) (records : List Record) (plan : Plan) (run : Audited) → AreRecords sources records → All FitsRecord records → IsCluster keys records plan → (run.plan ≡ plan) × IsAudited records run → IsAudit sources keys run
+audit_so law sources keys records plan run are fits cluster audited =
+    record {
+      records = records;
+      are = are;
+      only = the_only law sources records are.read fits (λ k d lt. (audited.1.right k d lt).1);
+      cluster = subst (IsCluster keys records) (sym audited.0) cluster;
+      audited = audited.1;
+    }
+
+pub faulty_so : (sources : List Source) (keys : ClusterKeys) (records : List Record) (plan : Plan) (why : Unaudited) → AreRecords sources records → IsCluster keys records plan → IsFaulty plan records why → IsUnaudited sources keys why
+faulty_so sources keys records plan why are cluster faulty = inr (record { records = records; plan = plan; are = are; cluster = cluster; faulty = faulty })

@@ -1,20 +1,31 @@
 -- Replaying a node's entries one by one.
-use Rattle.gb_types.specs.Common.{◌≡◌, ℕ, ◌+◌, ◌<◌, Bool, false, List, length, take, get_or, sym, ap, subst, ◌∙◌, arith, inl, inr, if◌then◌else◌, cases_eq, get_or_default, fold_more}
+use Rattle.gb_types.specs.Common.{◌≡◌, ℕ, ◌+◌, ◌<◌, Bool, true, false, List, length, take, get_or, sym, ap, subst, ◌∙◌, arith, inl, inr, if◌then◌else◌, cases_eq, get_or_default, fold_more}
 use Rattle.gb_types.specs.declared.{node.NodeId.NodeId, plan.Plan.Plan}
 use Rattle.gb_node.specs.Common.{IsTurn, NodeValue, new_node, StarvedSays}
 use Rattle.gb_node.specs.declared.{answer.NodeAnswer.NodeAnswer, tape.TapeEntry.TapeEntry}
 use Rattle.gb_cluster.specs.Common.{node_plan}
 use Rattle.gb_merge.specs.Common.{wants_memory, node_after, after_entry, replay}
 use Rattle.gb_merge.proofs.ActingLemmas.{turned}
+use Rattle.gb_record_text.specs.Laws.{IsAnswered}
 use Rattle.gb_audit_run.specs.Replayed.{AreReplayedTo, IsGiven, IsUnfed, IsStarvedAt}
 
 -- an answer that refuses nothing and is the entry's is the one that is given
 pub given_so : StarvedSays → (v w : NodeValue) (e : TapeEntry) (answer : NodeAnswer) → IsTurn v e.event answer w → wants_memory answer ≡ false → answer ≡ e.answer → IsGiven v e
-given_so starves v w e answer turn fed same = (ap wants_memory (sym same) ∙ fed, sym same ∙ (turned starves v e.event answer w turn fed).0)
+given_so starves v w e answer turn fed same = inr (ap wants_memory (sym same) ∙ fed, sym same ∙ (turned starves v e.event answer w turn fed).0)
 
--- what is given is the answer that refuses nothing
-pub same_so : StarvedSays → (v w : NodeValue) (e : TapeEntry) (answer : NodeAnswer) → IsTurn v e.event answer w → wants_memory answer ≡ false → IsGiven v e → answer ≡ e.answer
-same_so starves v w e answer turn fed given = (turned starves v e.event answer w turn fed).0 ∙ sym given.1
+-- what is given to an entry that was not refused is the answer that refuses nothing
+pub same_so : StarvedSays → (v w : NodeValue) (e : TapeEntry) (answer : NodeAnswer) → IsTurn v e.event answer w → wants_memory answer ≡ false → wants_memory e.answer ≡ false → IsGiven v e → answer ≡ e.answer
+same_so starves v w e answer turn fed kept (inl refused) = absurd (let e = sym kept ∙ refused.0 in cc)
+same_so starves v w e answer turn fed kept (inr given) = (turned starves v e.event answer w turn fed).0 ∙ sym given.1
+
+-- an entry that was refused is given if its answer is one to its event
+pub refused_so : (v : NodeValue) (e : TapeEntry) → wants_memory e.answer ≡ true → IsGiven v e → IsAnswered e
+refused_so v e refused (inl given) = given.1
+refused_so v e refused (inr given) = absurd (let e = sym given.0 ∙ refused in cc)
+
+-- and the node stays as it is
+pub refused_stays : (v : NodeValue) (e : TapeEntry) → wants_memory e.answer ≡ true → v ≡ after_entry v e
+refused_stays v e refused = sym (ap (λ (b : Bool). if b then v else node_after v e.event) refused)
 
 -- the node is then as after the entry
 pub after_so : StarvedSays → (v w : NodeValue) (e : TapeEntry) (answer : NodeAnswer) → IsTurn v e.event answer w → wants_memory answer ≡ false → answer ≡ e.answer → w ≡ after_entry v e

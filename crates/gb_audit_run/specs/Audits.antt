@@ -1,15 +1,19 @@
 -- What an audit returns, from the texts of records that it was given.
-use Rattle.std.specs.Prelude.{◌≡◌, ◌≢◌, ◌↔◌, ℕ, ◌<◌, List, [], length, map, sum, find, nat_eq, All, AllPairs, Bool}
-use Rattle.std.specs.{List.AllZip, List.range_with_len, Option.option_map_or}
+use Rattle.std.specs.Prelude.{◌≡◌, ◌≢◌, ◌↔◌, ◌⊎◌, ◌&&◌, not, ℕ, ◌<◌, List, [], length, map, sum, find, take, get_or, count_by, nat_eq, All, AllPairs, Bool, true}
+use Rattle.std.specs.{List.AllZip, List.list_any, List.range_with_len, Option.option_map_or}
 use Rattle.gb_types.specs.Common.{version_at}
-use Rattle.gb_types.specs.declared.plan.Plan.{Plan}
+use Rattle.gb_types.specs.declared.{limits.TheConstants.NODES, plan.Plan.Plan, version.Version.Version}
 use Rattle.gb_node.specs.declared.tape.TapeEntry.{TapeEntry}
 use Rattle.gb_cluster.specs.Common.{IsClusterPlan}
-use Rattle.gb_merge.specs.Common.{IsMergedFront}
+use Rattle.gb_cluster.specs.declared.event.Event.{Event}
+use Rattle.gb_merge.specs.Common.{IsForgedAt, IsMergedFront, IsNoneForged, fed_tapes, wants_memory}
 use Rattle.gb_record_text.specs.{Fits.FitsRecord, Laws.IsAnswered, Laws.AreSame, Records.IsRecord}
 use Rattle.gb_record_text.specs.declared.{head.RecordHead.RecordHead, reader.Record.Record}
-use Rattle.gb_audit_run.specs.Counts.{AreCounted}
-use Rattle.gb_audit_run.specs.declared.{audit.Audited.Audited, audit.Source.Source, audit.Verdict.TheVariants.Whole, cluster.ClusterKeys.ClusterKeys}
+use Rattle.gb_audit_run.specs.Counts.{AreCounted, IsFirstGap}
+use Rattle.gb_audit_run.specs.Replayed.{AreReplayed, IsFirstWrong}
+use Rattle.gb_audit_run.specs.declared.{audit.Audited.Audited, audit.Source.Source, audit.Unaudited.Unaudited, audit.Verdict.Verdict, cluster.ClusterKeys.ClusterKeys}
+use Rattle.gb_audit_run.specs.declared.audit.Verdict.TheVariants.{Whole, Left, Refused}
+use Rattle.gb_audit_run.specs.declared.audit.Unaudited.TheVariants.{NoRecords, Unread, Unlike, Unplanned, Differs, Gap}
 
 -- two first lines that may be of two nodes of one cluster
 pub record AreOfOne (first other : RecordHead) : Type 0 where
@@ -45,6 +49,18 @@ pub record IsOfPlan (plan : Plan) (head : RecordHead) : Type 0 where
   pub room : head.room ≡ plan.room
   pub version : version_at plan.versions head.node.number ≡ head.version
 
+-- a node whose first line this is sends the version
+abbrev pub SendsOne : List RecordHead → Version → Type 0
+SendsOne heads v = (k : ℕ) × (h : RecordHead) × (k < length heads) × (h ≡ get_or heads k h) × (h.version ≡ v)
+
+-- each of the versions is this one, or such a node's
+abbrev pub AreSent : List RecordHead → Version → List Version → Type 0
+AreSent heads other versions = (a : ℕ) → a < NODES → (version_at versions a ≡ other) ⊎ SendsOne heads (version_at versions a)
+
+-- no cluster's plan has what these first lines say
+abbrev pub IsUnplanned : List RecordHead → Type 0
+IsUnplanned heads = (plan : Plan) → IsClusterPlan plan → All (IsOfPlan plan) heads → ⊥
+
 -- the record is one of the node's
 abbrev pub is_of : ℕ → Record → Bool
 is_of b r = nat_eq r.head.node.number b
@@ -53,18 +69,135 @@ is_of b r = nat_eq r.head.node.number b
 abbrev pub entries_of : List Record → ℕ → List TapeEntry
 entries_of records b = option_map_or (λ (r : Record). r.entries.items) (find (is_of b) records) []
 
--- What is audited are these texts: the plan and the tapes are those of their records, under these keys. The texts are of these
--- records alone, and each seat's entries count from 0 on without a gap. The events are a run of the first entries of the tapes, and
--- the verdict is `Whole` exactly if they are all of them.
+-- The entries that lack of memory did not refuse.
+
+-- how many entries of a tape were not refused for lack of memory
+abbrev pub fed_count : List TapeEntry → ℕ
+fed_count entries = count_by (λ (x : TapeEntry). not (wants_memory x.answer)) entries
+
+-- the events are as many as all entries that were not refused
+abbrev pub AreAll : List (List TapeEntry) → List Event → Type 0
+AreAll tapes events = length events ≡ sum (map fed_count tapes)
+
+-- Verdicts.
+
+-- the node has a record that ends
+abbrev pub is_ended : List Record → ℕ → Bool
+is_ended records b = list_any (λ (r : Record). nat_eq r.head.node.number b && r.is_whole) records
+
+-- whose records end, by the nodes' numbers
+abbrev pub ended_of : Plan → List Record → List Bool
+ended_of plan records = map (is_ended records) (range_with_len 0 plan.nodes)
+
+-- each of the nodes has a record that ends
+abbrev pub AreEnded : List Bool → Type 0
+AreEnded ended = All (λ (is : Bool). is ≡ true) ended
+
+-- a packet came that no record sent, and its sender's record ends
+abbrev pub HasForged : Plan → List (List TapeEntry) → List Bool → Type 0
+HasForged plan tapes ended = (a : ℕ) × (place : ℕ) × IsForgedAt plan tapes ended a place
+
+-- What a verdict says of tapes of which these events are all that is one run, and of which these end. `Whole`: they are all entries. `Refused`: they are not,
+-- although each node's record ends, or since a packet came that its sender did not send, whose record ends. `Left`: they are not, and a node's record does
+-- not end, and no packet came so.
+abbrev pub IsVerdict : Plan → List (List TapeEntry) → List Event → List Bool → Verdict → Type 0
+IsVerdict plan tapes events ended Whole = AreAll tapes events
+IsVerdict plan tapes events ended Left = (AreAll tapes events → ⊥) × IsNoneForged plan tapes ended × (AreEnded ended → ⊥)
+IsVerdict plan tapes events ended Refused = (AreAll tapes events → ⊥) × (HasForged plan tapes ended ⊎ AreEnded ended)
+
+-- a cluster may be started with the plan, which has what the first lines of these records say, and these keys
+pub record IsCluster (keys : ClusterKeys) (records : List Record) (plan : Plan) : Type 0 where
+  pub is : IsClusterPlan plan
+  pub fit : All (λ (r : Record). IsOfPlan plan r.head) records
+  pub cluster_key : plan.cluster_key ≡ keys.cluster
+  pub admin_key : plan.admin_key ≡ keys.admin
+
+-- the entries of each node, by the nodes' numbers
+abbrev pub tapes_of : Plan → List Record → List (List TapeEntry)
+tapes_of plan records = map (entries_of records) (range_with_len 0 plan.nodes)
+
+-- The events are a run of the first entries of these records' tapes, as far as one run goes, without those that lack of memory
+-- refused. The verdict is the one that this makes.
+pub record IsMergedFrom (records : List Record) (run : Audited) : Type 0 where
+  pub tapes : run.tapes.items ≡ tapes_of run.plan records
+  pub front : IsMergedFront run.plan (fed_tapes run.tapes.items) run.events.items
+  pub verdict : IsVerdict run.plan run.tapes.items run.events.items (ended_of run.plan records) run.verdict
+  pub complete : (run.is_complete ≡ true) ↔ AreEnded (ended_of run.plan records)
+
+-- each answer of the record is the one that its node returns when it is replayed alone, or refuses for lack of memory
+abbrev pub IsRight : Plan → Record → Type 0
+IsRight plan r = AreReplayed plan r.head.node r.entries.items × IsAllAnswered r
+
+-- What an audit of these records finds: each record is right, each seat's entries count from 0 on without a gap, and the run and the
+-- verdict are made of the records.
+pub record IsAudited (records : List Record) (run : Audited) : Type 0 where
+  pub right : All (IsRight run.plan) records
+  pub counted : All (λ (r : Record). AreCounted r.entries.items) records
+  pub merged : IsMergedFrom records run
+
+-- What is audited are these texts: they are of these records alone, which are of a cluster with the plan under these keys.
 pub record IsAudit (sources : List Source) (keys : ClusterKeys) (run : Audited) : Type 0 where
   pub records : List Record
   pub are : AreRecords sources records
   pub only : AreTheOnly sources records
-  pub counted : All (λ (r : Record). AreCounted r.entries.items) records
-  pub plan : IsClusterPlan run.plan
-  pub fit : All (λ (r : Record). IsOfPlan run.plan r.head) records
-  pub cluster_key : run.plan.cluster_key ≡ keys.cluster
-  pub admin_key : run.plan.admin_key ≡ keys.admin
-  pub tapes : run.tapes.items ≡ map (entries_of records) (range_with_len 0 run.plan.nodes)
-  pub front : IsMergedFront run.plan run.tapes.items run.events.items
-  pub whole : (run.verdict ≡ Whole) ↔ (length run.events.items ≡ sum (map length run.tapes.items))
+  pub cluster : IsCluster keys records run.plan
+  pub audited : IsAudited records run
+
+-- Why records are not audited.
+
+-- the record stands at this place
+abbrev pub StandsAt : List Record → ℕ → Record → Type 0
+StandsAt records k r = (k < length records) × (r ≡ get_or records k r)
+
+-- the first texts are records, and two of them are of one node or of two clusters
+pub record AreUnlike (sources : List Source) : Type 0 where
+  pub count : ℕ
+  pub records : List Record
+  pub read : AllZip HasText (take count sources) records
+  pub unlike : AllPairs (λ (r : Record) (s : Record). AreOfOne r.head s.head) records → ⊥
+
+-- these records are of no cluster: no plan has what their first lines say
+pub record AreUnplanned (sources : List Source) : Type 0 where
+  pub records : List Record
+  pub are : AreRecords sources records
+  pub unplanned : IsUnplanned (map (λ (r : Record). r.head) records)
+
+-- why texts are no records of a cluster; that a line is none of a record is what its reader says
+abbrev pub IsUnread : List Source → Unaudited → Type 0
+IsUnread sources NoRecords = sources ≡ []
+IsUnread sources Unread = sources ≢ []
+IsUnread sources Unlike = AreUnlike sources
+IsUnread sources Unplanned = AreUnplanned sources
+IsUnread sources why = ⊥
+
+-- an answer is not the one that its node returns when it is replayed alone, and does not refuse for lack of memory
+pub record HasWrong (plan : Plan) (records : List Record) : Type 0 where
+  pub place : ℕ
+  pub wrong_record : Record
+  pub count : ℕ
+  pub there : StandsAt records place wrong_record
+  pub wrong : IsFirstWrong plan wrong_record.head.node wrong_record.entries.items count
+
+-- the record at this place has a gap in the counts of a seat, at this entry
+pub record HasGapAt (records : List Record) (place count : ℕ) : Type 0 where
+  pub gap_record : Record
+  pub there : StandsAt records place gap_record
+  pub gap : IsFirstGap gap_record.entries.items count
+
+-- why records of a cluster with this plan are not audited: an answer is not its node's, or the counts of a seat have a gap
+abbrev pub IsFaulty : Plan → List Record → Unaudited → Type 0
+IsFaulty plan records Differs = HasWrong plan records
+IsFaulty plan records Gap = (place : ℕ) × (count : ℕ) × HasGapAt records place count
+IsFaulty plan records why = ⊥
+
+-- the texts are records of a cluster under these keys, which are not audited for this reason
+pub record AreFaulty (sources : List Source) (keys : ClusterKeys) (why : Unaudited) : Type 0 where
+  pub records : List Record
+  pub plan : Plan
+  pub are : AreRecords sources records
+  pub cluster : IsCluster keys records plan
+  pub faulty : IsFaulty plan records why
+
+-- why what stands in these texts is not audited under these keys
+abbrev pub IsUnaudited : List Source → ClusterKeys → Unaudited → Type 0
+IsUnaudited sources keys why = IsUnread sources why ⊎ AreFaulty sources keys why

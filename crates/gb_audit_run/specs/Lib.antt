@@ -1,3 +1,4 @@
 pub mod Counts
 pub mod Replayed
 pub mod Audits
+pub mod Good

@@ -1,13 +1,14 @@
 -- The replay of one node's entries by itself: a node that is started and takes their events in order.
-use Rattle.std.specs.Prelude.{◌≡◌, ℕ, ◌<◌, true, false, List, length, take, get_or}
+use Rattle.std.specs.Prelude.{◌≡◌, ◌⊎◌, ℕ, ◌<◌, true, false, List, length, take, get_or}
 use Rattle.gb_types.specs.declared.{node.NodeId.NodeId, plan.Plan.Plan}
 use Rattle.gb_node.specs.Common.{IsTurn, NodeValue}
 use Rattle.gb_node.specs.declared.{answer.NodeAnswer.NodeAnswer, tape.TapeEntry.TapeEntry}
 use Rattle.gb_merge.specs.Common.{wants_memory, node_answer, replay}
+use Rattle.gb_record_text.specs.Laws.{IsAnswered}
 
--- the entry's answer is what the node answers that has memory, and no refusal for lack of memory
+-- the entry's answer refuses its event for lack of memory, or is what the node answers that has memory
 abbrev pub IsGiven : NodeValue → TapeEntry → Type 0
-IsGiven v e = (wants_memory e.answer ≡ false) × (e.answer ≡ node_answer v e.event)
+IsGiven v e = ((wants_memory e.answer ≡ true) × IsAnswered e) ⊎ ((wants_memory e.answer ≡ false) × (e.answer ≡ node_answer v e.event))
 
 -- each of the first n entries has the answer of the replay
 abbrev pub AreReplayedTo : Plan → NodeId → List TapeEntry → ℕ → Type 0

@@ -1,23 +1,28 @@
 //! The audit of the records of a cluster's nodes: whether what they recorded is one run of the cluster.
-ghost use Rattle.std.specs.Prelude.{◌≡◌, ◌≢◌, ◌<◌, ◌↔◌, length, map, sum, AllPairs, All, IfOk, IfSome, IfNone, IsTrue};
+ghost use Rattle.std.specs.Prelude.{◌≡◌, ◌<◌, ◌↔◌, length, map, sum, true, false, All, IfOk, IfErr, IfSome, IfNone, IsTrue};
 ghost use Rattle.std.specs.List.{range_with_len};
 ghost use Rattle.gb_cluster.specs.Common.{IsClusterPlan};
-ghost use Rattle.gb_record_text.specs.{Fits.FitsRecord, Laws.IsAnswered};
+ghost use Rattle.gb_merge.specs.Common.{IsDifferent, IsMergedFront, fed_tapes};
+ghost use Rattle.gb_record_text.specs.Fits.{FitsRecord};
 ghost use Rattle.gb_audit_run.specs.Counts.{AreCounted};
-ghost use Rattle.gb_audit_run.specs.Audits.{AreOfOne, AreRecords, IsAudit, IsOfPlan, entries_of};
-ghost use Rattle.gb_audit_run.specs.declared.audit.Verdict.TheVariants.{Whole};
+ghost use Rattle.gb_audit_run.specs.Audits.{AreOfOne, AreRecords, HasGapAt, HasWrong, IsAudit, IsAudited, IsCluster, IsFaulty, IsMergedFrom, IsOfPlan, IsRight, IsUnaudited, IsUnread, IsVerdict, entries_of, fed_count, is_ended};
 
 use crate::cluster::{ClusterKeys, are_of_one, plan_of};
 use crate::counts::first_gap;
-use crate::left::{is_sent, merged_counts, sender_of};
+use crate::keys::has_other_keys;
+use crate::laws::{beginnings_are_replayed, good_tapes_are_whole};
+use crate::left::{merged_counts, sender_of};
 use crate::lines::{
-    put_bad_line, put_fault, put_gap, put_left, put_merged, put_stranger, put_tape,
+    put_bad_line, put_fault, put_gap, put_left, put_merged, put_other_keys, put_passed,
+    put_stranger, put_tape, put_whole,
 };
-use crate::replay::first_wrong;
+use crate::replay::{first_wrong, is_refused};
 use gb_cluster::Event;
 use gb_merge::AuditFault;
-use gb_merge::front::{front_is_one_run, merge_front};
-use gb_node::Tape;
+use gb_merge::fed::fed_is_one_run;
+use gb_merge::forged::find_forged;
+use gb_merge::front::merge_front;
+use gb_node::{Tape, TapeEntry};
 use gb_record_text::laws::one_text_one_record;
 use gb_record_text::reader::read_record;
 use gb_record_text::{ReadFault, Record, RecordHead};
@@ -29,12 +34,31 @@ use std::alloc::Global;
 /// How an audit ended.
 #[derive(Clone, Copy, Debug, PartialEq, Eq)]
 pub enum Verdict {
-    /// All entries of all records are one run of the cluster.
+    /// All entries of the records that were given are one run of the cluster, but for those that lack of memory refused.
     Whole,
-    /// The first entries of the records are one run, and behind them some are left.
+    /// The first entries of the records are one run, and behind them some are left. A node has no record that ends, so its part may be
+    /// missing; and no packet came that a node did not send whose record ends.
     Left,
-    /// The records are not what the nodes of one cluster did; the last line says why.
+    /// Entries are left although each node has a record that ends, or a packet came that its sender, whose record ends, did not send. A
+    /// line says which.
     Refused,
+}
+
+/// Why records are not audited. The last line says it too, except of `NoRecords`.
+#[derive(Clone, Copy, Debug, PartialEq, Eq)]
+pub enum Unaudited {
+    /// There is no record.
+    NoRecords,
+    /// A file is no record.
+    Unread,
+    /// Two records are of one node, or of two clusters.
+    Unlike,
+    /// No cluster may be started with what the first lines say.
+    Unplanned,
+    /// An answer is not the one that its node returns when it is replayed alone.
+    Differs,
+    /// The counts of a seat's entries have a gap.
+    Gap,
 }
 
 /// A file: its name, and what stands in it.
@@ -54,13 +78,8 @@ pub struct Audited {
     /// The events of the run.
     pub events: Vec<Event>,
     pub verdict: Verdict,
-}
-
-// What is known of a node's record besides its entries.
-#[derive(Clone, Copy)]
-struct Label<'a> {
-    name: &'a str,
-    is_whole: bool,
+    /// True if each node of the cluster has a record that ends.
+    pub is_complete: bool,
 }
 
 // Returns true if a record may be of another node of the cluster that these are of.
@@ -76,14 +95,44 @@ fn is_one_more(records: &[Record], record: &Record) -> bool
     true
 }
 
-// Reads the records. `None` if a file is no record, or not one of the first record's cluster; the last line says so.
+// Returns how many entries were not refused for lack of memory.
+fn count_fed(entries: &[TapeEntry]) -> usize
+    ensures { result ≡ fed_count entries.now }
+{
+    let mut count = 0;
+    for entry in entries {
+        if !is_refused(&entry.answer) {
+            count += 1;
+        }
+    }
+    count
+}
+
+// Appends the line of a record that was read, and one more if lack of memory refused some of its entries.
+fn put_record(out: &mut Vec<u8>, name: &str, record: &Record) -> Result<(), OutOfMemory> {
+    let torn = if record.is_whole {
+        None
+    } else {
+        Some(record.torn)
+    };
+    let count = record.entries.len();
+    put_tape(out, name, record.head.node.number, count, torn)?;
+    let passed = count.saturating_sub(count_fed(&record.entries));
+    if passed > 0 {
+        put_passed(out, name, passed)?;
+    }
+    Ok(())
+}
+
+// Reads the records. `Err` if a file is no record, or not one of the first record's cluster; the last line says so.
 fn read_all(
     alloc: Global,
     sources: &[Source<'_>],
     out: &mut Vec<u8>,
-) -> Result<Option<Vec<Record>>, OutOfMemory>
-    ensures records { IfOk result (λ found. IfSome found (λ records. AreRecords sources.now records.items)) }
-    ensures fit { IfOk result (λ found. IfSome found (λ records. All FitsRecord records.items)) }
+) -> Result<Result<Vec<Record>, Unaudited>, OutOfMemory>
+    ensures records { IfOk result (λ found. IfOk found (λ records. AreRecords sources.now records.items)) }
+    ensures fit { IfOk result (λ found. IfOk found (λ records. All FitsRecord records.items)) }
+    ensures err { IfOk result (λ found. IfErr found (IsUnread sources.now)) }
 {
     let mut records: Vec<Record> = Vec::new(alloc);
     for source in sources {
@@ -91,29 +140,18 @@ fn read_all(
             Ok(record) => record,
             Err(ReadFault::BadLine(line)) => {
                 put_bad_line(out, line, source.name)?;
-                return Ok(None);
+                return Ok(Err(Unaudited::Unread));
             }
             Err(ReadFault::OutOfMemory) => return Err(OutOfMemory),
         };
         if !is_one_more(&records, &record) {
             put_stranger(out, source.name)?;
-            return Ok(None);
+            return Ok(Err(Unaudited::Unlike));
         }
-        let torn = if record.is_whole {
-            None
-        } else {
-            Some(record.torn)
-        };
-        put_tape(
-            out,
-            source.name,
-            record.head.node.number,
-            record.entries.len(),
-            torn,
-        )?;
+        put_record(out, source.name, &record)?;
         records.push(record)?;
     }
-    Ok(Some(records))
+    Ok(Ok(records))
 }
 
 // Returns the first lines of records.
@@ -135,8 +173,8 @@ fn name_at<'a>(sources: &[Source<'a>], place: usize) -> &'a str {
     }
 }
 
-// Returns true if each answer of each record is the one that its node returns when it is replayed alone. Otherwise the last line
-// says which one is not.
+// Returns true if each answer of each record is the one that its node returns when it is replayed alone, or refuses for lack of memory.
+// Otherwise the last line says which one is not.
 fn are_replayed(
     alloc: Global,
     plan: &Plan,
@@ -146,14 +184,19 @@ fn are_replayed(
 ) -> Result<bool, OutOfMemory>
     requires plan { IsClusterPlan plan.now }
     requires here { All (λ r. r.head.node.number < plan.now.nodes) records.now }
-    ensures { IfOk result (λ right. IsTrue right → All (λ r. All IsAnswered r.entries.items) records.now) }
+    ensures right { IfOk result (λ right. IsTrue right → All (IsRight plan.now) records.now) }
+    ensures wrong { IfOk result (λ right. right ≡ false → HasWrong plan.now records.now) }
 {
     for place in 0..records.len() {
         let record = &records[place];
         let node = record.head.node;
         if let Some(wrong) = first_wrong(alloc, plan, node, &record.entries)? {
             let name = name_at(sources, place);
-            put_fault(out, AuditFault::Differs.number(), name, wrong)?;
+            if has_other_keys(plan, &record.entries, wrong) {
+                put_other_keys(out, name, wrong)?;
+            } else {
+                put_fault(out, AuditFault::Differs.number(), name, wrong)?;
+            }
             return Ok(false);
         }
     }
@@ -163,40 +206,61 @@ fn are_replayed(
 // An entry whose count is not the next one of its seat: the place of its record, and its own place there.
 #[derive(Clone, Copy)]
 struct Gap {
-    record: usize,
+    file: usize,
     entry: usize,
 }
 
 // Returns the first gap in the counts of the records' entries. `None` if they have none.
 fn find_gap(alloc: Global, records: &[Record]) -> Result<Option<Gap>, OutOfMemory>
-    ensures { IfOk result (λ found. IfNone found (All (λ r. AreCounted r.entries.items) records.now)) }
+    ensures none { IfOk result (λ found. IfNone found (All (λ r. AreCounted r.entries.items) records.now)) }
+    ensures some { IfOk result (λ found. IfSome found (λ gap. HasGapAt records.now gap.file gap.entry)) }
 {
     for place in 0..records.len() {
         let record = &records[place];
         if let Some(entry) = first_gap(alloc, &record.entries)? {
-            return Ok(Some(Gap {
-                record: place,
-                entry,
-            }));
+            return Ok(Some(Gap { file: place, entry }));
         }
     }
     Ok(None)
 }
 
-// Returns a label for each number of a node: the name of its record and whether it is whole.
-fn labels_of<'a>(sources: &[Source<'a>], records: &[Record]) -> [Label<'a>; NODES] {
-    let mut labels = [Label {
-        name: "-",
-        is_whole: false,
-    }; NODES];
+// Returns the name of each node's record, by the nodes' numbers.
+fn names_of<'a>(sources: &[Source<'a>], records: &[Record]) -> [&'a str; NODES] {
+    let mut names = ["-"; NODES];
     for place in 0..records.len().min(sources.len()) {
-        let record = &records[place];
-        labels[record.head.node.index()] = Label {
-            name: sources[place].name,
-            is_whole: record.is_whole,
-        };
+        names[records[place].head.node.index()] = sources[place].name;
     }
-    labels
+    names
+}
+
+// Returns true if the node has a record that ends.
+fn is_ended(records: &[Record], node: u8) -> bool
+    ensures { result ≡ is_ended records.now node }
+{
+    records.iter().any(|record| record.head.node.number == node && record.is_whole)
+}
+
+// Returns whose records end, by the nodes' numbers.
+fn ended_of(alloc: Global, nodes: u8, records: &[Record]) -> Result<Vec<bool>, OutOfMemory>
+    ensures { IfOk result (λ ended. ended.items ≡ map (is_ended records.now) (range_with_len 0 nodes)) }
+{
+    let mut ended = Vec::new(alloc);
+    for node in 0..nodes {
+        ended.push(is_ended(records, node))?;
+    }
+    Ok(ended)
+}
+
+// Returns true if all are true.
+fn are_true(all: &[bool]) -> bool
+    ensures { IsTrue result ↔ All (λ is. is ≡ true) all.now }
+{
+    for is in all {
+        if !*is {
+            return false;
+        }
+    }
+    true
 }
 
 // Returns the tapes of records by the numbers of their nodes, with an empty one for each node without a record.
@@ -216,58 +280,13 @@ fn tapes_of(alloc: Global, nodes: u8, records: Vec<Record>) -> Result<Vec<Tape>,
     Ok(tapes)
 }
 
-// What is left of a node's record.
-#[derive(Clone, Copy, PartialEq, Eq)]
-enum Rest {
-    // No entry.
-    Nothing,
-    // Entries that one run may have: a part of another record, which was cut short, may be missing.
-    Waiting,
-    // Entries. The first one takes a packet that its sender, whose record is whole, did not send.
-    Stranger,
-}
-
-// Tells what is left of a node's record behind the entries that are in the run.
-fn tell_rest(
-    plan: &Plan,
-    tapes: &[Tape],
-    labels: &[Label<'_>; NODES],
-    node: u8,
-    merged: usize,
-    out: &mut Vec<u8>,
-) -> Result<Rest, OutOfMemory> {
-    let place = usize::from(node);
-    let (Some(tape), Some(label)) = (tapes.get(place), labels.get(place)) else {
-        return Ok(Rest::Nothing);
-    };
-    let Some(next) = tape.as_slice().get(merged) else {
-        return Ok(Rest::Nothing);
-    };
-    let sender = sender_of(plan, next);
-    if let Some(from) = sender
-        && let (Some(theirs), Some(other)) = (tapes.get(from.index()), labels.get(from.index()))
-        && other.is_whole
-        && !is_sent(theirs.as_slice(), next)
-    {
-        put_fault(out, AuditFault::Stranger.number(), label.name, merged)?;
-        return Ok(Rest::Stranger);
-    }
-    let count = tape.as_slice().len().saturating_sub(merged);
-    let from = match sender {
-        Some(from) => Some(from.number),
-        None => None,
-    };
-    put_left(out, label.name, merged, count, from)?;
-    Ok(Rest::Waiting)
-}
-
-// Returns true if the tapes together have `count` entries.
+// Returns true if the tapes together have `count` entries that were not refused for lack of memory.
 fn have_entries(tapes: &[Tape], count: usize) -> bool
-    ensures { IsTrue result ↔ (count ≡ sum (map length tapes.now)) }
+    ensures { IsTrue result ↔ (count ≡ sum (map fed_count tapes.now)) }
 {
     let mut left = count;
     for tape in tapes {
-        let entries = tape.as_slice().len();
+        let entries = count_fed(tape.as_slice());
         if entries > left {
             return false;
         }
@@ -276,89 +295,188 @@ fn have_entries(tapes: &[Tape], count: usize) -> bool
     left == 0
 }
 
-// Tells what is left of each record behind the entries that are in the run.
-fn tell_all(
-    plan: &Plan,
-    tapes: &[Tape],
-    labels: &[Label<'_>; NODES],
-    counts: &[usize; NODES],
-    out: &mut Vec<u8>,
-) -> Result<Verdict, OutOfMemory>
-    ensures { IfOk result (λ verdict. verdict ≢ Whole) }
+// Merges the first entries of the tapes, each of which is its replay's. `Err` if memory runs out.
+fn merge_all(alloc: Global, plan: &Plan, tapes: &[Tape]) -> Result<Vec<Event>, OutOfMemory>
+    requires plan { IsClusterPlan plan.now }
+    requires one_each { length tapes.now ≡ plan.now.nodes }
+    requires right { IsDifferent plan.now (fed_tapes tapes.now) → ⊥ }
+    ensures { IfOk result (λ events. IsMergedFront plan.now (fed_tapes tapes.now) events.items) }
 {
-    let mut is_cut = false;
-    for node in 0..plan.nodes {
-        let place = usize::from(node);
-        let (Some(merged), Some(label)) = (counts.get(place), labels.get(place)) else {
-            return Ok(Verdict::Refused);
-        };
-        is_cut = is_cut || !label.is_whole;
-        if tell_rest(plan, tapes, labels, node, *merged, out)? == Rest::Stranger {
-            return Ok(Verdict::Refused);
-        }
+    match merge_front(alloc, plan, tapes) {
+        Ok(events) => Ok(events),
+        Err(AuditFault::OutOfMemory) => Err(OutOfMemory),
+        Err(AuditFault::Differs) => unreachable!(),
+        Err(AuditFault::Stranger) => unreachable!(),
+        Err(AuditFault::Stuck) => unreachable!(),
     }
-    if is_cut {
-        return Ok(Verdict::Left);
-    }
-    put_bytes(out, b"audit fault 2\n")?;
-    Ok(Verdict::Refused)
 }
 
-/// Audits the records in `sources`, one for each node and in any order, under the cluster's keys, and appends to `out` a line for each
-/// finding. Returns the part of the records that is one run of the cluster, with a verdict: `Whole` if that is all of them, `Left` if
-/// entries are left and a record was cut short or is missing, `Refused` if entries are left although all records are whole, or if an
-/// entry that is left takes a packet that its sender's whole record did not send. `None` if there is no record, a file is no record, the
-/// records are not of one cluster, an answer is not the one that its node returns when it is replayed alone, the counts of a seat's entries
-/// have a gap, or no run can be merged; a last line then says why, except if there is no record. `Err` if memory runs out.
+// Says what is left of each record behind the entries that are in the run of `events`. `names` are the names of the records.
+fn tell_left(
+    alloc: Global,
+    plan: &Plan,
+    tapes: &[Tape],
+    events: &[Event],
+    names: &[&str; NODES],
+    out: &mut Vec<u8>,
+) -> Result<(), OutOfMemory> {
+    let counts = merged_counts(alloc, tapes, events)?;
+    for place in 0..tapes.len().min(NODES) {
+        let entries = tapes[place].as_slice();
+        let merged = counts[place];
+        if let Some(next) = entries.get(merged) {
+            let from = match sender_of(plan, next) {
+                Some(from) => Some(from.number),
+                None => None,
+            };
+            let count = entries.len().saturating_sub(merged);
+            put_left(out, names[place], merged, count, from)?;
+        }
+    }
+    Ok(())
+}
+
+// Returns the verdict on tapes of which these events were merged. If they are not all, lines say what is left or which packet nobody
+// sent. `ended` says whose records end, and `names` are the names of the records.
+fn verdict_of(
+    alloc: Global,
+    plan: &Plan,
+    tapes: &[Tape],
+    events: &[Event],
+    ended: &[bool],
+    names: &[&str; NODES],
+    out: &mut Vec<u8>,
+) -> Result<Verdict, OutOfMemory>
+    requires plan { IsClusterPlan plan.now }
+    requires one_each { length tapes.now ≡ plan.now.nodes }
+    ensures { IfOk result (IsVerdict plan.now tapes.now events.now ended.now) }
+{
+    if have_entries(tapes, events.len()) {
+        return Ok(Verdict::Whole);
+    }
+    if let Some(forged) = find_forged(alloc, plan, tapes, ended)? {
+        let name = match names.get(forged.node) {
+            Some(name) => *name,
+            None => "-",
+        };
+        put_fault(out, AuditFault::Stranger.number(), name, forged.place)?;
+        return Ok(Verdict::Refused);
+    }
+    tell_left(alloc, plan, tapes, events, names, out)?;
+    if are_true(ended) {
+        put_bytes(out, b"audit fault 2\n")?;
+        Ok(Verdict::Refused)
+    } else {
+        Ok(Verdict::Left)
+    }
+}
+
+/// The records of a cluster's nodes, and the plan of the cluster.
+#[derive(Drop)]
+pub struct Recorded {
+    pub records: Vec<Record>,
+    pub plan: Plan,
+}
+
+// Reads the records and finds the plan of their cluster. `Err` if there is none; the last line says why, except for `NoRecords`.
+fn read_cluster(
+    alloc: Global,
+    sources: &[Source<'_>],
+    keys: ClusterKeys,
+    out: &mut Vec<u8>,
+) -> Result<Result<Recorded, Unaudited>, OutOfMemory>
+    ensures records { IfOk result (λ found. IfOk found (λ read. AreRecords sources.now read.records.items)) }
+    ensures fit { IfOk result (λ found. IfOk found (λ read. All FitsRecord read.records.items)) }
+    ensures cluster { IfOk result (λ found. IfOk found (λ read. IsCluster keys read.records.items read.plan)) }
+    ensures err { IfOk result (λ found. IfErr found (IsUnread sources.now)) }
+{
+    let Some(first) = sources.first() else {
+        return Ok(Err(Unaudited::NoRecords));
+    };
+    let records = match read_all(alloc, sources, out)? {
+        Ok(records) => records,
+        Err(why) => return Ok(Err(why)),
+    };
+    let heads = heads_of(alloc, &records)?;
+    let Some(plan) = plan_of(&heads, keys) else {
+        put_stranger(out, first.name)?;
+        return Ok(Err(Unaudited::Unplanned));
+    };
+    Ok(Ok(Recorded { records, plan }))
+}
+
+// Merges the records of a cluster, each of which is what its node does alone, and returns the verdict. `Err` if memory runs out.
+fn merged(
+    alloc: Global,
+    sources: &[Source<'_>],
+    recorded: Recorded,
+    out: &mut Vec<u8>,
+) -> Result<Audited, OutOfMemory>
+    requires plan { IsClusterPlan recorded.plan }
+    requires here { All (λ r. r.head.node.number < recorded.plan.nodes) recorded.records.items }
+    requires right { All (IsRight recorded.plan) recorded.records.items }
+    ensures plan { IfOk result (λ run. run.plan ≡ recorded.plan) }
+    ensures merged { IfOk result (IsMergedFrom recorded.records.items) }
+{
+    let Recorded { records, plan } = recorded;
+    let names = names_of(sources, &records);
+    let ended = ended_of(alloc, plan.nodes, &records)?;
+    let tapes = tapes_of(alloc, plan.nodes, records)?;
+    let events = merge_all(alloc, &plan, &tapes)?;
+    let verdict = verdict_of(alloc, &plan, &tapes, &events, &ended, &names, out)?;
+    let is_complete = are_true(&ended);
+    put_merged(out, events.len())?;
+    put_whole(out, verdict, is_complete)?;
+    Ok(Audited {
+        plan,
+        tapes,
+        events,
+        verdict,
+        is_complete,
+    })
+}
+
+/// Audits the records of a cluster. `sources` are the files that they were read from, in the same order. It appends to `out` a line for
+/// each finding, and passes over the entries that lack of memory refused, which changed nothing. Returns the part of the records that is
+/// one run of the cluster, with a verdict; or why the records are not audited. `Err` if memory runs out.
+pub fn audit_cluster(
+    alloc: Global,
+    sources: &[Source<'_>],
+    recorded: Recorded,
+    out: &mut Vec<u8>,
+) -> Result<Result<Audited, Unaudited>, OutOfMemory>
+    requires plan { IsClusterPlan recorded.plan }
+    requires fit { All (λ r. IsOfPlan recorded.plan r.head) recorded.records.items }
+    ensures ok { IfOk result (λ found. IfOk found (λ run. (run.plan ≡ recorded.plan) × IsAudited recorded.records.items run)) }
+    ensures err { IfOk result (λ found. IfErr found (IsFaulty recorded.plan recorded.records.items)) }
+{
+    if !are_replayed(alloc, &recorded.plan, sources, &recorded.records, out)? {
+        return Ok(Err(Unaudited::Differs));
+    }
+    if let Some(Gap { file, entry }) = find_gap(alloc, &recorded.records)? {
+        put_gap(out, name_at(sources, file), entry)?;
+        return Ok(Err(Unaudited::Gap));
+    }
+    Ok(Ok(merged(alloc, sources, recorded, out)?))
+}
+
+/// Audits the records in `sources`, one for each node and in any order, under the cluster's keys, as `audit_cluster` does once they are
+/// read. `Err` if memory runs out.
 pub fn audit(
     alloc: Global,
     sources: &[Source<'_>],
     keys: ClusterKeys,
     out: &mut Vec<u8>,
-) -> Result<Option<Audited>, OutOfMemory>
-    ensures { IfOk result (λ found. IfSome found (IsAudit sources.now keys)) }
+) -> Result<Result<Audited, Unaudited>, OutOfMemory>
+    ensures ok { IfOk result (λ found. IfOk found (IsAudit sources.now keys)) }
+    ensures err { IfOk result (λ found. IfErr found (IsUnaudited sources.now keys)) }
 {
-    let Some(records) = read_all(alloc, sources, out)? else {
-        return Ok(None);
-    };
-    let heads = heads_of(alloc, &records)?;
-    let Some(plan) = plan_of(&heads, keys) else {
-        if let Some(source) = sources.first() {
-            put_stranger(out, source.name)?;
-        }
-        return Ok(None);
-    };
-    if !are_replayed(alloc, &plan, sources, &records, out)? {
-        return Ok(None);
-    }
     one_text_one_record();
-    let gap = find_gap(alloc, &records)?;
-    let labels = labels_of(sources, &records);
-    let tapes = tapes_of(alloc, plan.nodes, records)?;
-    front_is_one_run();
-    let events = match merge_front(alloc, &plan, &tapes) {
-        Ok(events) => events,
-        Err(AuditFault::OutOfMemory) => return Err(OutOfMemory),
-        Err(_) => {
-            put_bytes(out, b"audit fault 3\n")?;
-            return Ok(None);
-        }
-    };
-    let verdict = if have_entries(&tapes, events.len()) {
-        Verdict::Whole
-    } else {
-        let counts = merged_counts(alloc, &tapes, &events)?;
-        tell_all(&plan, &tapes, &labels, &counts, out)?
-    };
-    if let Some(Gap { record, entry }) = gap {
-        put_gap(out, name_at(sources, record), entry)?;
-        return Ok(None);
+    fed_is_one_run();
+    good_tapes_are_whole();
+    beginnings_are_replayed();
+    match read_cluster(alloc, sources, keys, out)? {
+        Ok(recorded) => audit_cluster(alloc, sources, recorded, out),
+        Err(why) => Ok(Err(why)),
     }
-    put_merged(out, events.len())?;
-    Ok(Some(Audited {
-        plan,
-        tapes,
-        events,
-        verdict,
-    }))
 }

@@ -1,9 +1,9 @@
 //! The cluster that records speak of: whether records may be of one cluster, and the plan of that cluster.
-ghost use Rattle.std.specs.Prelude.{◌≡◌, ◌≢◌, ◌<◌, ◌≤◌, ◌↔◌, ℕ, length, All, AllPairs, IfSome, IsTrue};
+ghost use Rattle.std.specs.Prelude.{◌≡◌, ◌≢◌, ◌<◌, ◌≤◌, ◌⊎◌, ◌↔◌, ℕ, [], length, All, AllPairs, IfSome, IfNone, IsTrue};
 ghost use Rattle.gb_types.specs.Common.{limits_of, version_at};
 ghost use Rattle.gb_types.specs.declared.limits.TheConstants.{NODES as MOST};
 ghost use Rattle.gb_cluster.specs.Common.{IsClusterPlan};
-ghost use Rattle.gb_audit_run.specs.Audits.{AreOfOne, IsOfPlan};
+ghost use Rattle.gb_audit_run.specs.Audits.{AreOfOne, AreSent, IsOfPlan, IsUnplanned};
 
 use gb_record_text::RecordHead;
 use gb_rules::room::ROOMS;
@@ -22,7 +22,7 @@ pub struct ClusterKeys {
 // Returns true if the version that each node sends can name them all.
 fn is_named(plan: &Plan) -> bool
     requires { plan.now.nodes ≤ MOST }
-    ensures { IsTrue result → (a : ℕ) → a < plan.now.nodes → plan.now.nodes ≤ (limits_of (version_at plan.now.versions a)).nodes }
+    ensures { IsTrue result ↔ ((a : ℕ) → a < plan.now.nodes → plan.now.nodes ≤ (limits_of (version_at plan.now.versions a)).nodes) }
 {
     for number in 0..plan.nodes {
         let version = plan.versions[usize::from(number)];
@@ -35,7 +35,7 @@ fn is_named(plan: &Plan) -> bool
 
 // Returns true if a cluster may be started with this plan.
 fn is_plan(plan: &Plan) -> bool
-    ensures { IsTrue result → IsClusterPlan plan.now }
+    ensures { IsTrue result ↔ IsClusterPlan plan.now }
 {
     1 <= plan.nodes
         && usize::from(plan.nodes) <= NODES
@@ -60,7 +60,8 @@ pub fn are_of_one(first: &RecordHead, other: &RecordHead) -> bool
 // Returns the version that each node sends, by the nodes' numbers: what its record says. A node without a record sends this one.
 fn versions_of(heads: &[RecordHead], other: Version) -> [Version; NODES]
     requires one { AllPairs AreOfOne heads.now }
-    ensures { All (λ h. version_at result h.node.number ≡ h.version) heads.now }
+    ensures records { All (λ h. version_at result h.node.number ≡ h.version) heads.now }
+    ensures others { AreSent heads.now other result }
 {
     let mut versions: [Version; NODES] = [other; NODES];
     for head in heads {
@@ -90,6 +91,7 @@ pub fn plan_of(heads: &[RecordHead], keys: ClusterKeys) -> Option<Plan>
     ensures plan { IfSome result IsClusterPlan }
     ensures keys { IfSome result (λ p. (p.cluster_key ≡ keys.cluster) × (p.admin_key ≡ keys.admin)) }
     ensures fit { IfSome result (λ p. All (IsOfPlan p) heads.now) }
+    ensures none { IfNone result ((heads.now ≡ []) ⊎ IsUnplanned heads.now) }
 {
     let first = heads.first()?;
     if !are_below(first.nodes, heads) {

@@ -1,4 +1,5 @@
 //! What is left of the nodes' records behind the entries that are in the merged run.
+use crate::replay::is_refused;
 use gb_cap::HmacKey;
 use gb_cluster::Event;
 use gb_frame::reading::decode;
@@ -33,24 +34,38 @@ fn place_of(event: &Event, sent: &[NodeId]) -> Option<NodeId> {
     }
 }
 
-/// Returns, by the nodes' numbers, how many entries of each node's record are in the run of `events`, which was merged from `tapes`.
-/// Takes memory for a list of the packets sent. `Err` if memory runs out.
+// Returns the place of the first entry from `place` on that was not refused for lack of memory; the number of entries if there is none.
+fn next_fed(entries: &[TapeEntry], place: usize) -> usize {
+    for next in place..entries.len() {
+        if !is_refused(&entries[next].answer) {
+            return next;
+        }
+    }
+    entries.len()
+}
+
+/// Returns, by the nodes' numbers, the place in each node's record of the first entry that is not in the run of `events`, which was merged
+/// from `tapes`, nor refused for lack of memory. It is the number of entries if there is none. Takes memory for a list of the packets
+/// sent. `Err` if memory runs out.
 pub fn merged_counts(
     alloc: Global,
     tapes: &[Tape],
     events: &[Event],
 ) -> Result<[usize; NODES], OutOfMemory> {
     let mut counts = [0usize; NODES];
+    for place in 0..tapes.len().min(NODES) {
+        counts[place] = next_fed(tapes[place].as_slice(), 0);
+    }
     let mut sent: Vec<NodeId> = Vec::new(alloc);
     for event in events {
         let Some(node) = place_of(event, &sent) else {
             continue;
         };
         let place = counts[node.index()];
-        counts[node.index()] = place.saturating_add(1);
         let Some(tape) = tapes.get(node.index()) else {
             continue;
         };
+        counts[node.index()] = next_fed(tape.as_slice(), place.saturating_add(1));
         let Some(entry) = tape.as_slice().get(place) else {
             continue;
         };
@@ -74,20 +89,4 @@ pub fn sender_of(plan: &Plan, entry: &TapeEntry) -> Option<NodeId> {
         Ok(packet) => Some(packet.head().from),
         Err(_) => None,
     }
-}
-
-/// Returns true if the answer of one of `entries` is the packet that the event of `taken` took, byte by byte. Returns false if none is,
-/// or if that event took no packet.
-pub fn is_sent(entries: &[TapeEntry], taken: &TapeEntry) -> bool {
-    let NodeEvent::Packet(bytes) = &taken.event else {
-        return false;
-    };
-    for entry in entries {
-        if let NodeAnswer::Sent(Sent::Packet(text)) = &entry.answer
-            && text.as_slice() == bytes.as_slice()
-        {
-            return true;
-        }
-    }
-    false
 }

@@ -4,10 +4,12 @@
 pub mod audit;
 pub mod cluster;
 pub mod counts;
+pub mod keys;
+pub mod laws;
 pub mod left;
 pub mod lines;
 pub mod replay;
 pub mod verdict;
 
-pub use audit::{Audited, Source, Verdict};
+pub use audit::{Audited, Recorded, Source, Unaudited, Verdict};
 pub use cluster::ClusterKeys;

@@ -1,4 +1,5 @@
 //! The lines that an audit prints. Each function appends a line, or a part of one, to the text `out`.
+use crate::audit::Verdict;
 use gb_spelling::number::put_number;
 use gb_types::OutOfMemory;
 use gb_types::memory::put_bytes;
@@ -70,6 +71,24 @@ pub fn put_fault(
     put_bytes(out, b"\n")
 }
 
+/// Appends the line `passed over FILE entries R`: lack of memory refused R entries of the record `name`, which are in no run. `Err` if memory
+/// runs out; then `out` may have a part of the line.
+pub fn put_passed(out: &mut Vec<u8>, name: &str, entries: usize) -> Result<(), OutOfMemory> {
+    put_bytes(out, b"passed over ")?;
+    put_bytes(out, name.as_bytes())?;
+    put_field(out, b"entries", entries as u64)?;
+    put_bytes(out, b"\n")
+}
+
+/// Appends the line `other keys FILE line L`: the record `name` is not one under these keys, and its entry at line L shows it. `place` is the
+/// number of entries before it, so L is `place` + 2. `Err` if memory runs out; then `out` may have a part of the line.
+pub fn put_other_keys(out: &mut Vec<u8>, name: &str, place: usize) -> Result<(), OutOfMemory> {
+    put_bytes(out, b"other keys ")?;
+    put_bytes(out, name.as_bytes())?;
+    put_field(out, b"line", line_of(place))?;
+    put_bytes(out, b"\n")
+}
+
 /// Appends the line `gap FILE line L`: the count of the entry in line L of the record `name` is not the next of its seat. `place` is the number
 /// of entries before it, so L is `place` + 2. `Err` if memory runs out; then `out` may have a part of the line.
 pub fn put_gap(out: &mut Vec<u8>, name: &str, place: usize) -> Result<(), OutOfMemory> {
@@ -104,6 +123,28 @@ pub fn put_merged(out: &mut Vec<u8>, events: usize) -> Result<(), OutOfMemory> {
     put_bytes(out, b"merged ")?;
     put_number(out, events as u64)?;
     put_bytes(out, b" events\n")
+}
+
+/// Appends the last line of an audit whose verdict is `Whole`: `whole of the records given, complete` if `is_complete`, each node of the
+/// cluster having a record that ends, and otherwise `whole of the records given, partial`. `Err` if memory runs out; then `out` may have a
+/// part of the line.
+pub fn put_whole(
+    out: &mut Vec<u8>,
+    verdict: Verdict,
+    is_complete: bool,
+) -> Result<(), OutOfMemory> {
+    let Verdict::Whole = verdict else {
+        return Ok(());
+    };
+    put_bytes(out, b"whole of the records given, ")?;
+    put_bytes(
+        out,
+        if is_complete {
+            b"complete\n"
+        } else {
+            b"partial\n"
+        },
+    )
 }
 
 // Returns the number of the line of the entry before which `place` entries stand.

@@ -2,18 +2,18 @@
 ghost use Rattle.std.specs.Prelude.{◌≡◌, ◌<◌, ◌↔◌, All, IfOk, IfErr, IfSome, IfNone, IsTrue};
 ghost use Rattle.gb_cluster.specs.Common.{IsClusterPlan};
 ghost use Rattle.gb_merge.specs.Common.{wants_memory, after_entry};
-ghost use Rattle.gb_record_text.specs.Laws.{IsAnswered};
+ghost use Rattle.gb_record_text.specs.Laws.{Answers, IsAnswered};
 ghost use Rattle.gb_audit_run.specs.Replayed.{AreReplayed, IsFirstWrong, IsGiven, IsStarvedAt, IsUnfed};
 
 use gb_cluster::plan::node_plan;
 use gb_node::past::packets_say;
-use gb_node::{Halted, Node, NodeAnswer, PacketAnswer, Sent, TapeEntry, Ticked};
+use gb_node::{Halted, Node, NodeAnswer, NodeEvent, PacketAnswer, Sent, TapeEntry, Ticked};
 use gb_record_text::laws::turns_answer;
 use gb_types::{NodeId, OutOfMemory, Plan, Refusal, Reply};
 use std::alloc::Global;
 
 // Returns true if the answer refuses for lack of memory.
-fn is_refused(answer: &NodeAnswer) -> bool
+pub(crate) fn is_refused(answer: &NodeAnswer) -> bool
     ensures { result ≡ wants_memory answer.now }
 {
     match answer {
@@ -26,8 +26,24 @@ fn is_refused(answer: &NodeAnswer) -> bool
     }
 }
 
-// Takes an entry's event. Returns true if the answer is the entry's, and false also if the entry's answer refuses for lack of memory.
-// `Err` if the node is refused memory here.
+// Returns true if the answer is one to the event.
+fn answers(event: &NodeEvent, answer: &NodeAnswer) -> bool
+    ensures { IsTrue result ↔ Answers event.now answer.now }
+{
+    match answer {
+        NodeAnswer::Reply(_) => matches!(event, NodeEvent::Request(_)),
+        NodeAnswer::Taken(_) => matches!(event, NodeEvent::Packet(_)),
+        NodeAnswer::Sent(_) => matches!(
+            event,
+            NodeEvent::Pack(_) | NodeEvent::Again { .. } | NodeEvent::Ack(_)
+        ),
+        NodeAnswer::Ticked(_) => matches!(event, NodeEvent::Tick),
+        NodeAnswer::Halted(_) => matches!(event, NodeEvent::Stop),
+    }
+}
+
+// Takes an entry's event, except if the entry's answer refuses it for lack of memory: then the node stays as it is. Returns true if the
+// answer is the entry's, or the entry's refuses so. `Err` if the node is refused memory here.
 fn is_right(node: &mut Node, entry: &TapeEntry) -> Result<bool, OutOfMemory>
     ensures given { IfOk result (λ right. IsTrue right ↔ IsGiven node.old entry.now) }
     ensures after { IfOk result (λ right. IsTrue right → node.new ≡ after_entry node.old entry.now) }
@@ -37,7 +53,7 @@ fn is_right(node: &mut Node, entry: &TapeEntry) -> Result<bool, OutOfMemory>
     turns_answer();
     packets_say();
     if is_refused(&entry.answer) {
-        return Ok(false);
+        return Ok(answers(&entry.event, &entry.answer));
     }
     let answer = node.take(&entry.event);
     if is_refused(&answer) {
@@ -47,8 +63,8 @@ fn is_right(node: &mut Node, entry: &TapeEntry) -> Result<bool, OutOfMemory>
 }
 
 /// Starts a new node `me` of a cluster of `plan`, gives it the events of `entries` in order, and compares each answer with the entry's.
-/// Takes memory for the node. Returns the index of the first entry whose answer is another one, or refuses for lack of memory, from 0.
-/// `None` if there is no such entry. `Err` if the node is refused memory here, at an event that the entry's answer does not refuse so.
+/// It passes over the entries that were refused for lack of memory, which changed nothing. Takes memory for the node. Returns the index
+/// of the first entry whose answer is another one, from 0. `None` if there is no such entry. `Err` if the node is refused memory here.
 pub fn first_wrong(
     alloc: Global,
     plan: &Plan,

@@ -13,7 +13,7 @@ count_falls (t ∷ rest) zero x more next = let e : length t ≡ suc (length mor
 count_falls (t ∷ rest) (suc a) x more next = let less = count_falls rest a x more next in omega arith
 
 -- by one each time
-one_less : (rest : List (List TapeEntry)) (a : ℕ) (x : TapeEntry) (more : List TapeEntry) → tape_of rest a ≡ x ∷ more → count_of rest ≡ suc (count_of (slice_set rest a more))
+pub one_less : (rest : List (List TapeEntry)) (a : ℕ) (x : TapeEntry) (more : List TapeEntry) → tape_of rest a ≡ x ∷ more → count_of rest ≡ suc (count_of (slice_set rest a more))
 unfolding count_of
 one_less [] a x more next = absurd (cc)
 one_less (t ∷ rest) zero x more next = let e : length t ≡ suc (length more) = ap length next in omega arith

@@ -1,5 +1,5 @@
 -- Tapes without the entries that were refused for lack of memory.
-use Rattle.gb_types.specs.Common.{◌≡◌, ℕ, zero, suc, ◌<◌, ◌⊎◌, List, [], ◌∷◌, ◌++◌, length, map, Bool, true, false, Bor, inl, inr, refl, sym, ◌∙◌, ap, subst, arith, fold, not, if◌then◌else◌, ◌==◌, Option, Some, None, option_copied, slice_get, MatchOption, Result, Ok, Err, and_parts, nat_tests, append-nil, reverse-append}
+use Rattle.gb_types.specs.Common.{◌≡◌, ℕ, zero, suc, ◌<◌, ◌⊎◌, List, [], ◌∷◌, ◌++◌, length, map, Bool, true, false, Bor, inl, inr, refl, sym, ◌∙◌, ap, subst, arith, fold, not, if◌then◌else◌, ◌==◌, Option, Some, None, option_copied, slice_get, MatchOption, Result, Ok, Err, take, drop, and_parts, nat_tests, append-nil, reverse-append}
 use Rattle.gb_types.specs.declared.{address.Addr.Addr, node.NodeId.NodeId, plan.Plan.Plan, refusal.Refusal.TheVariants.OutOfMemory, reply.Reply.Reply, reply.Reply.TheVariants.Refused, spec.TenantRow.TenantRow, request.Action.Action}
 use Rattle.gb_frame.specs.declared.fault.PacketFault.{PacketFault}
 use Rattle.gb_frame.specs.Common.{Content}
@@ -39,6 +39,20 @@ pub tape_of-fed : (tapes : List (List TapeEntry)) (a : ℕ) → tape_of (fed_tap
 tape_of-fed [] a = sym fed_of-none
 tape_of-fed (t ∷ tapes) zero = refl
 tape_of-fed (t ∷ tapes) (suc a) = tape_of-fed tapes a
+
+-- what begins the entries that were not refused are those of a beginning
+pub begins : (entries front rest : List TapeEntry) → front ++ rest ≡ fed_of entries → (n : ℕ) × (fed_of (take n entries) ≡ front)
+begins entries [] rest parts = (0, fed_of-none)
+begins [] (x ∷ front) rest parts = absurd (let e = parts ∙ fed_of-none in cc)
+begins (y ∷ entries) (x ∷ front) rest parts = by (wants_or_not (wants_memory y.answer)) (begins entries)
+  where
+    by : (wants_memory y.answer ≡ true) ⊎ (wants_memory y.answer ≡ false) → ((front rest : List TapeEntry) → front ++ rest ≡ fed_of entries → (n : ℕ) × (fed_of (take n entries) ≡ front)) → (n : ℕ) × (fed_of (take n (y ∷ entries)) ≡ x ∷ front)
+    by (inl refused) more = let r = more (x ∷ front) rest (parts ∙ fed_of-refused y entries refused) in (suc r.0, fed_of-refused y (take r.0 entries) refused ∙ r.1)
+    by (inr fed) more =
+        let whole : x ∷ (front ++ rest) ≡ y ∷ fed_of entries = parts ∙ fed_of-fed y entries fed in
+        let r = more front rest (ap (drop 1) whole) in
+        let same : y ≡ x = let e = whole in cc in
+        (suc r.0, fed_of-fed y (take r.0 entries) fed ∙ (ap (λ (xs : List TapeEntry). y ∷ xs) r.1 ∙ ap (λ (z : TapeEntry). z ∷ front) same))
 
 -- Reading.
 
@@ -104,7 +118,7 @@ replay_is v [] = refl
 replay_is v (x ∷ entries) = replay_is (after_entry v x) entries ∙ (sym (after_from-last v x (past_of entries)) ∙ ap (after_from v) (sym (past_of-more x entries)))
 
 -- what was refused changes no replay
-replay_fed : (v : NodeValue) (entries : List TapeEntry) → fold after_entry v (fed_of entries) ≡ fold after_entry v entries
+pub replay_fed : (v : NodeValue) (entries : List TapeEntry) → fold after_entry v (fed_of entries) ≡ fold after_entry v entries
 replay_fed v [] = ap (fold after_entry v) fed_of-none
 replay_fed v (x ∷ entries) = by (wants_or_not (wants_memory x.answer)) (replay_fed v entries) (replay_fed (after_entry v x) entries)
   where

@@ -61,7 +61,7 @@ events_count plan sent (p ∷ picks) (e ∷ events) are = ap suc (events_count p
 events_count plan sent [] (e ∷ events) are = absurd are
 events_count plan sent (p ∷ picks) [] are = absurd are
 
-seam : {X : Type 0} (xs : List X) (y : X) (ys : List X) → slice_get (xs ++ y ∷ ys) (length xs) ≡ Some y
+pub seam : {X : Type 0} (xs : List X) (y : X) (ys : List X) → slice_get (xs ++ y ∷ ys) (length xs) ≡ Some y
 seam [] y ys = refl
 seam (x ∷ xs) y ys = seam xs y ys
 
@@ -100,7 +100,7 @@ front_faulty plan tapes rest picks OutOfMemory parts is = is
 
 -- What happened at a node.
 
-past_at-append : (a : NodeId) (run more : List NodeStep) → past_at a (run ++ more) ≡ past_at a run ++ past_at a more
+pub past_at-append : (a : NodeId) (run more : List NodeStep) → past_at a (run ++ more) ≡ past_at a run ++ past_at a more
 unfolding past_at
 past_at-append a [] more = refl
 past_at-append a (d ∷ run) more = by (nat_eq d.node.number a.number) (past_at-append a run more)

@@ -1,6 +1,10 @@
 -- The names that files of crates above cite, passed on from one place. Declares nothing.
-pub use Rattle.gb_merge.specs.Faults.{IsFault, after_entry, replay}
+pub use Rattle.gb_merge.specs.Alike.{AlikeTapesMergeAlike, AreAlike, IsAlike, IsSameFront}
+pub use Rattle.gb_merge.specs.Faults.{IsDifferent, IsFault, after_entry, replay}
 unfoldable pub use Rattle.gb_merge.specs.Faults.{node_after, node_answer}
+pub use Rattle.gb_merge.specs.Fed.{fed_tapes}
+unfoldable pub use Rattle.gb_merge.specs.Fed.{fed_of}
+pub use Rattle.gb_merge.specs.Forged.{IsForgedAt, IsNoneForged}
 pub use Rattle.gb_merge.specs.Front.{FrontIsOneRun, IsMergedFront}
 pub use Rattle.gb_merge.specs.Interleaving.{Pick, sent_by}
 unfoldable pub use Rattle.gb_merge.specs.Interleaving.{AreEvents, entries_at}

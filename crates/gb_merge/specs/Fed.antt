@@ -1,48 +1,48 @@
 -- Tapes without the entries that were refused for lack of memory, and what merging them yields.
-use Rattle.std.specs.Prelude.{◌≡◌, ◌<◌, ◌&&◌, not, Bool, true, false, List, [], ◌∷◌, map, filter}
+use Rattle.std.specs.Prelude.{ℕ, ◌≡◌, ◌<◌, ◌&&◌, not, Bool, true, false, List, [], ◌∷◌, map, filter, take}
 use Rattle.gb_types.specs.declared.{address.Addr.Addr, node.NodeId.NodeId, plan.Plan.Plan}
 use Rattle.gb_node.specs.Common.{IsTurn, NodeValue, Happened}
 use Rattle.gb_node.specs.declared.{answer.NodeAnswer.NodeAnswer, event.NodeEvent.NodeEvent, tape.TapeEntry.TapeEntry}
 use Rattle.gb_cluster.specs.Common.{node_at, past_at}
 use Rattle.gb_cluster.specs.declared.event.Event.{Event}
 use Rattle.gb_isolation.specs.{Isolation.IsIsolated, Isolation.wants_memory, Project.is_starved_by, Project.replies_in}
-use Rattle.gb_merge.specs.Interleaving.{tape_of}
-use Rattle.gb_merge.specs.Merged.{IsMerged, run_of, past_of}
-use Rattle.gb_merge.specs.Faults.{replay, IsFault}
-use Rattle.gb_merge.specs.declared.fault.AuditFault.{AuditFault}
+use Rattle.gb_merge.specs.Interleaving.{entries_at, tape_of}
+use Rattle.gb_merge.specs.Merged.{run_of, past_of}
+use Rattle.gb_merge.specs.Faults.{replay}
+use Rattle.gb_merge.specs.Front.{IsMergedFront}
 
 -- the entries of a tape that were not refused for lack of memory
 unfoldable pub fed_of : List TapeEntry → List TapeEntry
 fed_of entries = filter (λ x. not (wants_memory x.answer)) entries
 
+-- tapes without their entries that were refused for lack of memory
 abbrev pub fed_tapes : List (List TapeEntry) → List (List TapeEntry)
 fed_tapes tapes = map fed_of tapes
-
--- The events are those of the entries that were not refused for lack of memory: an interleaving of these entries, whose run gives their answers.
-abbrev pub IsMergedFed : Plan → List (List TapeEntry) → List Event → Type 0
-IsMergedFed plan tapes events = IsMerged plan (fed_tapes tapes) events
-
--- why no events are returned: the tapes without the entries that were refused for lack of memory have the fault
-abbrev pub IsFedFault : Plan → List (List TapeEntry) → AuditFault → Type 0
-IsFedFault plan tapes fault = IsFault plan (fed_tapes tapes) fault
 
 -- no request of the group was refused for lack of memory at the node, in this past
 unfoldable pub is_fed_at : NodeId → Addr → List Happened → Bool
 is_fed_at a g [] = true
 is_fed_at a g (h ∷ past) = not (is_starved_by a g past h.event h.answer) && is_fed_at a g past
 
--- The merged events are a run of a cluster, and each group in it is what it is alone.
-pub record IsOneRunOfFed (plan : Plan) (tapes : List (List TapeEntry)) (events : List Event) (m : IsMergedFed plan tapes events) : Type 0 where
-  -- at each node happened what its tape says without the refused entries
-  pub pasts : (a : NodeId) → past_at a (run_of m.picks) ≡ past_of (fed_of (tape_of tapes a.number))
+-- The first entries of a tape happened, without those that were refused for lack of memory.
+pub record IsBegun (plan : Plan) (tapes : List (List TapeEntry)) (events : List Event) (m : IsMergedFront plan (fed_tapes tapes) events) (a : NodeId) : Type 0 where
+  -- this many entries
+  pub count : ℕ
+  pub entries : fed_of (take count (tape_of tapes a.number)) ≡ entries_at a.number m.picks
+  -- the refused entries changed nothing: the node ends as the replay of these entries, in which a refused entry leaves the node as it was
+  pub node : a.number < plan.nodes → node_at m.last a ≡ replay plan a (take count (tape_of tapes a.number))
+  -- a group of which none of them is a request that was refused for lack of memory got there the replies of the run
+  pub replies : (g : Addr) → is_fed_at a g (past_of (take count (tape_of tapes a.number))) ≡ true → replies_in a g (past_at a (run_of m.picks)) ≡ replies_in a g (past_of (take count (tape_of tapes a.number)))
+
+-- The merged events are a run of a cluster: at each node the first entries of its tape happened that were not refused for lack of memory, and each group in the
+-- run is what it is alone.
+pub record IsOneRunOfFed (plan : Plan) (tapes : List (List TapeEntry)) (events : List Event) (m : IsMergedFront plan (fed_tapes tapes) events) : Type 0 where
+  pub begun : (a : NodeId) → IsBegun plan tapes events m a
+  pub pasts : (a : NodeId) → past_at a (run_of m.picks) ≡ past_of (entries_at a.number m.picks)
   pub isolated : (g : Addr) → IsIsolated plan (run_of m.picks) m.last g
-  -- the refused entries changed nothing: each node ends as the replay of its whole tape, in which a refused entry leaves the node as it was
-  pub nodes : (a : NodeId) → a.number < plan.nodes → node_at m.last a ≡ replay plan a (tape_of tapes a.number)
-  -- a group that had no request refused for lack of memory at a node got there the replies of the run
-  pub replies : (g : Addr) (a : NodeId) → is_fed_at a g (past_of (tape_of tapes a.number)) ≡ true → replies_in a g (past_at a (run_of m.picks)) ≡ replies_in a g (past_of (tape_of tapes a.number))
 
 abbrev pub FedIsOneRun : Type 0
-FedIsOneRun = (plan : Plan) (tapes : List (List TapeEntry)) (events : List Event) (m : IsMergedFed plan tapes events) → IsOneRunOfFed plan tapes events m
+FedIsOneRun = (plan : Plan) (tapes : List (List TapeEntry)) (events : List Event) (m : IsMergedFront plan (fed_tapes tapes) events) → IsOneRunOfFed plan tapes events m
 
 -- a node that refuses for lack of memory is as it was, whatever the event was
 abbrev pub RefusalsLeaveNodes : Type 0

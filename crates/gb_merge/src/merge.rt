@@ -36,11 +36,7 @@ pub fn merge(alloc: Global, plan: &Plan, tapes: &[Tape]) -> Result<Vec<Event>, A
 }
 
 /// Merges what is left of tapes, as `merge` merges whole tapes.
-pub(crate) fn merge_entries(
-    alloc: Global,
-    plan: &Plan,
-    tapes: Vec<Rest>,
-) -> Result<Vec<Event>, AuditFault>
+fn merge_entries(alloc: Global, plan: &Plan, tapes: Vec<Rest>) -> Result<Vec<Event>, AuditFault>
     requires plan { IsClusterPlan plan.now }
     requires one_each { length tapes.items ≡ plan.now.nodes }
     ensures ok { IfOk result (λ v. IsMerged plan.now tapes.entry.items v.items) }

@@ -1,5 +1,6 @@
 //! Which bytes are packets for a node of a cluster.
 ghost use Rattle.std.specs.Prelude.{◌≡◌, true, MatchOption};
+ghost use Rattle.gb_merge.specs.Forged.{sender_in};
 ghost use Rattle.gb_merge.specs.Interleaving.{is_good};
 ghost use Rattle.gb_merge.specs.Woven.{IsOther};
 ghost use Rattle.gb_node.specs.declared.event.NodeEvent.TheVariants as NodeEvents;
@@ -47,6 +48,16 @@ impl Reader {
         };
         let head = packet.head();
         head.to.number == a.number && head.from.number < self.plan.nodes
+    }
+
+    /// Returns the number of the sender that the bytes name. `None` if they are no packet under the cluster's key.
+    pub(crate) fn sender(&self, bytes: &[u8]) -> Option<u8>
+        ensures { result ≡ sender_in self.now bytes.now }
+    {
+        match decode(bytes, &self.key) {
+            Ok(packet) => Some(packet.head().from.number),
+            Err(_) => None,
+        }
     }
 
     /// Returns the bytes that came to the node if they are a packet of the cluster for it, otherwise `None`.

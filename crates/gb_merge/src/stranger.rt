@@ -24,7 +24,7 @@ fn post_all<'a>(sent: &mut Mail<'a>, mut left: Rest<'a>) -> Result<(), OutOfMemo
 }
 
 /// Returns all packets that the tapes sent.
-fn all_sent<'a>(alloc: Global, tapes: &[Rest<'a>]) -> Result<Mail<'a>, OutOfMemory>
+pub(crate) fn all_sent<'a>(alloc: Global, tapes: &[Rest<'a>]) -> Result<Mail<'a>, OutOfMemory>
     ensures { IfOk result (λ m. m ≡ all_sent tapes.now) }
 {
     let mut sent = Mail::new(alloc);
@@ -41,7 +41,7 @@ fn all_sent<'a>(alloc: Global, tapes: &[Rest<'a>]) -> Result<Mail<'a>, OutOfMemo
 }
 
 /// Returns true if the event is a packet for the node and is not among `sent`.
-fn is_strange(reader: &Reader, a: NodeId, event: &NodeEvent, sent: &Mail) -> bool
+pub(crate) fn is_strange(reader: &Reader, a: NodeId, event: &NodeEvent, sent: &Mail) -> bool
     ensures strange { IsTrue result → IsBlocked reader.now a sent.now event.now }
     ensures known { result ≡ false → IsBlocked reader.now a sent.now event.now → ⊥ }
 {

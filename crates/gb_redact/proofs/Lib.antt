@@ -2,3 +2,4 @@ mod TokenLemmas
 mod TextLemmas
 mod TableLemmas
 mod PastLemmas
+mod CopyLemmas

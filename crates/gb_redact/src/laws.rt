@@ -1,8 +1,10 @@
 //! Laws of redaction. Each function is a law: its contract is the theorem.
+ghost use Rattle.gb_redact.specs.Copies.{CopiesAreAuditedAlike};
 ghost use Rattle.gb_redact.specs.Laws.{RightStayRight, DeniedLeaveNothing};
 ghost use Rattle.gb_redact.specs.Pasts.{RedactedAreATape};
 ghost use Rattle.gb_redact.specs.RedactedText.{MarkedAreRead};
 
+use gb_merge::laws::alike_tapes_merge_alike;
 use gb_node::past::pasts_say;
 
 /// A request that comes with the token that it needs does so too after redaction, at a node whose keys are those that stand for its own.
@@ -27,3 +29,11 @@ pub fn redacted_are_a_tape()
 pub fn marked_are_read()
     ensures { MarkedAreRead }
 {}
+
+/// An audit of redacted records, under the key that stands for the administrator's, has the verdict of an audit of the records, and the run
+/// that it finds has the redacted entries of the other's at each node.
+pub fn copies_are_audited_alike()
+    ensures { CopiesAreAuditedAlike }
+{
+    alike_tapes_merge_alike();
+}

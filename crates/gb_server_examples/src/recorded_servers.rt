@@ -87,7 +87,7 @@ fn audited(alloc: Global, first: &[u8], second: &[u8], run: u64) -> Option<(Verd
         admin: [0x22; 32],
     };
     let mut lines = Vec::new(alloc);
-    let found = audit(alloc, &sources, keys, &mut lines).ok()??;
+    let found = audit(alloc, &sources, keys, &mut lines).ok()?.ok()?;
     Some((found.verdict, found.events.len() > 8))
 }
 

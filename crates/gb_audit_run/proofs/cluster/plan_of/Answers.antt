@@ -10,5 +10,5 @@ returns-then-is_plan-clause-fit c = λ k d lt.
       silence = like.1.0;
       places = like.1.1.0;
       room = like.1.1.1;
-      version = c.versions_of-versions.ensures k d lt;
+      version = c.versions_of-versions.ensures.records k d lt;
     }
