@@ -12,7 +12,7 @@ use gb_types::{Module, NodeId, NodeSet, OutOfMemory};
 use gb_uniform::{AllAcked, MajorityAcked};
 use std::alloc::Global;
 
-/// A broadcast of one of five modules, without an order (Cachin, Guerraoui, Rodrigues 2011, chapter 3).
+/// A broadcast of one of five modules, without an order.
 #[derive(Drop)]
 pub enum Unordered {
     BestEffort(Direct<Beb>),
@@ -23,7 +23,7 @@ pub enum Unordered {
 }
 
 impl Unordered {
-    /// Returns the broadcast of a module at the node `me`, in a group with these members. It was told no place and has noticed nobody.
+    /// Returns the broadcast of a module at node `me`, in a group with these members. It has received no message and has noticed no node.
     pub fn new(alloc: Global, base: Module, me: NodeId, members: NodeSet) -> Unordered
         ensures meaning { (ms : List MsgId) → ⟦<Unordered as Layer>⟧.meaning ms result ≡ unordered_noticing base me members set.empty }
         ensures known { (ms : List MsgId) → ⟦<Unordered as Layer>⟧.knows ms result 0 0 }
