@@ -1,4 +1,4 @@
--- What a fifo's marks say about the messages that wait.
+-- The messages that wait, by the marks of a fifo.
 use Rattle.gb_types.specs.Common.{◌≡◌, ℕ, ◌+◌, ◌≤◌, ◌<◌, true, false, cond, not, ◌&&◌, nat_lt, List, [], ◌∷◌, length, set, get_or, slice_get, refl, ap, sym, ◌∙◌, arith, Some, list_any, and-false, get_or_past, ltb-true, ltb-false, get_or_from_slice_get, same}
 use Rattle.gb_types.specs.declared.{node.NodeId.NodeId, limits.TheConstants.NODES, message.MsgId.MsgId}
 use Rattle.gb_types.proofs.{SameLemmas.same_itself, SameLemmas.same-true, BoolLemmas.and_left, BoolLemmas.and_right}
@@ -102,7 +102,7 @@ next_within_place ms ks origin k p here =
     no_more (m ∷ ms) [] = omega arith
     no_more (m ∷ ms) (k ∷ ks) = let h = no_more ms ks in omega (arith, h)
 
--- what changes when the next message of an origin is released
+-- the entries and the counts after the next message of an origin is released
 module _ (ms : List MsgId) (ks : List Mark) (origin : NodeId) (k p : ℕ) (lt : p < length ms) (here : IsPlace (is_next origin.number k) (marked ms ks) (Some p)) where
   es : List Entry
   es = marked ms ks

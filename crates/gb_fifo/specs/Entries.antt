@@ -82,7 +82,7 @@ abbrev pub released_ups : ℕ → ℕ → List Entry → List Up
 released_ups s zero es = []
 released_ups s (suc n) es = pick (next_of s es) es ++ released_ups s n (give (next_of s es) es)
 
--- the entries after the layer below delivered m, and the fifo released what had waited for m
+-- the entries after the layer below delivered m, and the fifo released the messages that this completes
 abbrev pub taken_one : MsgId → List Entry → List Entry
 taken_one m es = released m.origin.number (length es) (map (brought m) es)
 

@@ -364,7 +364,7 @@ fn is_well<H: Clock>(rt: &H, alloc: Global, member: &mut Member) -> Result<bool,
     Ok(is_well && again > 0 && again <= 4 * packed.min(100_000))
 }
 
-// Two members say 25 messages in each of four groups. Returns true if each log gets all of them.
+// Says 25 messages as each of two members, in each of four groups. Returns true if each log gets all of them.
 fn talk<H: Net<Stream = TcpStream> + Clock>(rt: &H, alloc: Global) -> Result<bool, ClientFault> {
     let mut first = joined(rt, ROUGH.port, NodeId::new(0))?;
     let mut second = joined(rt, ROUGH.port, NodeId::new(1))?;

@@ -1,4 +1,4 @@
--- What each group of a node shows.
+-- The part that each group of a node shows: what the rules read, and the items that wait.
 use Rattle.std.specs.Prelude.{ℕ, List, Option, option_map}
 use Rattle.gb_types.specs.declared.{address.Addr.Addr, entry.Entry.Entry}
 use Rattle.gb_rules.specs.Common.{Shown}

@@ -46,7 +46,7 @@ waiting_of None b = []
 waiting_of (Some None) b = []
 waiting_of (Some (Some t)) b = t.waiting b
 
--- What the rules read of a group.
+-- The part of a group that the rules read.
 
 -- each other member is noticed, or has acknowledged the own message with this number
 abbrev pub is_finished_told : ℕ → Told → ℕ → Bool
@@ -66,7 +66,7 @@ shown_of me t = record { spec = t.spec; phase = t.phase; usage = used_by me t; l
 abbrev pub shown_in : ℕ → Option (Option Told) → Option (Option Shown)
 shown_in me o = option_map (option_map (shown_of me)) o
 
--- How a group changes.
+-- The changes of a group.
 
 -- the items that wait for node b after a call: if b is another member that was not noticed, the items that the call broadcasts are appended
 abbrev pub waits_with : ℕ → GroupCall → Told → ℕ → List Entry

@@ -21,6 +21,6 @@ pub struct NodePlan {
     pub cluster_key: Key,
     /// The key of the administrator's token.
     pub admin_key: Key,
-    /// Whether a host keeps a tape of what happens. It changes nothing at the node.
+    /// True if a host keeps a tape of the node's events. It changes nothing at the node.
     pub tape: bool,
 }

@@ -58,9 +58,9 @@ pub struct Service {
     pub line: Vec<u8>,
     /// The beginning of the first line of the log.
     pub front: Vec<u8>,
-    /// Whether the server ends in order when standard input ends.
+    /// True if the server ends in order when standard input ends.
     pub stops_at_end: bool,
-    /// Whether no log is written.
+    /// True if no log is written.
     pub is_quiet: bool,
 }
 

@@ -133,7 +133,7 @@ foqradesh_reply_seconds_bucket{node=\"2\",le=\"+Inf\"} 1\n\
 foqradesh_reply_seconds_sum{node=\"2\"} 0.100001\n\
 foqradesh_reply_seconds_count{node=\"2\"} 1\n";
 
-// A row of a node that has noticed two others.
+// Returns the row of a node that has noticed two others.
 fn noticed(number: u8, first: u8, second: u8) -> NodeNoticed
     requires own { number < 32 }
     requires one { first < 32 }

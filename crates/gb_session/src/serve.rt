@@ -27,7 +27,7 @@ pub const PIECE: usize = 65_536;
 
 const _: () = prove!(PIECE == 65_536);
 
-/// How a session ended.
+/// The end of a session.
 #[derive(Clone, Copy, PartialEq, Eq)]
 pub enum SessionEnd {
     /// The input ended between two messages.

@@ -76,7 +76,7 @@ pub enum Step {
     Ended(SessionEnd),
 }
 
-// How far a piece of a client's stream is answered, without a copy of it.
+// The progress in a piece of a client's stream, which is answered without a copy of it.
 #[derive(Drop)]
 struct Progress {
     // The number of bytes at the front that are answered.

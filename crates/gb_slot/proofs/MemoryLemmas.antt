@@ -37,7 +37,7 @@ still_enough was more = omega arith
 pub as_much : {need had has : ℕ} → need ≤ had → has ≡ had → need ≤ has
 as_much was same = omega arith
 
--- more messages in the store change neither the state of the broadcast nor what it knows
+-- more messages in the store change neither the state of the broadcast nor the messages that it received
 pub stack_stays : (stack : Stack) (store more later : List Entry) (n w : ℕ) → later ≡ store ++ more → StackKnows (map message_of store) stack n w
     → (stack_of (map message_of later) stack ≡ stack_of (map message_of store) stack) × StackKnows (map message_of later) stack n w
 stack_stays stack store more later n w grown knows =

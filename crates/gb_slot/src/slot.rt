@@ -160,7 +160,7 @@ impl Slot {
         Ok(())
     }
 
-    /// Returns what the member here has used of its budgets and its window.
+    /// Returns how much the member here has used of its budgets and its window.
     fn usage(&self) -> Usage
         ensures { result ≡ usage_of self.now }
     {

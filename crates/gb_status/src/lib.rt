@@ -1,6 +1,6 @@
 //! The figures of a server's nodes, and how they are written: in a session's reply, and in the text that Prometheus reads, by HTTP.
-//! `figures::Figures` has the counts of a node, `text` writes them, and `board::Board` is where each node's thread stores its figures for
-//! other threads to read. `facts` writes a server's report about itself, and `times` the times of its loops. `http` answers requests by
+//! The counts of a node are `figures::Figures`, and `text` writes them. On `board::Board` each node's thread stores its figures for other
+//! threads to read. Further, `facts` writes a server's report about itself, and `times` the times of its loops; `http` answers requests by
 //! HTTP, `health` determines whether a server is well, and `news` and `misfit` write the lines of the log. Read `figure` first.
 #![tactic(auto)]
 
