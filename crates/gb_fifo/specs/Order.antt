@@ -1,4 +1,4 @@
--- The order of each origin's messages: first in, first out.
+-- The order of each origin's messages: first in, first out (Hadzilacos, Toueg 1994; Cachin, Guerraoui, Rodrigues 2011, Broadcast with Sequence Number).
 use Rattle.std.specs.Prelude.{◌≡◌, ℕ, max, nat_eq, List, [], ◌∷◌, ◌++◌, map, filter, drop, length}
 use Rattle.std.specs.List.{prefix_len, range_with_len}
 use Rattle.gb_types.specs.declared.{node.NodeId.NodeId, message.MsgId.MsgId}

@@ -1,4 +1,4 @@
--- The laws of the order of each origin, for any list of messages: first in, first out.
+-- The laws of the order of each origin, for any list of messages: first in, first out (Hadzilacos, Toueg 1994).
 use Rattle.std.specs.Prelude.{◌≡◌, ◌≤◌, true, List, filter, length}
 use Rattle.std.specs.List.{AllByRecursion}
 use Rattle.gb_types.specs.declared.message.MsgId.{MsgId}

@@ -14,8 +14,9 @@ use gb_layer::{Bounded, Broadcast, Index, Lawful, Layer, PlacedCall, Room, Sink}
 use gb_types::{NodeId, OutOfMemory};
 use std::alloc::Global;
 
-/// Delivers each origin's messages in the order 1, 2, 3, .. A message that the layer below delivers waits until it has delivered the
-/// messages before it. The layer below does everything else, and takes the same calls.
+/// Delivers each origin's messages in the order 1, 2, 3, .. (Hadzilacos, Toueg 1994; Cachin, Guerraoui, Rodrigues 2011, Broadcast
+/// with Sequence Number). A message that the layer below delivers waits until it has delivered the messages before it. The layer
+/// below does everything else, and takes the same calls.
 ///
 /// It keeps a mark of one byte for each message, and for each origin the number of its messages that it delivered.
 #[derive(Drop)]

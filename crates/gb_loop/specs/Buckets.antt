@@ -1,4 +1,4 @@
--- A token bucket, which is kept as the time at which it is full again.
+-- A token bucket (Turner 1986; the generic cell rate algorithm of ITU-T I.371), which is kept as the time at which it is full again.
 use Rattle.std.specs.Prelude.{ℕ, ◌+◌, ◌*◌, ◌-◌, ◌^◌, ◌/◌, ◌==◌, Bool, true, if◌then◌else◌, min, max, nat_le}
 use Rattle.gb_loop.specs.declared.bucket.Bucket.{Bucket}
 

@@ -44,7 +44,8 @@ fn hear<L: Layer>(layer: &mut L, index: &Index, me: NodeId, members: &NodeSet, n
     }
 }
 
-/// The broadcast of a group, of the kind that the group chose: one of five modules, plain or in the order of each origin.
+/// The broadcast of a group, of the kind that the group chose: one of five modules (Cachin, Guerraoui, Rodrigues 2011, chapter 3),
+/// plain or in the order of each origin.
 #[derive(Drop)]
 pub enum Stack {
     Plain(Unordered),

@@ -12,7 +12,7 @@ use gb_types::{Module, NodeId, NodeSet, OutOfMemory};
 use gb_uniform::{AllAcked, MajorityAcked};
 use std::alloc::Global;
 
-/// A broadcast of one of five modules, without an order.
+/// A broadcast of one of five modules, without an order (Cachin, Guerraoui, Rodrigues 2011, chapter 3).
 #[derive(Drop)]
 pub enum Unordered {
     BestEffort(Direct<Beb>),
