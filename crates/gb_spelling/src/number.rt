@@ -5,16 +5,16 @@ ghost use Rattle.std.specs.Str.Parse.{AllDigits, digits_value};
 use gb_types::OutOfMemory;
 use itoa::Buffer;
 
-/// Returns true if the word is empty, or has a leading zero and more than one byte.
+/// Returns true if the word is empty, or has a leading zero and more than one byte. Returns false otherwise.
 fn begins_badly(word: &[u8]) -> bool
-    // 48 is `0`.
+    // 48 is the code of `0`.
     ensures { IsTrue result ↔ ((word.now ≡ [])
         ⊎ ((slice_index word.now 0 ≡ 48) × (1 < length word.now))) }
 {
     matches!(word, [] | [b'0', _, ..])
 }
 
-/// Returns `10 * number + digit`. `None` if it exceeds 64 bits.
+/// Returns `10 * number + digit`, or `None` if it exceeds 64 bits.
 fn with_digit(number: u64, digit: u8) -> Option<u64>
     ensures some { IfSome result (λ n. n ≡ number * 10 + digit) }
     ensures none { IfNone result (2 ^ 64 ≤ number * 10 + digit) }

@@ -1,4 +1,4 @@
-//! The words of a line, which single spaces separate.
+//! The words of a line, which are separated by single spaces.
 ghost use Rattle.std.specs.Prelude.{◌≡◌, map, IfOk};
 ghost use Rattle.gb_spelling.specs.Words.{words_of, WrittenWordsAreRead, EachLineIsItsWords};
 
@@ -12,8 +12,8 @@ pub fn split_words(alloc: Global, line: &[u8]) -> Result<Vec<&[u8]>, OutOfMemory
     Ok(line.split(|byte| *byte == b' ').collect(alloc)?)
 }
 
-/// A law of two parts. Words that are written with single spaces between them are read again. Each line is its words with single spaces
-/// between them. It does nothing.
+/// A law of two parts, with nothing to run. Words that are written with single spaces between them are read again. Each line consists of
+/// its words with single spaces between them.
 pub fn words_are_the_parts_of_a_line()
     ensures written { WrittenWordsAreRead }
     ensures each { EachLineIsItsWords }
