@@ -35,7 +35,7 @@ fn guess_bytes(bytes: &mut [u8], pairs: &[[u8; 2]]) {
     }
 }
 
-/// Returns true only if these are the digits of a block of bytes. May return false in any case.
+/// Returns true only if these are the digits of a block of bytes.
 fn is_block_spelled(bytes: &[u8; BLOCK], word: &[u8; DIGITS]) -> bool
     ensures { result ≡ true → encode_lower bytes.now ≡ word.now }
 {
@@ -43,7 +43,7 @@ fn is_block_spelled(bytes: &[u8; BLOCK], word: &[u8; DIGITS]) -> bool
     hex::encode_to_slice(bytes, &mut digits).is_ok() && digits == *word
 }
 
-/// Returns true only if these are the digits of at most a block of bytes. May return false in any case.
+/// Returns true only if these are the digits of at most a block of bytes.
 fn is_rest_spelled(bytes: &[u8], word: &[u8]) -> bool
     ensures { result ≡ true → encode_lower bytes.now ≡ word.now }
 {
@@ -55,7 +55,7 @@ fn is_rest_spelled(bytes: &[u8], word: &[u8]) -> bool
     hex::encode_to_slice(bytes, few).is_ok() && *few == *word
 }
 
-/// Returns true only if a word spells the bytes in lower case. May return false in any case.
+/// Returns true only if a word spells the bytes in lower case.
 fn is_spelled(bytes: &[u8], word: &[u8]) -> bool
     ensures { result ≡ true → decode_of word.now ≡ Ok bytes.now }
 {
