@@ -1,4 +1,4 @@
-//! That each number of a value is within its type, for the clauses that name it. The functions only look at the numbers.
+//! Laws that each number of a value is within its type, for the clauses that name it. The functions only look at the numbers.
 ghost use Rattle.std.specs.{Prelude.All, Option.ForSome};
 ghost use Rattle.hex.specs.Hex.{IsBytes};
 ghost use Rattle.gb_spelling.specs.Common.{FitsReply, IsLong};
