@@ -55,7 +55,7 @@ step_line event answer = (if is_left_out event answer then codes "# " else []) +
 abbrev pub step_answer : Event → Answer → List ℕ
 step_answer event answer = if is_left_out event answer then [] else ended (answer_spelling answer)
 
--- the lines of steps, which are given with the newest first; the next definition has the lines of their answers
+-- the lines of steps, which are given with the newest first
 unfoldable pub steps_text : List RunStep → List ℕ
 steps_text [] = []
 steps_text (s ∷ earlier) = steps_text earlier ++ ended (step_line s.event s.answer)

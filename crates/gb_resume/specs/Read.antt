@@ -73,7 +73,7 @@ pub record HasKept (w : Wanted) (old new : BegunValue) (before : List TapeEntry)
   pub are : all ≡ lines ++ kept
   pub no_line : HasNoLine kept
 
--- a whole part was read behind these entries; the next definition says: that, or a text without a whole line
+-- a whole part was read behind these entries
 pub record IsReadPart (w : Wanted) (old new : BegunValue) (before : List TapeEntry) (part : ℕ) (r : Reading) (text : List ℕ) (p : PartValue) : Type 0 where
   pub torn : ℕ
   pub is : IsPart p torn text
