@@ -15,7 +15,7 @@ padded pad key = map (λ b. bit_xor b pad) (filled key)
 abbrev pub hmac_of : List ℕ → List ℕ → List ℕ
 hmac_of key text = sha256 (padded 0x5c key ++ sha256 (padded 0x36 key ++ text))
 
--- the two texts that are hashed for a tag; this is the inner one
+-- the inner text of a tag, whose hash is in the outer text
 abbrev pub inner_text : List ℕ → List ℕ → List ℕ
 inner_text key text = padded 0x36 key ++ text
 

@@ -224,7 +224,7 @@ fn answer(rt: &HostRuntime) -> Result<u8, ClientFault> {
 }
 
 /// Ends with status 0 for a reply that is no refusal, or help; 1 for a refusal; 2 for wrong words or secrets; 3 if there is no connection,
-/// or no such reply; 4 if no reply came, so that the outcome is unknown.
+/// or if what came is no reply to the request; 4 if no reply came, so that the outcome is unknown.
 fn main(rt: HostRuntime) -> ExitCode {
     let outcome = answer(&rt);
     ExitCode::from(end_run(rt.alloc(), None, outcome, &mut rt.stderr()))

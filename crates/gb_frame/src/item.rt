@@ -56,7 +56,7 @@ impl Item {
     }
 }
 
-/// Each number of a payload is a byte. The function does nothing when it runs; its contract is for the clauses that name it.
+/// Does nothing when it runs. By its contract each number of a payload is a byte, for the clauses that name the payload.
 fn are_bytes(payload: &[u8])
     ensures { IsBytes payload.now }
 {}

@@ -164,7 +164,7 @@ fn the_longest_packet_crosses_a_ring(rt: HostRuntime) -> Result<(), Fail> {
 
 const TWO_FOR_THE_FIRST: &[Call] = &[Call::Send(1, 0, b"1", b'+'), Call::Send(1, 0, b"2", b'+')];
 
-// Two packets come to a port one of whose calls fails. Returns the answers to two packets that it sends and to three receivings, in turn,
+// Runs calls of a port one of which fails, after two packets came to it. Returns the answers to two sends and three receivings, in turn,
 // and how many failures it counted.
 fn calls(alloc: Global, at: u64) -> Result<([u8; 5], u64), OutOfMemory> {
     let mut ports = RingPort::mesh(alloc, 2)?;
@@ -252,7 +252,7 @@ const CARRIED: &[(usize, usize)] = &[
     (16_386, 16_385),
 ];
 
-// Nodes 0 and 1 send each other packets by their ports.
+// Sends packets between nodes 0 and 1 by their ports, and compares what arrives.
 fn talk(
     rt: &impl Abort,
     host: &HostRuntime,

@@ -68,7 +68,7 @@ const BAD_STOP: &[u8] =
 const WRITTEN: &[u8] =
     b"\x00\x00\x00\x02ok\x00\x00\x00\x0estatus asked=1\x00\x00\x00\x02ok\x00\x00\x00\x0bgroups 3 64\x00\x00\x00\x02ok\x00\x00\x00\x02ok\x00\x00\x00\x14refused 14 Malformed";
 
-/// The messages whose replies are `WRITTEN`.
+/// Returns the messages whose replies are `WRITTEN`.
 fn stream(alloc: Global) -> Result<Vec<u8>, OutOfMemory> {
     let mut bytes = Vec::new(alloc);
     for message in [OPEN, STATUS, OPEN, LIST, STOP, OPEN, BAD_STOP] {

@@ -72,8 +72,8 @@ fn put_digits(out: &mut Vec<u8>, bytes: &[u8]) -> Result<(), OutOfMemory>
     Ok(())
 }
 
-/// Appends the word for `bytes` to `out`: two hexadecimal digits in lower case for each byte, or `-` if there are no bytes. `Err` if
-/// there is no memory; then `out` is as it was.
+/// Appends the word for `bytes` to `out`: two hexadecimal digits in lower case for each byte, or `-` if there are no bytes. Returns `Err`
+/// if there is no memory; then `out` is as it was.
 pub fn put_payload(out: &mut Vec<u8>, bytes: &[u8]) -> Result<(), OutOfMemory>
     ensures ok { OnOk result (out.new.items ≡ out.old.items ++ payload_word bytes.now) }
     ensures err { OnErr result (out.new.items ≡ out.old.items) }

@@ -5,7 +5,7 @@ ghost use Rattle.gb_spelling.specs.Words.{words_of, WrittenWordsAreRead, EachLin
 use gb_types::OutOfMemory;
 use std::alloc::Global;
 
-/// Returns the words of a line. Each space separates two words, so a word may be empty. `Err` if there is no memory for the list.
+/// Returns the words of a line. Each space separates two words, so a word may be empty. Returns `Err` if there is no memory for the list.
 pub fn split_words(alloc: Global, line: &[u8]) -> Result<Vec<&[u8]>, OutOfMemory>
     ensures { IfOk result (λ words. map (λ word. word.now) words.items ≡ words_of line.now) }
 {

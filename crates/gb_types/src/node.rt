@@ -126,7 +126,7 @@ impl NodeSet {
         is_within(self.bits, other.bits, other.bits)
     }
 
-    /// Returns the node of the set with the least number that is `number` or greater. `None` if there is no such node.
+    /// Returns the node of the set with the least number that is `number` or greater, or `None` if there is no such node.
     pub fn next_from(&self, number: usize) -> Option<NodeId>
         ensures { MatchOption result (rising_from self.now number ≡ [])
             (λ n. rising_from self.now number ≡ n.number ∷ rising_from self.now (n.number + 1)) }
