@@ -191,7 +191,7 @@ def write_messages(load, node, path):
 
 
 def play(program, load, files):
-    """Plays the files at their nodes. Returns how many messages were said, how many requests were refused, and how many seconds it took."""
+    """Plays the files at their nodes. Returns how many requests were sent, how many were refused, and how many seconds it took."""
     words = [word for node, path in enumerate(files) for word in (str(PORT + 64 + node), path)]
     done = subprocess.run([program, "pace", f"{load.seconds:.3f}", str(load.together), *words], capture_output=True, text=True, timeout=load.seconds + 120, check=False)
     if done.returncode:
