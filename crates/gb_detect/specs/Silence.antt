@@ -25,7 +25,7 @@ since_heard b calls = take_while (λ call. not (is_heard b call)) calls
 abbrev pub is_silent : ℕ → ℕ → List Call → Bool
 is_silent silence b calls = nat_le silence (count_by is_tick (since_heard b calls))
 
--- whether that was so at some moment so far; then the node is noticed
+-- whether the node was silent in this sense at some moment so far; then it is noticed
 abbrev pub is_noticed : ℕ → ℕ → List Call → Bool
 is_noticed silence b [] = is_silent silence b []
 is_noticed silence b (call ∷ calls) = is_silent silence b (call ∷ calls) || is_noticed silence b calls

@@ -21,7 +21,7 @@ IsClusterFault file name node NoPlace = IsSome (option_and_then (at node) (clust
     × ((host : List ℕ) (port : ℕ) → ¬ (IsEntry (option_and_then (at node) (cluster_nodes name file)) host port))
 IsClusterFault file name node _ = ⊥
 
--- the reason why it does not name the place of a node of a tenant's cluster
+-- the reason why a directory does not name the place of a node of a tenant's cluster
 abbrev pub IsFault : Data → ℕ → ℕ → DirectoryFault → Type 0
 IsFault file tenant node NoTenants = table_at (codes "tenant") file ≡ None
 IsFault file tenant node NoTenant = cluster_name tenant file ≡ None

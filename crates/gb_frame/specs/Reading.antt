@@ -45,7 +45,7 @@ version_read bytes = unwrap_or (version_named (version_in bytes)) One
 abbrev pub parsed : List ℕ → Option (List Item × List ℕ)
 parsed bytes = items_at (version_read bytes) (limits_of (version_read bytes)).payload (count_in bytes) (items_in bytes)
 
--- the tests of the header: magic, nodes, acknowledgement, frame and count
+-- whether the first two bytes are `GB`; the next definitions are the other tests of the header
 abbrev pub is_magic : List ℕ → Bool
 is_magic bytes = slice_index bytes 0 == 71 && slice_index bytes 1 == 66
 

@@ -47,7 +47,7 @@ module _ {F : Type 0} where
   abbrev pub lowest_covered : SendWindow F → ℕ → ℕ → Option (ℕ × F)
   lowest_covered w base mask = find (λ u. covers base mask u.0) w.undone
 
-  -- the window in which that frame is done
+  -- the window after the lowest undone frame that the acknowledgement covers is done
   abbrev pub acknowledged : SendWindow F → ℕ → ℕ → SendWindow F
   acknowledged w base mask = record w { undone = without_first (λ u. covers base mask u.0) w.undone }
 

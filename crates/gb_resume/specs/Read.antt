@@ -62,7 +62,7 @@ pub record IsBegunPart (w : Wanted) (old new : BegunValue) (before : List TapeEn
   pub lines : text ≡ lines_so_far head entries r.is_whole
   pub at : IsAt old new (before ++ entries) r
 
--- one of the two
+-- a part was begun, and none of its lines was read, or its first line and perhaps some more
 abbrev pub HasRead : Wanted → BegunValue → BegunValue → List TapeEntry → Reading → List ℕ → Type 0
 HasRead w old new before r text = IsUnread old new before r text ⊎ IsBegunPart w old new before r text
 
