@@ -40,7 +40,7 @@ contains_get [] k x l e = absurd (omega (arith, l))
 contains_get (y ∷ xs) zero x l e = ap Some e
 contains_get (y ∷ xs) (suc k) x l e = contains_get xs k x (omega (arith, l)) e
 
--- What held of a run holds of a longer run.
+-- Properties of a run that hold of each longer run.
 
 pub frames_more : (key : List ℕ) (b k : ℕ) (items : List Item) (a : NodeId) (d : NodeStep) (run : List NodeStep) → slice_get (frames_to key b (past_at a run)) k ≡ Some items → slice_get (frames_to key b (past_at a (d ∷ run))) k ≡ Some items
 unfolding frames_to

@@ -18,7 +18,7 @@ use Rattle.gb_cluster.specs.Links.{IsHonest, PacketsAreHonest, first_taken, IsWh
 use Rattle.gb_cluster.proofs.NodesLemmas.{stays, past_same, past_other, have_pasts}
 use Rattle.gb_cluster.proofs.HonestLemmas.{contains_get, frames_more, taken_more}
 
--- What a node takes.
+-- The packets that a node takes.
 
 pub record Takes (v : NodeValue) (bytes : List ℕ) (good : Good) : Type 0 where
   pub content : Content

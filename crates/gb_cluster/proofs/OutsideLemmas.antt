@@ -104,7 +104,7 @@ still_recent w fs more done after next undone still was (inr (one, room)) =
       ];
     }
 
--- so they are at every node
+-- the undone frames of every node are among its last 64
 recent : SendersRun → PastsSay → (plan : NodePlan) (past : List Happened) (v : NodeValue) → NodeComesTo plan past v → (b : NodeId) → AreRecent (λ n. is_acked plan.cluster_key b.number n past) (frames_to plan.cluster_key b.number past)
 unfolding NodeComesTo frames_to is_acked
 recent sends pasts plan [] v comes b = record { last = omega arith; near = λ n from to new. absurd (omega (arith, from, to)) }

@@ -1,4 +1,4 @@
--- What a fault means for a text.
+-- The meaning of each fault of a text.
 use Rattle.std.specs.Prelude.{◌≡◌, ◌≢◌, ◌≤◌, ◌<◌, ◌⊎◌, ℕ, List, false, Some, None, IsSome, length, codes, pos}
 use Rattle.toml.specs.Data.{Data, Items, Members, no_items, integer, array, table, get_item, get_member, as_array, as_table}
 use Rattle.toml.specs.Parse.{parse_document}

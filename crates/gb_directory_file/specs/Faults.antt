@@ -1,4 +1,4 @@
--- What a fault means for a text and for a directory.
+-- The meaning of each fault of a text and of a directory.
 use Rattle.std.specs.Prelude.{◌≡◌, ◌≤◌, ◌<◌, ℕ, List, None, Some, IsSome, length, codes, option_and_then}
 use Rattle.toml.specs.Data.{Data, get, at, as_array}
 use Rattle.toml.specs.Parse.{parse_document}

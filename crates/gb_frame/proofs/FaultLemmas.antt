@@ -115,7 +115,7 @@ below_eleven Tag = (omega arith, omega arith)
 
 -- ---- each test is true if and only if its fault holds
 
--- what holds of bytes without a fault
+-- the properties of bytes without a fault
 pub record IsGood (key bytes : List ℕ) : Type 0 where
   pub long : SHORTEST ≤ length bytes
   pub magic : take 2 bytes ≡ codes "GB"

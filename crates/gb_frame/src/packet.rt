@@ -25,7 +25,7 @@ pub struct Head {
     pub frame: u64,
 }
 
-/// What one node sends another at once: the fields of a `Head`, and the frame's items.
+/// A packet, which one node sends another at once: the fields of a `Head`, and the frame's items.
 #[derive(Drop)]
 pub struct Packet {
     pub version: Version,

@@ -331,7 +331,7 @@ module _ {F : Type 0} where
           is_pushed l u.0 (undone_above 1 l.sender.undone u.0 kept.window.ascending (is_held u e))
           (undone_recent l.sender.next l.sender.undone u.0 kept.window.recent (is_held u e)).0
 
-      -- what holds of the number returned now, and of each that was done before, holds of each that is done now
+      -- a property of the number returned now, and of each that was done before, is one of each that is done now
       each : (P : ℕ → Type 0) (u : ℕ × F) (n : ℕ) → P u.0 → (is_number n l.done ≡ true → P n) → (nat_eq u.0 n || is_number n l.done) ≡ true → P n
       each P u n here before is =
           elim (nat_eq u.0 n) as (λ b. nat_eq u.0 n ≡ b → (b || is_number n l.done) ≡ true → P n) [

@@ -32,7 +32,7 @@ mask_of s = word_of s (base_of s) 64
 abbrev pub is_awaited : Received → ℕ → Bool
 is_awaited s n = nat_le (base_of s) n && nat_lt n (base_of s + 64) && nat_le n LAST_FRAME
 
--- what is returned for a frame that arrives with number n
+-- the result of a frame that arrives with number n
 abbrev pub admission : Received → ℕ → Admission
 admission s n = if set.contains s n then Seen else if is_awaited s n then First else Outside
 

@@ -344,8 +344,8 @@ fn parted<N: Net>(rt: &N, alloc: Global, base: u16, is_watched: bool) -> Option<
     Some(port)
 }
 
-// What a port returns of one datagram of node 1 that came last, and of 20 datagrams of a stranger before it: the node's first, and then all
-// of the stranger's, because no source is watched.
+// The packets that a port returns of one datagram of node 1 that came last, and of 20 datagrams of a stranger before it: the node's first,
+// and then all of the stranger's, because no source is watched.
 const OF_STRANGERS: &[u8] = b"1jjjjjjjjjjjjjjjjjjjj..";
 
 #[test]

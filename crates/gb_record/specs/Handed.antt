@@ -1,4 +1,4 @@
--- What a port does that passes on packets only once they are recorded.
+-- The calls of a port that passes on packets only once they are recorded.
 use Rattle.std.specs.Prelude.{ℕ, ◌≡◌, ◌≢◌, ◌⊎◌, Bool, true, false, List, Option, None, Result, Ok, Err, MatchResult}
 use Rattle.std.specs.declared.{vec.Vec.Vec, alloc.Global.Global}
 use mathlib.Core.List.{IsPrefix}

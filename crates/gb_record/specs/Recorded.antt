@@ -1,4 +1,4 @@
--- What a record has of a node, and which packets its entries sent.
+-- The lines that a record has of a node, and the packets that its entries sent.
 use Rattle.std.specs.Prelude.{ℕ, ◌≡◌, Bool, true, false, List, [], ◌++◌, Option, bytes_eq, if◌then◌else◌}
 use Rattle.std.specs.{Io.KnownBytes.Appends, List.list_any}
 use Rattle.gb_node.specs.declared.{answer.NodeAnswer.NodeAnswer, answer.NodeAnswer.TheVariants.Sent, answer.Sent.TheVariants.Packet as SentPacket, tape.TapeEntry.TapeEntry}

@@ -1,16 +1,16 @@
--- What the words of gb_sim's command line ask for, and the texts that answer them.
+-- The meaning of the words of gb_sim's command line, and the texts that answer them.
 use Rattle.std.specs.Prelude.{ℕ, Bool, ◌||◌, List, [], Option, None, Some, codes, if◌then◌else◌}
 use Rattle.std.specs.Str.{bytes_eq}
 use Rattle.gb_sim.specs.declared.words.Asked.{Asked}
 use Rattle.gb_sim.specs.declared.words.Asked.TheVariants.{Schedule, Help, Version, Refused}
 
--- what one word alone asks for
+-- the meaning of one word alone
 abbrev pub asked_alone : List ℕ → Asked
 asked_alone word =
     if bytes_eq word (codes "--help") || bytes_eq word (codes "-h") then Help
     else (if bytes_eq word (codes "-V") then Version else Refused)
 
--- what the word behind the program's name asks for, if it is the only one or not
+-- the meaning of the word behind the program's name, if it is the only one or not
 abbrev pub asked_by : Option (List ℕ) → Bool → Asked
 asked_by None is_alone = Schedule
 asked_by (Some word) is_alone = if is_alone then asked_alone word else Refused

@@ -1,4 +1,4 @@
-//! What the words of gb_sim's command line ask for, and how words are answered that ask for no schedule.
+//! The meaning of the words of gb_sim's command line, and the answers to words that ask for no schedule.
 ghost use Rattle.std.specs.Prelude.{◌≡◌, ◌≢◌, option_map, true};
 ghost use Rattle.std.specs.Io.KnownBytes.{Appends};
 ghost use Rattle.gb_sim.specs.Words.{asked_by, text_of};
@@ -8,7 +8,7 @@ use gb_version::VERSION;
 use std::alloc::Global;
 use std::io::Write;
 
-/// What the words of a command line ask for.
+/// The meaning of the words of a command line.
 #[derive(Clone, Copy, Debug, PartialEq, Eq)]
 pub enum Asked {
     /// There are no words: a schedule is run.

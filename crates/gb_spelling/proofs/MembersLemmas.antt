@@ -36,7 +36,7 @@ parts-joined n (m ∷ ns) h =
 abbrev pub onward : fin.FinSet nat_cmp → ℕ → List ℕ
 onward s low = passing (fin.contains s) low (NODES - low)
 
--- what holds after the first k parts were read as the set s
+-- the state after the first k parts were read as the set s
 pub record IsReadTo (parts : List (List ℕ)) (k : ℕ) (s : fin.FinSet nat_cmp) (lowest : ℕ) : Type 0 where
   pub low : lowest ≤ NODES
   pub under : (q : ℕ) → fin.contains s q ≡ true → q < lowest
@@ -75,7 +75,7 @@ rising-insert s n lt under =
     (λ q h. contains-insert-other s n q (λ e. absurd (omega arith)) ∙ not_member s n q under (omega arith))
     (λ q h. not_member s n q under h) 0 NODES (omega arith) lt
 
--- what the next part must be if the word spells t
+-- the next part, if the word spells t
 pub record IsNext (parts : List (List ℕ)) (k : ℕ) (low : ℕ) (part : List ℕ) (t : fin.FinSet nat_cmp) (n : ℕ) : Type 0 where
   pub least : low ≤ n
   pub node : n < NODES

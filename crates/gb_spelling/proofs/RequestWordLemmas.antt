@@ -7,7 +7,7 @@ use Rattle.gb_spelling.specs.RequestWords.{IsShort, IsLong, IsGroup, AreGroupNum
 use Rattle.gb_types.specs.declared.{kind.Kind.Kind, address.Addr.Addr, spec.Spec.Spec}
 use Rattle.gb_types.proofs.ReadLemmas.{Reads, found, only, reads_one}
 
--- what the readers of single words return
+-- the results of the readers of single words
 abbrev pub IsShortWord : List ℕ → ℕ → Type 0
 IsShortWord word n = IsShort n × (word ≡ decimal n)
 
