@@ -44,8 +44,8 @@ pub enum Step {
     Fetch(u32, u32, Result<usize, Refusal>),
     /// The number of messages that this member said.
     Said(usize),
-    /// The index of a message that this member said, from 0, and whether this node, the friend, the other and the stranger have
-    /// acknowledged it.
+    /// The index of a message that this member said, from 0, and whether this node, the friend, the other and the stranger are known to
+    /// have it.
     Acknowledged(usize, [bool; 4]),
 }
 
