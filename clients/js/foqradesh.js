@@ -815,7 +815,7 @@ class Numbers {
 const addressOf = (tenant, group) => `${checkNumber(tenant, U16, "a tenant")} ${groupWord(group)}`;
 
 /**
- * A client of one node. The connection is opened at the first request, and again after it ended: `fetch`, `wait`, `status`, `list` and a say with its number
+ * A client of one node. The connection is opened at the first request, and again after it ended: `fetch`, `wait`, `status`, `listGroups` and a say with its number
  * are then sent again, and all other requests throw ConnectionFailedError, with `isUnknown` true if they may have been done. Requests are sent ahead of the
  * replies if the replies are not awaited. Each refusal is thrown as the error of its name.
  */
