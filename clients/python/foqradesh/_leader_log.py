@@ -1,8 +1,8 @@
 """The log of a generation in which one member, the leader, says all messages, and which count.
 
-The generations of a room with a leader form one totally ordered log, a virtual log: if a leader
-crashed, each member that runs seals its generation, and the next leader's first message says where
-that one ends.
+The generations of a room with a leader form one totally ordered log. It is a virtual log, as in
+Balakrishnan et al., "Virtual Consensus in Delos" (OSDI 2020): if a leader crashed, each member that
+runs seals its generation, and the next leader's first message says where that one ends.
 
 **Spelling.** Byte 0 alone is a marker, as in each room. Byte 2 alone is a seal. Byte 3 is followed
 by a message that is said through the leader: the node of the member that says it, one byte; eight

@@ -1,4 +1,5 @@
--- When a node has been silent for too long, over the calls on a detector, the newest first (failure detection by timeout, with ticks for its timer).
+-- When a node has been silent for too long, over the calls on a detector, the newest first
+-- (failure detection by timeout, as in Cachin, Guerraoui, Rodrigues 2011, Algorithm 2.5, with ticks for its timer).
 use Rattle.std.specs.Prelude.{◌≡◌, ℕ, Bool, false, true, not, ◌||◌, nat_eq, nat_le, List, [], ◌∷◌, ◌++◌, count_by}
 use Rattle.std.specs.List.{take_while, list_any}
 

@@ -1,4 +1,4 @@
--- Acknowledgements by a base and a mask (selective acknowledgements).
+-- Acknowledgements by a base and a mask (selective acknowledgement, as in RFC 2018).
 use Rattle.std.specs.Prelude.{ℕ, ◌-◌, Bool, ◌||◌, nat_eq, nat_lt}
 use Rattle.std.specs.Int.{bit_at}
 

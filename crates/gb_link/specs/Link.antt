@@ -74,7 +74,7 @@ module _ {F : Type 0} where
   abbrev pub run : List (LinkEvent F) → Link F
   run events = run_from new_link events
 
-  -- the laws of a link, whatever happens on it
+  -- the laws of a link, whatever happens on it (no creation and no duplication are those of the perfect links of Cachin, Guerraoui and Rodrigues)
   pub record IsSound (l : Link F) : Type 0 where
     pub window : IsWindow l.sender
     -- each frame that was pushed was within the receiver's window when it arrived

@@ -31,7 +31,7 @@ pub struct PartHead {
     pub boot: [u8; 16],
     /// True if each entry was on the disk before anything that it led to left the node.
     pub syncs: bool,
-    /// HMAC-SHA-256 of the node's plan under the run's key, which is the same in each part of a record.
+    /// HMAC-SHA-256 (RFC 2104) of the node's plan under the run's key, which is the same in each part of a record.
     pub tag: [u8; 32],
 }
 

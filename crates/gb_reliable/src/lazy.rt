@@ -5,8 +5,8 @@ ghost use Rattle.gb_reliable.specs.LazyLemmas.{lazy_more, lazy_delivers_more, la
 use gb_layer::Rule;
 use gb_types::{MsgId, NodeId, NodeSet};
 
-/// The rule of lazy reliable broadcast. A message is broadcast if it is the node's own or its origin was noticed. It is delivered as soon
-/// as it is at the node.
+/// The rule of lazy reliable broadcast (Cachin, Guerraoui, Rodrigues 2011, Algorithm 3.2). A message is broadcast if it is the node's own
+/// or its origin was noticed. It is delivered as soon as it is at the node.
 #[derive(Clone, Copy, Drop)]
 pub struct Lazily;
 

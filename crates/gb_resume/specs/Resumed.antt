@@ -18,7 +18,7 @@ use Rattle.gb_resume.specs.declared.{all_parts.Resumed.Resumed, wanted.Wanted.Wa
 abbrev pub cluster_of : HostPlan → NodeId → RecordHead
 cluster_of plan b = record { node = b; nodes = plan.cluster.nodes; silence = plan.cluster.silence; places = plan.cluster.places; version = version_at plan.cluster.versions b.number; room = plan.cluster.room }
 
--- the tag of a record's parts: HMAC-SHA-256, under the cluster's key, of a record's first line without parts, and the administrator's token
+-- the tag of a record's parts: HMAC-SHA-256 (RFC 2104), under the cluster's key, of a record's first line without parts, and the administrator's token
 abbrev pub tag_of : HostPlan → NodeId → List ℕ
 tag_of plan b = hmac_of plan.cluster.cluster_key (head_line (cluster_of plan b) ++ token_of plan.cluster.admin_key Admin)
 

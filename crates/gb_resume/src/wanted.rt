@@ -37,7 +37,7 @@ pub fn cluster_head(plan: &HostPlan, node: NodeId) -> RecordHead
     }
 }
 
-/// Returns the tag of the parts of the record of a node of this plan: HMAC-SHA-256, under the cluster's key, of the first line that a
+/// Returns the tag of the parts of the record of a node of this plan: HMAC-SHA-256 (RFC 2104), under the cluster's key, of the first line that a
 /// record without parts has, with the administrator's token behind it. A cluster has another key in each run.
 pub fn part_tag(alloc: Global, plan: &HostPlan, node: NodeId) -> Result<[u8; 32], OutOfMemory>
     ensures { IfOk result (λ tag. tag ≡ tag_of plan.now node) }
