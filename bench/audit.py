@@ -1,6 +1,6 @@
-"""What an audit of large records takes. A server of three nodes records while its members say and fetch; then gb_audit goes through the three
-records, once as they are and once with --group. Words: gb_serve, gb_audit, the program that asks (bench/serve/play.rs), and how many entries of
-a log are fetched at each node. Printed are entries, seconds, entries a second, and the program's greatest memory."""
+"""Measures an audit of large records. A server of three nodes records while its members say and fetch; then gb_audit audits the three records, once
+as they are and once with --group. Words: gb_serve, gb_audit, the program that sends the requests (bench/serve/play.rs), and how many entries of a log
+are fetched at each node. Prints entries, seconds, entries a second, and the program's greatest memory."""
 import glob
 import os
 import resource
@@ -17,7 +17,7 @@ GROUPS = 64
 
 
 def ask(play, folder, node, name, messages, count):
-    """Sends messages to a node, 32 ahead of their replies. Returns a process that does."""
+    """Sends messages to a node, 32 ahead of their replies. Returns the process that does it."""
     path = os.path.join(folder, f"{name}-{node}")
     with open(path, "wb") as file:
         file.writelines(messages)
@@ -25,7 +25,7 @@ def ask(play, folder, node, name, messages, count):
 
 
 def load(play, folder, fetches):
-    """Each member says 1,024 messages in each group, and fetches."""
+    """Plays a load: each member says 1,024 messages in each group, and fetches."""
     says = [ask(play, folder, node, "says", [message("say", node, 1, group, PAYLOAD.hex()) for group in range(GROUPS)], GROUPS * 1024) for node in MEMBERS]
     for process in says:
         assert process.wait() == 0
@@ -50,7 +50,7 @@ def record(serve, play, folder, fetches):
 
 
 def audit(program, run, names, words):
-    """Prints what an audit with these words takes."""
+    """Prints the cost of an audit with these words."""
     text = f"{CLUSTER_KEY.hex()}\n{ADMIN_KEY.hex()}\n"
     begun = time.monotonic()
     process = subprocess.Popen([program, "--run", run, *words, *names], stdin=subprocess.PIPE, stdout=subprocess.PIPE, text=True)

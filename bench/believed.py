@@ -1,26 +1,26 @@
-"""Counts what a reader has to believe of public laws: the definitions that their statements reach, their lines and their files.
+"""Counts what a reader has to believe of public laws: the definitions that their statements reach, with their lines and files.
 
     python3 bench/believed.py [LAW[:CLAUSE] ..] [--list | --mark | --compare]
 
-A LAW is `crate::file::function`, a public function whose contract is the law. Without any, those of docs/THEOREM.md count (SENTENCE below). Of
-several laws the union counts. With `:CLAUSE` behind it only the `ensures` of that name counts, with every `requires`.
-The walk begins at each function's signature and at the words of these clauses. It goes over the definitions of crates/*/specs (abbrev, unfoldable,
-record, data, also inside a `module`) and over the structs, enums, constants and names of types of crates/*/src that these name.
-A definition counts with its signature and its equations, a type with its variants and fields, and where contracts see it by a model, with the lines
-`ghost Value` and `ghost view`, which say what they see of it, and with what these name. Every line counts that is no comment, no attribute and not blank, also one that holds a closing bracket
-alone. Definitions of the library do not count; how many words of it are used is printed. With --list each definition is printed under its file,
-in the order in which the walk meets the files. The last three lines are the words of the library, how much of the sum are types, and the
-sum, once without lines that hold a closing bracket alone and then whole.
-With --mark the files of the definitions are marked in .gitattributes, so that `git ls-files ':(attr:believed)'` lists them, and a
-reviewer sees which changes touch them. With --compare nothing is printed unless these marks are others, or docs/THEOREM.md lacks one of the last four
-lines, the sum of another law that it names by this script's command, or a file with its lines and definitions; then the status is 1."""
+A LAW is `crate::file::function`, a public function whose contract is the law. If none is given, those of docs/THEOREM.md count (SENTENCE below). For
+several laws the union counts. With `:CLAUSE` behind it only the `ensures` of that name counts, with every `requires`. The walk begins at each
+function's signature and at the words of these clauses. It goes over the definitions of crates/*/specs (abbrev, unfoldable, record, data, also inside
+a `module`) and over the structs, enums, constants and names of types of crates/*/src that these name. A definition counts with its signature and its
+equations, a type with its variants and fields; if contracts see a type by a model, it counts with the lines `ghost Value` and `ghost view`, which
+define the model, and with what these name. Every line counts that is no comment, no attribute and not blank, also one that holds a closing bracket
+alone. Definitions of the library do not count; the number of its words that are used is printed. With --list each definition is printed under its
+file, in the order in which the walk meets the files. The last three lines are the words of the library, how much of the sum are types, and the sum,
+once without lines that hold a closing bracket alone and then whole.
+With --mark the files of the definitions are marked in .gitattributes, so that `git ls-files ':(attr:believed)'` lists them, and a reviewer sees which
+changes touch them. With --compare nothing is printed unless these marks are others, or docs/THEOREM.md lacks one of the last four lines, the sum of
+another law that it names by this script's command, or a file with its lines and definitions; then the status is 1."""
 import os
 import re
 import sys
 
 ROOT = os.path.dirname(os.path.dirname(os.path.abspath(__file__)))
 CRATES = f"{ROOT}/crates"
-# The laws that carry the sentence of docs/THEOREM.md.
+# The laws that together are the sentence of docs/THEOREM.md.
 SENTENCE = ["gb_trace::run::run:seen", "gb_alone::laws::integrity", "gb_alone::laws::order"]
 MARKS = f"{ROOT}/.gitattributes"
 THEOREM = f"{ROOT}/docs/THEOREM.md"
@@ -41,24 +41,24 @@ class Definition:
         self.lines.append(text)
 
     def text(self):
-        """The lines that a reader reads."""
+        """Returns the lines that a reader reads."""
         return self.lines + self.model
 
     def types(self):
-        """The words of a type that may name other types: not the names of its own variants."""
+        """Returns the words of a type that may name other types, without the names of its own variants."""
         parts = [re.sub(r"^    [A-Z]\w*", "", line) for line in self.text()]
         return re.findall(r"\b[A-Z]\w+\b", " ".join(parts))
 
 
 class Source:
-    """A file of definitions: what its imports name, and what it defines."""
+    """A file of definitions: the names that it imports, and those that it defines."""
 
     def __init__(self, file, uses, defined):
         self.file, self.uses, self.defined = file, uses, defined
 
 
 def read_use(text, uses):
-    """Notes what a line `use Rattle.crate.specs.File.{a, b as c, Inner.d}` brings in: its names with the path that each stands for."""
+    """Notes the names that a line `use Rattle.crate.specs.File.{a, b as c, Inner.d}` imports, each with its path."""
     found = re.match(r"(?:unfoldable )?(?:pub )?(?:ghost )?use Rattle\.(.*?)(?:\.\{(.*)\})?(?: as (\S+?))?;?$", text.strip())
     if not found:
         return
@@ -104,7 +104,7 @@ def read_specs(file):
 
 
 def read_program_use(text, uses):
-    """Notes what a line `use gb_x::path::{A, B as C};` of a program brings in: each name with its crate and its own name."""
+    """Notes the names that a line `use gb_x::path::{A, B as C};` of a program imports, each with its crate and its own name."""
     found = re.match(r"(?:pub )?use (\w+)::(?:.*::)?(?:\{(.*)\}|(\w+(?: as \w+)?));$", text)
     if not found:
         return
@@ -114,7 +114,7 @@ def read_program_use(text, uses):
 
 
 def read_declared(crate):
-    """The structs, enums, constants and names of types of a crate, by name, with their lines; and by file what its imports name."""
+    """Returns the structs, enums, constants and names of types of a crate, by name, with their lines; and by file the names that it imports."""
     found, uses = {}, {}
     for folder, _, files in os.walk(f"{CRATES}/{crate}/src"):
         for each in sorted(files):
@@ -142,7 +142,7 @@ def read_declared(crate):
                             current.add(text)
                         depth += text.count("{") + text.count("(") - text.count("}") - text.count(")")
                         if depth <= 0 and re.search(r"[;})]\s*$", text):
-                            # a type of tests never stands for one of the program
+                            # a type of tests never replaces one of the program
                             found.setdefault(current.name, current)
                             mine[current.name] = current
                             current = None
@@ -177,7 +177,7 @@ class Walk:
             self.words(Source(found.file, found.views, {}), Definition(found.file, found.name, found.model))
 
     def by_type(self, file, word):
-        """A type that a file of a program names: one that it brings in, or one of its own crate."""
+        """Returns a type that a file of a program names: one that it imports, or one of its own crate."""
         crate = file[len(CRATES) + 1:].split("/")[0]
         mine = self.types(crate)
         place, name = self.declared[crate][1].get(file, {}).get(word, (crate, word))
@@ -261,7 +261,7 @@ def read(path):
 
 
 def row_of(file, mine):
-    """Returns how docs/THEOREM.md lists a file and its definitions."""
+    """Returns the row in which docs/THEOREM.md lists a file and its definitions."""
     crate, path = file[len(CRATES) + 1:].split("/", 1)
     return f"{crate}, {path.removeprefix('src/')} ({sum(len(found.text()) for found in mine)}): {', '.join(found.name for found in mine)}"
 
@@ -303,7 +303,7 @@ def figures(walk, files):
 
 
 def of_other_laws():
-    """Returns what docs/THEOREM.md has to say behind each command that counts other laws."""
+    """Returns the text that docs/THEOREM.md must have behind each command that counts other laws."""
     page = " ".join(read(THEOREM).split())
     commands = re.findall(r"`python3 bench/believed\.py ((?:gb_\S+ ?)+)`", page)
     return [f"`python3 bench/believed.py {laws}`: {sum_of(*walked(laws.split()))}" for laws in commands]

@@ -1,13 +1,13 @@
 #!/usr/bin/env python3
 """Two built gb_sim programs side by side: beside.py OLD NEW [LINES], with 100,000 lines if not given otherwise.
 
-For clusters of 2, 4, 8 and 16 nodes that are all members it prints what a group and a node take of memory, and what the schedule of
-schedule.py takes of processor time and, at most at once, of memory. Each is measured three times, in turns, and the medians are
-compared: a ratio is the new program's median by the old one's. Where the new program starts clusters of nodes that send packets of
-version 2 (`cluster2`), that is measured beside them, with the same payloads, and compared with the old program's version 1.
+For clusters of 2, 4, 8 and 16 nodes that are all members it prints the memory of a group and of a node, and the processor time and the
+greatest memory for the schedule of schedule.py. Each is measured three times, in turns, and the medians are compared: a ratio is the new
+program's median divided by the old one's. If the new program starts clusters of nodes that send packets of version 2 (`cluster2`), that is
+measured too, with the same payloads, and compared with the old program's version 1.
 
-The memory of a node is what a cluster of n takes beyond one of a single node, divided by n - 1. It comes in pages, so a figure of two
-nodes is off by up to 4,096 bytes, and one of 16 nodes by up to 273.
+The memory of a node is the memory of a cluster of n beyond that of a single node, divided by n - 1. Memory is counted in pages, so a figure
+of two nodes is off by at most 4,096 bytes, and one of 16 nodes by at most 273.
 """
 import os
 import statistics
@@ -47,7 +47,7 @@ def seconds(program, members, version, paths):
 
 
 def most_bytes(program, members, version, paths):
-    """Asked when all lines are answered, before the program ends."""
+    """Returns the greatest memory, read when all lines are answered and before the program ends."""
     with open(paths[members, version]) as file:
         lines = file.read()
     process = memory.begun(program)
@@ -75,7 +75,7 @@ MEASURES = (
 
 
 def written(folder, count, versions):
-    """The schedules, by members and version."""
+    """Writes the schedules, and returns them by members and version."""
     paths = {}
     for members in MEMBERS:
         for version in versions:

@@ -1,8 +1,8 @@
 #!/usr/bin/env python3
-"""Says how many machines a service needs, by arithmetic from measured figures: capacity.py --tenants N --groups G --messages M [OPTIONS]
+"""Computes how many machines a service needs, from measured figures: capacity.py --tenants N --groups G --messages M [OPTIONS]
 
-Each of N tenants has G groups, in which its members say M messages a second in all. A tenant lives in one cluster; more tenants go to more
-clusters. `--figures` prints the measured figures, with when, of which commit and by which command. All else that is printed is computed.
+Each of N tenants has G groups, in which its members say M messages a second in all. A tenant lives in one cluster; more tenants are in more clusters.
+`--figures` prints the measured figures, with their date, commit and command. All other output is computed.
 Status 0: it was computed; 1: one tenant is more than a cluster or a machine holds; 2: wrong words.
 """
 import argparse
@@ -14,12 +14,13 @@ from dataclasses import dataclass
 KINDS = ("beb", "lazy", "eager", "allack", "majority", "fbeb", "flazy", "feager", "fallack", "fmajority")
 PLACES = 1024  # groups at a node, by the GROUPS of its tenants
 MOST_GROUPS, MOST_MESSAGES, MOST_BYTES, MOST_NODES = 256, 1024, 65536, 32
-MANY = 32  # how many requests came together where a figure is of many
+MANY = 32  # the number of requests that came together, for a figure of many
 
 
 @dataclass(frozen=True)
 class Figure:
-    """What was measured: of time microseconds of processor time of all nodes, of memory bytes. It is measured by `bench/scale.sh figures 3 PART`."""
+    """A measured figure: a time is in microseconds of processor time of all nodes, memory in bytes. It is measured by `bench/scale.sh figures 3
+    PART`."""
 
     value: float
     date: str
@@ -29,7 +30,7 @@ class Figure:
 
 
 def read_figures():
-    """The figures of bench/figures.txt by name: a line for each, its fields parted by tabs, in the order of Figure behind the name."""
+    """Returns the figures of bench/figures.txt by name: a line for each, its fields separated by tabs, in the order of Figure behind the name."""
     figures = {}
     with open(os.path.join(os.path.dirname(os.path.abspath(__file__)), "figures.txt"), encoding="ascii") as lines:
         for line in lines:
@@ -53,76 +54,78 @@ def at(name):
 
 
 def is_relayed(kind):
-    """Whether each member passes each message on, whatever happens."""
+    """Returns whether each member passes each message on in any case."""
     return kind.removeprefix("f") in ("eager", "allack", "majority")
 
 
 def transmissions(kind, members):
-    """How often an item of one message travels, where nothing is lost and nobody is noticed."""
+    """Returns how often an item of one message is sent, if nothing is lost and no node is noticed."""
     return members * (members - 1) if is_relayed(kind) else members - 1
 
 
 def packets(kind, members, together=1):
-    """How many packets one message makes in all: frames, and acknowledgements that go alone."""
+    """Returns how many packets one message causes in all: frames, and acknowledgements that are sent alone."""
     acknowledgements = (members - 1) ** 2 if is_relayed(kind) else members - 1
     return (transmissions(kind, members) + acknowledgements) / together
 
 
 def between(alone, many, together):
-    """A cost between that of what comes by itself and that of one of many: what is paid once for all that come together is shared."""
+    """Returns a cost between that of a request by itself and that of one of many, which share what is paid once for all that come together."""
     once = (alone - many) / (1 - 1 / MANY)
     return alone - once + once / together
 
 
 def say_cost(payload, together=1):
-    """Microseconds of a say at its node."""
+    """Returns the microseconds of a say at its node."""
     return between(at("say"), at("say.many"), together) + (at("say.1024") - at("say")) * (payload - 16) / 1008
 
 
 def fetch_cost(payload, together=1):
-    """Microseconds of a fetch of one entry."""
+    """Returns the microseconds of a fetch of one entry."""
     alone, many, long = (at("say_and_fetch" + it) - at("say" + it) for it in ("", ".many", ".1024"))
     return between(alone, many, together) + (long - alone) * (payload - 16) / 1008
 
 
 def byte_cost():
-    """Microseconds of one payload byte that travels once: it is copied, and hashed where it is sent and where it comes."""
+    """Returns the microseconds of one payload byte that is sent once: it is copied, and hashed at the sender and at the receiver."""
     said = at("say.1024") - at("say")
     grown = sum(at(f"message.{kind}.1024") - at(f"message.{kind}") - said for kind in ("beb", "allack"))
     return grown / 1008 / sum(transmissions(kind, 3) for kind in ("beb", "allack"))
 
 
 def item_cost(kind, payload, together=1):
-    """Microseconds of an item that travels once: with its share of its frame, of the frame's acknowledgement, and of both nodes' calls of the system."""
+    """Returns the microseconds of an item that is sent once, with its share of its frame, of the frame's acknowledgement, and of both nodes' system
+    calls."""
     alone, many = (at(f"message.{kind}{it}") - at("say" + it) for it in ("", ".many"))
     return between(alone, many, together) / transmissions(kind, 3) + byte_cost() * (payload - 16)
 
 
 def message_cost(kind, members, payload, fetches, together=1):
-    """Microseconds of processor time of all nodes for one message."""
+    """Returns the microseconds of processor time of all nodes for one message."""
     return say_cost(payload, together) + transmissions(kind, members) * item_cost(kind, payload, together) + fetches * fetch_cost(payload, together)
 
 
 def group_memory(kind, members, messages, size):
-    """Bytes of a group at a node, all taken when it is made (docs/COSTS.md): about a kilobyte more than what its limits say."""
+    """Returns the bytes of a group at a node, all taken when it is made (docs/COSTS.md): about a kilobyte more than its limits amount to."""
     ordered = kind in ("fbeb", "flazy", "feager", "fallack", "fmajority")
     relays = kind not in ("beb", "fbeb")
     return 1024 + members * size + members * messages * (18 + 8 * relays + ordered + 2) + 4 * messages
 
 
 def idle_cost(nodes):
-    """Microseconds of processor time that a node of so many takes in a second in which nobody asks: its ticks, and what it sends each other node."""
+    """Returns the microseconds of processor time of one of this number of nodes in a second without requests: its ticks, and its packets to each
+    other node."""
     return at("idle.1") + (at("idle.16") - at("idle.1")) / 15 * (nodes - 1)
 
 
 def idle_packets(nodes):
-    """Packets that a node of so many sends in a second in which nobody asks."""
+    """Returns the packets that one of this number of nodes sends in a second without requests."""
     return at("idle.16.packets") / 15 * (nodes - 1)
 
 
 @dataclass(frozen=True)
 class Need:
-    """What one node needs."""
+    """The needs of one node."""
 
     groups: float
     processor: float  # cores
@@ -131,7 +134,7 @@ class Need:
 
 
 def counted(cost, *words):
-    """A cost, or none where it stands on a figure that is not measured yet."""
+    """Returns a cost, or None if it depends on a figure that is not measured yet."""
     try:
         return cost(*words)
     except Missing:
@@ -139,10 +142,10 @@ def counted(cost, *words):
 
 
 def need(words, tenants):
-    """What each node of a cluster needs that has these tenants, whose groups are spread evenly over its nodes."""
+    """Returns the needs of each node of a cluster that has these tenants, whose groups are spread evenly over its nodes."""
     part = words.members / words.nodes
     groups = tenants * words.groups * part
-    said = tenants * words.messages / words.nodes  # what a node's share of the messages is
+    said = tenants * words.messages / words.nodes  # a node's share of the messages
     cost = counted(message_cost, words.kind, words.members, words.payload, words.fetches, words.together)
     memory = counted(at, "server.1") + groups * group_memory(words.kind, words.members, words.limit, words.bytes) + 10 * words.members * words.limit
     sent = said * packets(words.kind, words.members, words.together) + counted(idle_packets, words.nodes)
@@ -150,7 +153,7 @@ def need(words, tenants):
 
 
 def limits(words):
-    """What a node may need at most, by name: places, its one thread, and what one machine has."""
+    """Returns the greatest needs that a node may have, by name: places, its one thread, and the capacity of one machine."""
     return (
         ("places", lambda it: it.groups, PLACES),
         ("processor", lambda it: it.processor, words.share),
@@ -160,7 +163,7 @@ def limits(words):
 
 
 def tenants_of_a_cluster(words):
-    """How many tenants a cluster holds, and what binds; none where one is too much."""
+    """Returns how many tenants a cluster holds, and which limit binds; None if one tenant is too much."""
     for count in range(1, words.tenants + 2):
         asked = need(words, count)
         broken = [name for name, of, most in limits(words) if of(asked) > most * (1 + 1e-9)]
@@ -172,7 +175,7 @@ def tenants_of_a_cluster(words):
 
 
 def nodes_of_a_machine(words, asked):
-    """How many nodes a machine holds, and what binds."""
+    """Returns how many nodes a machine holds, and which limit binds."""
     most = [("memory", words.memory * 2**30 / asked.memory)]
     if asked.processor:
         most.append(("processor", words.cores * words.share / asked.processor))
@@ -237,14 +240,14 @@ def spelt(seconds):
 
 
 def say_life(words):
-    """What a group lives: its messages are for life."""
+    """Prints when a group is full: the limit on its messages is for its whole life."""
     each = min(words.limit, words.bytes // words.payload if words.payload else words.limit)
     if words.messages:
         print(f"a group is full after {spelt(each * words.members * words.groups / words.messages)}, when each of its members has said {each} messages; by then its room goes on")
 
 
 def say_plan(words):
-    """Prints the plan. The exit status."""
+    """Prints the plan. Returns the exit status."""
     cost = counted(message_cost, words.kind, words.members, words.payload, words.fetches, words.together)
     said = f"{cost:.1f} microseconds of processor time in the cluster" if cost else "processor time not counted, since it is not measured yet (bench/scale.sh figures)"
     print(f"a message: {said}, {packets(words.kind, words.members, words.together):.1f} packets")

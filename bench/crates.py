@@ -1,7 +1,7 @@
 #!/usr/bin/env python3
-"""Compares crates/README.md, the table of crates, with crates.txt and with the first sentence of each crate's own page (src/lib.rt, or
-src/main.rt of a program). The headings are the comments of crates.txt, where a crate has its line behind those on which it stands. With --write it writes the page. Also checks that each type
-that a crate's root exports is used from there. Status 1: something differs, and a line says what."""
+"""Compares crates/README.md, the table of crates, with crates.txt and with the first sentence of each crate's own page (src/lib.rt, or src/main.rt of
+a program). The headings are the comments of crates.txt, in which a crate is listed behind those that it uses. With --write it writes the page. Also
+checks that each type that a crate's root exports is used from there. Status 1: something differs, and a line says what."""
 import os
 import re
 import sys
@@ -19,7 +19,7 @@ first. docs/ARCHITECTURE.md has a picture of the floors, and says where to chang
 
 
 def floors():
-    """Returns the headings of crates.txt, each with the lines of its crates: a name, and our crates that it stands on."""
+    """Returns the headings of crates.txt, each with the lines of its crates: a name, and our crates that it uses."""
     found = []
     with open(os.path.join(TOP, "crates.txt")) as file:
         for line in file:
@@ -70,7 +70,7 @@ def page():
 
 
 def doors(crates):
-    """Yields each type that is used by its module although its crate's root has it."""
+    """Yields each type that is used by its module although its crate's root exports it."""
     roots = {}
     for crate in crates:
         path = os.path.join(TOP, "crates", crate, "src", "lib.rt")

@@ -1,19 +1,20 @@
 #!/usr/bin/env python3
-"""Random runs of clusters, and the laws of delivery in each of them: delivery.py [RUNS [SEED]]
+"""Tests the laws of delivery in random runs of clusters: delivery.py [RUNS [SEED]]
 
 There are 200 runs from seed 1 on, if not given otherwise. bench/rooms_reference.py answers each event. A run has 2 to 5 nodes and some tenants whose
-groups send to each other; packets are lost, repeated and late; nodes stop. Then come round trips of the links between the running members of one group,
-while other tenants flood, the group itself goes on talking, and packets of all sorts still come. In each run is seen that
+groups send to each other; packets are lost, repeated and late; nodes stop. Then come round trips of the links between the running members of one
+group, while other tenants flood, the group itself goes on talking, and packets of all sorts still come. Each run is tested for these laws:
 
-- as long as something of a group waits at a node for another node, the packets between them hold at most one item more of each other group;
+- as long as an item of a group waits at a node for another node, the packets between them hold at most one more item of each other group;
 - they hold fewer items in all than groups that have items in them, times one more than the items of this group;
 - so an item waits for no more packets, its own with them, than there are groups with items in the packets before its own, its group with them, times one
   more than the items of its group in those packets;
 - a round trip of a link is a round, and enough rounds are a phase, as docs/THEOREM.md, "Delivery", counts them;
-- after one phase, or two with all-ack and majority-ack, the logs of the running members hold what had been accepted at them, and, but for best effort,
-  what had been in their logs; with all-ack and majority-ack also what had been in the logs of members that stopped.
+- after one phase, or two with all-ack and majority-ack, the logs of the running members hold the messages that had been accepted at them, and, except
+  for best effort, those that had been in their logs; with all-ack and majority-ack also those that had been in the logs of members that stopped.
 
-Where SIM names a built gb_sim, it answers each run too, and its answers are compared. Printed is how often each thing was seen; the status is 1 where one was not so.
+If SIM names a built gb_sim, it answers each run too, and its answers are compared. Prints how often each law was tested; the status is 1 if one did
+not hold.
 """
 import argparse
 import collections
@@ -25,7 +26,7 @@ import sys
 from rooms_reference import KINDS, Address, Reference
 
 NODES, SILENCE = 5, 4
-SIZES = [1, 4, 16, 64]  # frames that are open at most after a round trip
+SIZES = [1, 4, 16, 64]  # the greatest numbers of frames that are open after a round trip
 LENGTHS = [0, 1, 20, 1_000]  # bytes of messages
 
 
@@ -44,7 +45,7 @@ def ceiling(number, divisor):
 
 
 class Waiting:
-    """What was packed at a node for another since something of a group began to wait there."""
+    """The packets that a node has packed for another since an item of a group began to wait there."""
 
     def __init__(self):
         self.items = collections.Counter()  # by address
@@ -52,7 +53,7 @@ class Waiting:
 
 
 class Run:
-    """A run of a cluster, and what is seen in it."""
+    """A run of a cluster, and the results of its tests."""
 
     def __init__(self, seed, seen):
         self.draw = random.Random(seed)
@@ -79,7 +80,7 @@ class Run:
             raise Unlike(*what)
 
     def do(self, line):
-        """The answer to an event."""
+        """Returns the answer to an event."""
         answer = self.reference.answer(line)
         self.lines.append(line)
         self.answers.append(answer)
@@ -98,7 +99,7 @@ class Run:
         self.watch(node)
 
     def pack(self, node, other):
-        """Packs once, and compares the shares of all groups of which something waits all through it. Says whether there was a packet."""
+        """Packs once, and compares the shares of all groups that had an item waiting all the time. Returns whether there was a packet."""
         answer = self.do(f'pack {node} {other}')
         if not answer.startswith('packet'):
             return False
@@ -118,7 +119,7 @@ class Run:
         return True
 
     def compare(self, node, other, group, waited):
-        """Something of the group waited from then on until now: the shares of the others, and of all."""
+        """Compares the shares of the others, and of all, for a group that had an item waiting from then until now."""
         own = waited.items[group]
         others = [count for address, count in waited.items.items() if address != group]
         for count in others:
@@ -128,7 +129,7 @@ class Run:
         self.hold(waited.frames <= sum(waited.items.values()) < (len(others) + 1) * (own + 1), 'waiting', node, other, group, waited.items)
 
     def count_packets(self, node, other, group):
-        """For how many packets the first item that waited in a group did so, the one that it is in among them."""
+        """Counts for how many packets the first item that waited in a group did so, with the packet that it is in."""
         frames = self.frames[node, other]
         begin = self.moments[node, other, group].popleft()
         before = [item.address for items in frames[begin:-1] for item in items]
@@ -139,7 +140,7 @@ class Run:
         self.seen['items that waited for more, and as long as they may'] += 1 < waited == most
 
     def watch(self, node):
-        """Notes for which groups something waits at a node, and for which it began to."""
+        """Notes for which groups an item waits at a node, and for which it began to wait."""
         waits = {(node, other, group.address): len(queue) for group in self.nodes[node].places() if group for other, queue in group.waiting.items() if queue}
         for key in [key for key in self.waiting if key[0] == node and key not in waits]:
             del self.waiting[key]
@@ -154,13 +155,13 @@ class Run:
         return answer
 
     def send(self, line):
-        """A packet that is sent and comes."""
+        """Sends a packet that arrives."""
         answer = self.do(line)
         if answer.startswith('packet'):
             self.arrive(int(answer.split()[1]))
 
     def noise(self, says, talks):
-        """Some events of any sort."""
+        """Makes some events of any sort."""
         for _ in range(self.draw.randint(0, 4)):
             node, other = self.draw.choice(self.running()), self.draw.choice(self.nodes).me
             what = self.draw.random()
@@ -181,7 +182,7 @@ class Run:
     # A run
 
     def start(self):
-        """The tenants and their groups, each made at all of its members."""
+        """Adds the tenants and makes their groups, each at all of its members."""
         draw, nodes = self.draw, range(len(self.nodes))
         self.groups = {Address(tenant, group, 0): sorted(draw.sample(nodes, draw.randint(2, len(nodes))))
                        for tenant in range(1, draw.randint(1, 3) + 1) for group in range(draw.randint(1, 3))}
@@ -198,7 +199,7 @@ class Run:
         self.members = self.groups[self.group]
 
     def life(self):
-        """What happens before the round trips: all sorts of things, and a node may stop."""
+        """Makes the events before the round trips: all sorts of events, and a node may stop."""
         for _ in range(self.draw.randint(3, 18)):
             self.noise(True, True)
         if len(self.nodes) > 2 and self.chance(.4):
@@ -222,7 +223,7 @@ class Run:
     # Round trips
 
     def round_trip(self, node, other, says, talks):
-        """What was packed comes, a packet comes back, and then the node packs: a round. It is seen that it is one."""
+        """Makes a round: the packets that were packed arrive, a packet comes back, and then the node packs. Tests that it is a round."""
         link = self.nodes[node].links[other]
         before = len(self.frames[node, other])
         emptied = self.is_empty(node, other)
@@ -239,17 +240,17 @@ class Run:
         self.seen['rounds'] += 1
 
     def is_empty(self, node, other):
-        """Nothing of the group waits at a node for another."""
+        """Returns whether no item of the group waits at a node for another."""
         group = self.nodes[node].living(self.group)
         return group is None or not group.waiting.get(other)
 
     def put(self, node, other):
-        """How many items of the group one node had put out to another, and in which of its frames those are that were packed."""
+        """Returns how many items of the group one node had put out to another, and in which of its frames those are that were packed."""
         packed = [place for place, items in enumerate(self.frames[node, other], 1) for item in items if item.address == self.group]
         return packed, len(self.nodes[node].living(self.group).waiting[other])
 
     def phase(self, pairs, says, talks):
-        """Round trips until all has come that was put out before; it is seen that there are no more of them than the law says."""
+        """Makes round trips until all items have come that were put out before. Tests that there are not more of them than the law says."""
         goals = {}
         for node, other in pairs:
             packed, waiting = self.put(node, other)
@@ -277,7 +278,7 @@ class Run:
         group = self.nodes[node].living(self.group)
         return set(group.log())
 
-    # What is delivered
+    # Delivery
 
     def deliver(self):
         running = [node for node in self.members if node not in self.stopped]
@@ -313,7 +314,7 @@ class Run:
 
 
 def compared(program, run):
-    """The answers of gb_sim to a run are those of the reference."""
+    """Returns whether the answers of gb_sim to a run are those of the reference."""
     told = subprocess.run([program], input='\n'.join(run.lines) + '\n', capture_output=True, text=True, check=False).stdout.splitlines()
     run.hold(told == run.answers, 'answers', next((place for place, pair in enumerate(zip(told, run.answers), 1) if len(set(pair)) > 1), len(told)))
     run.seen['answers of gb_sim'] += len(told)

@@ -1,9 +1,9 @@
 #!/usr/bin/env python3
-"""Measures whether the time of a denied request says which tenants, rooms and tokens a node has.
+"""Measures whether the time of a denied request reveals which tenants, rooms and tokens a node has.
 
-Starts gb_serve (the word, or bin/gb_serve) with one node on loopback, adds tenant 7 and makes and opens its group 1. Then it sends bursts of
-requests with a wrong token, all kinds in turns, and prints for each kind the median time of a request in microseconds. Ends with status 1 if the
-slowest kind takes more than a tenth more than the quickest.
+Starts gb_serve (the word, or bin/gb_serve) with one node on loopback, adds tenant 7 and makes and opens its group 1. Then it sends bursts
+of requests with a wrong token, all kinds in turns, and prints for each kind the median time of a request in microseconds. Ends with status
+1 if the slowest kind takes more than a tenth longer than the quickest.
 """
 import hashlib
 import hmac
@@ -47,7 +47,7 @@ def ask(stream, text):
 
 
 def burst(stream, text):
-    """Sends a burst of one request and returns the microseconds that one of them took."""
+    """Sends a burst of one request and returns the microseconds for one of them."""
     told, want = framed(text) * REQUESTS, framed("refused 1 Denied") * REQUESTS
     begun = time.perf_counter()
     stream.sendall(told)

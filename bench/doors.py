@@ -1,7 +1,7 @@
 #!/usr/bin/env python3
-"""Tries gb_web before a gb_serve of one node: texts and their replies in order, an await that waits, many connections at once, one more than may
-be, clients that are slow, silent or wrong beside one that is right, other origins, and a node that goes away. Status 0: all was as it
-should be; 1: something was not; 2: a program is not there. GB_SERVE and GB_WEB name other programs than bin/gb_serve and bin/gb_web.
+"""Tests gb_web in front of a gb_serve of one node: texts and their replies in order, an await that waits, the greatest number of connections and one
+more, clients that are slow, silent or wrong beside one that is right, other origins, and a node that goes away. Status 0: all tests passed; 1: one
+failed; 2: a program is not there. GB_SERVE and GB_WEB name other programs than bin/gb_serve and bin/gb_web.
 
     python3 bench/doors.py [--port P]
 """
@@ -22,8 +22,8 @@ from foqradesh import Client, Group, Keys, Spec, member_token, node_address
 
 CLUSTER_KEY, ADMIN_KEY, TENANT_KEY = (bytes([byte] * 32) for byte in (0x11, 0x22, 0x33))
 HEAD = "7 1"
-MOST = 120  # connections that a door serves at once here
-TIME = 15  # seconds that anything may take
+MOST = 120  # the greatest number of connections of a door here
+TIME = 15  # the greatest number of seconds of any step
 
 
 class Ended(Exception):
@@ -60,7 +60,7 @@ class Talker:
         return head[0] & 15, self.file.read(length)
 
     def text(self):
-        """The next text; pings are passed over."""
+        """Returns the next text; pings are skipped."""
         while True:
             kind, data = self.frame()
             if kind == 1:
@@ -92,7 +92,7 @@ def program(variable, name):
 
 
 def start(stack, words, text=""):
-    """Starts a program, gives it a text, and returns it when it has told that it serves."""
+    """Starts a program, gives it a text, and returns it when it has written that it serves."""
     process = subprocess.Popen(words, stdin=subprocess.PIPE, stdout=subprocess.PIPE, text=True)
     stack.callback(process.wait)
     stack.callback(process.kill)
@@ -112,7 +112,7 @@ def prepare(port):
 
 
 def talks(door, token):
-    """Texts and replies, in their order."""
+    """Tests texts and replies, in their order."""
     talker = Talker(door)
     check("a connection is upgraded", talker.status == "101")
     check("a say and a fetch are answered", talker.ask(f"say {token} {HEAD} 61") == "said 1" and talker.ask(f"fetch {token} {HEAD} 0 16") == "log 1 0:1:61")
@@ -146,7 +146,7 @@ def talks(door, token):
 
 
 def disturbed(door, token):
-    """One that is right, beside many that are not."""
+    """Tests a client that is right, beside many that are not."""
     others = []
     for number in range(60):
         stream = socket.create_connection(("127.0.0.1", door), TIME)
@@ -177,14 +177,14 @@ def disturbed(door, token):
 
 
 def crowd(door, token):
-    """As many as may be at once, and one more."""
+    """Tests the greatest number of clients at once, and one more."""
     end = time.monotonic() + TIME
     talkers = []
     while len(talkers) < MOST:
         try:
             talkers.append(Talker(door))
         except (OSError, IndexError):
-            # One of those that have just left is not counted off yet.
+            # One of those that have just left may still be counted.
             if time.monotonic() > end:
                 raise AssertionError(f"only {len(talkers)} connections are served at once") from None
             time.sleep(0.05)

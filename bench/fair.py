@@ -1,6 +1,7 @@
-"""What one tenant leaves another one. Words: gb_serve, a base port, and the words for gb_serve that limit tenant 7 (none: no limit).
-Tenant 8 has one connection, and fetches again and again: alone, and while tenant 7, with right tokens and 100 connections, fetches without
-waiting for replies. Prints both rates and their ratio; the status is 0 if tenant 8 has at least half of the rate that it has alone."""
+"""Measures the share of a tenant beside a busy one. Words: gb_serve, a base port, and the words for gb_serve that limit tenant 7 (none: no
+limit). Tenant 8 has one connection, and fetches again and again: alone, and while tenant 7, with right tokens and 100 connections, fetches
+without waiting for replies. Prints both rates and their ratio; the status is 0 if tenant 8 has at least half of the rate that it has
+alone."""
 import contextlib
 import hashlib
 import hmac
@@ -76,7 +77,7 @@ def prepare(port):
 
 
 def rate(port):
-    """Fetches a second of tenant 8 on one connection."""
+    """Returns the fetches a second of tenant 8 on one connection."""
     link, message, count = Link(port), fetch(8), 0
     begun = time.monotonic()
     while time.monotonic() - begun < SECONDS:

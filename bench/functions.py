@@ -1,9 +1,9 @@
-"""Prints which functions of a crate's check are dear, in processor seconds, as the checker ends with each.
+"""Prints which functions of a crate's check are expensive, in processor seconds, as the checker finishes each.
 
     python3 bench/functions.py CRATE [--test] [HOW MANY]
 
-The crates below must stand built under crates/*/out, as `rt ci` and `rt check` leave them. The crate is checked from nothing, by one
-process. What is loaded first is counted with the function that needs it first, so the first lines hold 10 to 30 seconds of that."""
+The crates below must be built in crates/*/out, as `rt ci` and `rt check` leave them. The crate is checked from nothing, by one process.
+Files that are loaded first are counted with the function that needs them first, so the first lines hold 10 to 30 seconds of that."""
 import os
 import re
 import subprocess
@@ -14,7 +14,7 @@ ROOT = os.path.dirname(os.path.dirname(os.path.abspath(__file__)))
 
 
 def crates():
-    """Returns the libraries that each crate of the repository stands on, by its name."""
+    """Returns the libraries that each crate of the repository uses, by its name."""
     with open(f"{ROOT}/crates.txt") as file:
         lines = [line.split("#")[0].split(":") for line in file if ":" in line.split("#")[0]]
     return {name.split()[0]: deps.split() for name, deps in lines}

@@ -1,10 +1,10 @@
-"""Runs `rt ci` with the words that it is given, such as `--anew`, and prints the processor minutes and the wall time of each
-crate's checks, read from /proc once a second.
+"""Runs `rt ci` with the given words, for instance `--anew`, and prints the processor minutes and the wall time of each crate's checks, read
+from /proc once a second.
 
-A crate's work has three parts: its proof, the proof of its tests (which proves the crate once more), and its wrong bodies
-(`crates/NAME/must-fail`), which are tried on copies of the crate. A crate's wall time is that in which some check of it ran.
-What runs for less than a second may be missed; the total of the processor time is the operating system's own count. Stopped by Ctrl-C
-or SIGTERM it stops the gate and prints what was spent until then."""
+A crate's work has three parts: its proof, the proof of its tests (which proves the crate once more), and its mutants
+(`crates/NAME/must-fail`), which are tried on copies of the crate. A crate's wall time is that in which some check of it ran. A check that
+runs for less than a second may be missed; the total of the processor time is the operating system's own count. Stopped by Ctrl-C or SIGTERM
+it stops the gate and prints what was spent until then."""
 import os
 import resource
 import signal

@@ -1,7 +1,7 @@
 #!/usr/bin/env python3
-"""Looks up every name that a file of ours takes from a module of definitions or proofs: the module is a file of that crate, declared by the
-`mod` line of its folder, and the file has the name. Types and constants (specs.declared) are looked up in the crate's src/. A check of the
-prover finds a name that is not there only once all crates below are proved; this takes a second. Status 1: a line says what is missing."""
+"""Looks up every name that a file of ours takes from a module of definitions or proofs: the module is a file of that crate, declared by the `mod`
+line of its folder, and the file has the name. Types and constants (specs.declared) are looked up in the crate's src/. The prover finds a missing name
+only once all crates below are proved; this takes a second. Status 1: a line names what is missing."""
 import functools
 import os
 import re
@@ -9,7 +9,7 @@ import sys
 
 TOP = os.path.dirname(os.path.dirname(os.path.abspath(__file__)))
 USE = re.compile(r"^\s*(?:unfoldable )?(?:ghost )?(?:pub )?use Rattle\.(gb_[a-z_]+)\.(specs|proofs)\.([^\s{;]*?)(?:\.?\{([^}]*)\}|(?: as \S+)?);?$")
-# What the toolchain writes itself.
+# The names that the toolchain writes itself.
 WRITTEN = {"Goals", "Given", "contracts"}
 
 

@@ -1,5 +1,5 @@
-"""A load on a cluster that is paced, and what it cost: a Load says what is asked, and `measure` starts a server, plays it, and returns a
-Cost. bench/serve/play.rs asks (`play pace`); processor time and memory are the system's figures of the server's process (/proc)."""
+"""A paced load on a cluster, and its cost: a Load says which requests are made, and `measure` starts a server, plays the load, and returns a Cost.
+bench/serve/play.rs makes the requests (`play pace`); processor time and memory are the system's figures of the server's process (/proc)."""
 import math
 import os
 import subprocess
@@ -14,7 +14,7 @@ from foqradesh import BadPlaceError, Client, Keys, Spec, member_token, node_addr
 CLUSTER_KEY, ADMIN_KEY, TENANT_KEY = (bytes([byte] * 32) for byte in (0x11, 0x22, 0x33))
 PORT = int(os.environ.get("SCALE_PORT", "30000"))
 GROUPS_OF_A_TENANT = 250
-BEHIND = 64  # how many steps a fetch is behind the say of the message that it fetches
+BEHIND = 64  # the number of steps by which a fetch is behind the say of the message that it fetches
 
 
 @dataclass(frozen=True)
@@ -25,10 +25,10 @@ class Load:
     members: int
     groups: int
     payload: int  # bytes of each message
-    each: int  # how many messages each member says in each group; the group has room for exactly these
+    each: int  # the number of messages that each member says in each group; the group has room for exactly these
     rate: float  # messages a second, of all members in all groups
     fetches: bool = True  # whether each member's client fetches each message by a request of its own
-    together: int = 1  # how many requests a client sends at once
+    together: int = 1  # the number of requests that a client sends at once
 
     @property
     def messages(self):
@@ -41,7 +41,7 @@ class Load:
 
 @dataclass
 class Cost:
-    """What a load cost all nodes of a server, from before it is played until all is delivered."""
+    """The cost of a load for all nodes of a server, from before it is played until all messages are delivered."""
 
     messages: int
     refused: int
@@ -60,20 +60,20 @@ class Cost:
 
     @property
     def each(self):
-        """Microseconds of processor time for each message."""
+        """Returns the microseconds of processor time for each message."""
         return self.processor / self.messages * 1e6
 
     @property
     def share(self):
-        """The share of a core."""
+        """Returns the share of a core."""
         return self.processor / self.seconds
 
 
 class Server:
-    """A cluster that is served: by a gb_serve, one process for all nodes, or, where the program is a gb_peer, by a process for each node."""
+    """A cluster that is served: by a gb_serve, one process for all nodes, or, if the program is a gb_peer, by a process for each node."""
 
     def __init__(self, program, nodes, is_exact=False):
-        """Starts it. Exact: its allocator takes no more memory from the system than it is asked for, up to a page."""
+        """Starts it. Exact: its allocator takes no more memory from the system than it is asked for, rounded up to a page."""
         self.nodes, self.folder = nodes, tempfile.TemporaryDirectory()
         if os.path.basename(program).startswith("gb_peer"):
             file = self.write_cluster_file()
@@ -115,7 +115,7 @@ class Server:
         self.folder.cleanup()
 
     def processor(self):
-        """Seconds of processor time that all threads had, by the scheduler's nanoseconds."""
+        """Returns the seconds of processor time that all threads had, by the scheduler's nanoseconds."""
         sum_of_all = 0
         for process in self.processes:
             folder = f"/proc/{process.pid}/task"
@@ -125,7 +125,7 @@ class Server:
         return sum_of_all / 1e9
 
     def memory(self, name="VmRSS"):
-        """Bytes of memory: VmRSS of what is resident, VmData of what was taken."""
+        """Returns the bytes of memory: VmRSS of what is resident, VmData of what was taken."""
         sum_of_all = 0
         for process in self.processes:
             with open(f"/proc/{process.pid}/status", encoding="ascii") as file:
@@ -133,7 +133,7 @@ class Server:
         return sum_of_all
 
     def figures(self):
-        """The figures of all nodes, added up."""
+        """Returns the figures of all nodes, added up."""
         sums = {}
         for node in range(self.nodes):
             with Client(node_address(PORT, node), Keys(node, admin=ADMIN_KEY)) as client:
@@ -143,12 +143,12 @@ class Server:
 
 
 def address(group):
-    """The tenant and the number of a group, of all groups of a load."""
+    """Returns the tenant and the number of a group, of all groups of a load."""
     return 1 + group // GROUPS_OF_A_TENANT, group % GROUPS_OF_A_TENANT
 
 
 def make_groups(load):
-    """Takes the tenants in, makes the groups at all nodes, and then opens them."""
+    """Adds the tenants, makes the groups at all nodes, and then opens them."""
     members = tuple(range(load.members))
     spec = Spec(load.kind, members, load.each, load.each * load.payload, load.each)
     tenants = 1 + (load.groups - 1) // GROUPS_OF_A_TENANT
@@ -168,8 +168,8 @@ def make_groups(load):
 
 
 def write_messages(load, node, path):
-    """Writes what is asked of a node: in each step its member says one message in one group, in turn in all groups; then it fetches, by a
-    request for each, what all members said some steps before."""
+    """Writes the requests to a node: in each step its member says one message in one group, in turn in all groups; then it fetches, by a request for
+    each, the messages that all members said some steps before."""
     heads = []
     for group in range(load.groups):
         tenant, number = address(group)
@@ -191,7 +191,7 @@ def write_messages(load, node, path):
 
 
 def play(program, load, files):
-    """Plays the files at their nodes. How many messages were asked, how many were refused, and how many seconds it took."""
+    """Plays the files at their nodes. Returns how many requests were sent, how many were refused, and how many seconds it took."""
     words = [word for node, path in enumerate(files) for word in (str(PORT + 64 + node), path)]
     done = subprocess.run([program, "pace", f"{load.seconds:.3f}", str(load.together), *words], capture_output=True, text=True, timeout=load.seconds + 120, check=False)
     if done.returncode:
@@ -201,7 +201,7 @@ def play(program, load, files):
 
 
 def is_there(client, group, place):
-    """Whether a log has an entry at this place."""
+    """Returns whether a log has an entry at this index."""
     try:
         return bool(client.fetch(*address(group), place, 1))
     except BadPlaceError:
@@ -222,7 +222,7 @@ def settle(load):
 
 
 def measure(server_program, play_program, load):
-    """What a load costs, all of it delivered at all members."""
+    """Returns the cost of a load, all of it delivered at all members."""
     with tempfile.TemporaryDirectory() as folder, Server(server_program, load.members) as server:
         time.sleep(0.2)
         empty = server.memory()
@@ -244,7 +244,7 @@ def measure(server_program, play_program, load):
 
 
 def idle(server_program, nodes, seconds):
-    """Microseconds of processor time and packets that each node of a server takes in a second in which nobody asks."""
+    """Returns the microseconds of processor time and the packets of each node of a server in a second without requests."""
     with Server(server_program, nodes) as server:
         time.sleep(1)
         before, begun, spent = server.figures(), time.monotonic(), server.processor()
@@ -256,7 +256,8 @@ def idle(server_program, nodes, seconds):
 
 
 def of_groups(server_program, kind, members, each, payload):
-    """Bytes of memory that a group takes at a node, whether they were touched or not: what a server of 40 groups took more than one of 8."""
+    """Returns the bytes of memory of a group at a node, whether they were touched or not: the memory of a server of 40 groups beyond that of one of
+    8."""
     taken = []
     for groups in (8, 40):
         with Server(server_program, members, is_exact=True) as server:
@@ -266,5 +267,5 @@ def of_groups(server_program, kind, members, each, payload):
 
 
 def whole(load_rate, load_groups, members, seconds):
-    """How many messages each member says in each group, so that a load of this rate takes about these seconds."""
+    """Returns how many messages each member says in each group, so that a load of this rate takes about this number of seconds."""
     return max(1, min(1024, math.ceil(load_rate * seconds / members / load_groups)))

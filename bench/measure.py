@@ -20,8 +20,8 @@
     sessions   how many megabytes a second of says are read, parsed and answered in memory, for payloads of 16 and of 1,024 bytes
 
 The program's text is bench/NAME/main.rt.txt; its answers to the prover are NAME.FILE.antt.txt beside it. It is proved and built with the
-crates that it stands on in foqradesh-measure/ of the user's cache folder (XDG_CACHE_HOME, or ~/.cache). RT names another `rt`. The status
-is the program's."""
+crates that it uses in foqradesh-measure/ of the user's cache folder (XDG_CACHE_HOME, or ~/.cache). RT names another `rt`. The status is the
+program's."""
 import importlib.machinery
 import importlib.util
 import os
@@ -44,7 +44,7 @@ NEEDS = {
 
 
 def load_install():
-    """The parts of ./install, which lays crates out in a folder of their own."""
+    """Returns the parts of ./install, which lays crates out in a folder of their own."""
     loader = importlib.machinery.SourceFileLoader("install", os.path.join(HERE, "..", "install"))
     module = importlib.util.module_from_spec(importlib.util.spec_from_loader("install", loader))
     loader.exec_module(module)

@@ -1,9 +1,9 @@
 #!/usr/bin/env python3
 """Measures the memory of a group: memory.py PROGRAM [VERSION], where the nodes send packets of version 1 if not given otherwise.
 
-In a cluster of n nodes each node makes some groups, after a first one that lays out a node's tables. What the program's
-data and heap grow by meanwhile, whether it was touched or not, is divided by n and by the groups. The allocator is told
-to take no more from the system than it is asked for, up to a page.
+In a cluster of n nodes each node makes some groups, after a first one that lays out a node's tables. The growth of the program's data and
+heap meanwhile, whether it was touched or not, is divided by n and by the number of groups. The allocator takes no more from the system than
+it is asked for, rounded up to a page.
 """
 import os
 import subprocess
@@ -11,32 +11,32 @@ import sys
 
 from schedule import start
 
-# The bytes for each of the n * m messages: an entry of the store, a number in the log, and its place in the store in what
-# is put out.
+# The bytes for each of the n * m messages: an entry of the store, a number in the log, and its place in the store among the messages that
+# are put out.
 MESSAGE = 12 + 4 + 2
-# What a relay adds: what it keeps of a message at the message's place.
+# The bytes that a relay adds: its state of a message at the message's place.
 RELAYED = 8
-# What an order adds: a mark at the message's place.
+# The bytes that an order adds: a mark at the message's place.
 MARK = 1
 # A table has a place of 2 bytes for each of m numbers of each node up to the last member.
 TABLE = 2
-# The set of the nodes that have an own message for good.
+# The set of the nodes that have acknowledged a message of this member.
 ACKNOWLEDGED = 4
 
 
-# How many groups each node makes.
+# The number of groups that each node makes.
 GROUPS = 8
 
 
 def reserved(kind, members, msgs, size):
-    """The bytes that the spec reserves, and those of the fixed tables."""
+    """Returns the bytes that the spec reserves, and those of the fixed tables."""
     module = kind[1:] if kind in ('fbeb', 'flazy', 'feager', 'fallack', 'fmajority') else kind
     message = MESSAGE + RELAYED * (module != 'beb') + MARK * (module != kind)
     return members * msgs * message + members * size + msgs * ACKNOWLEDGED, TABLE * members * msgs
 
 
 def status_bytes(process, name):
-    """What the system says of a process's memory: VmData of what it took, VmHWM of what was there of it at most at once."""
+    """Returns the system's figure of a process's memory: VmData of what it took, VmHWM of the most that was resident at once."""
     with open(f'/proc/{process.pid}/status') as status:
         for line in status:
             if line.startswith(name + ':'):
@@ -58,13 +58,13 @@ def tell(process, lines):
 
 
 def begun(program):
-    """The program, which waits for its schedule."""
+    """Starts the program, which waits for its schedule, and returns it."""
     environment = dict(os.environ, MALLOC_TOP_PAD_='0')
     return subprocess.Popen([program], stdin=subprocess.PIPE, stdout=subprocess.PIPE, text=True, env=environment)
 
 
 def measured(program, kind, members, msgs, size, version=1):
-    """The bytes that a group takes at a node."""
+    """Returns the bytes of a group at a node."""
     process = begun(program)
     names = ','.join(str(node) for node in range(members))
     def make(group):
@@ -81,7 +81,7 @@ def measured(program, kind, members, msgs, size, version=1):
 
 
 def of_cluster(program, nodes, version=1):
-    """The bytes of a program that has started a cluster and nothing else."""
+    """Returns the bytes of a program that has started a cluster and nothing else."""
     process = begun(program)
     tell(process, [start(nodes, 3, version)])
     taken = data_bytes(process)

@@ -1,6 +1,6 @@
 #!/usr/bin/env python3
-"""Prints the functions that take more than six values, beside `self`, the runtime, the allocator, the network, and the streams that
-they read and write. What belongs together is handed over as a record with named fields. Status 1 if there is such a function."""
+"""Prints the functions that take more than six values, beside `self`, the runtime, the allocator, the network, and the streams that they
+read and write. Values that belong together are passed as a record with named fields. Status 1 if there is such a function."""
 import glob
 import os
 import re
@@ -12,7 +12,7 @@ APART = re.compile(r"(&\s*)?('\w+\s+)?(mut\s+)?(self|rt|net|alloc|reader|writer|
 
 
 def end_of(text, at):
-    """Returns the place behind the bracket that closes the one before `at`, and the places of the commas between them."""
+    """Returns the index behind the bracket that closes the one before `at`, and the indices of the commas between them."""
     depth, commas = 1, []
     while depth:
         letter = text[at]

@@ -3,9 +3,10 @@
 
     bench/paths.py [HOW MANY]
 
-For each library rt ci sums all files of the crate and of the crates below it, before and after its proof. A crate that is reached on several
-paths is read once for each. A file takes some 70 microseconds, and one thread does it for all checks. Prints the number of files that a gate
-reads, the crates that read most, and the lines of crates.txt whose loss would save most: NAME: DEP and the files that it would save."""
+For each library rt ci sums all files of the crate and of the crates below it, before and after its proof. A crate that is reached on
+several paths is read once for each. A file takes some 70 microseconds, and one thread does it for all checks. Prints the number of files
+that a gate reads, the crates that read most, and the lines of crates.txt whose removal would save most: NAME: DEP and the number of
+files."""
 import functools
 import os
 import sys
@@ -14,7 +15,7 @@ TOP = os.path.dirname(os.path.dirname(os.path.abspath(__file__)))
 
 
 def needs():
-    """Returns, for each crate, those of ours that it stands on."""
+    """Returns, for each crate, those of ours that it uses."""
     found = {}
     with open(os.path.join(TOP, "crates.txt")) as file:
         for line in file:
@@ -26,7 +27,7 @@ def needs():
 
 
 def own_files(crate):
-    """Returns how many files the crate has, without what was built."""
+    """Returns how many files the crate has, without those that were built."""
     count = 0
     for _, folders, files in os.walk(os.path.join(TOP, "crates", crate)):
         folders[:] = [it for it in folders if it != "out"]

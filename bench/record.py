@@ -1,11 +1,11 @@
-"""What `gb_serve --record` costs. A run starts four servers of one node anew: two without records, one with --record, and one with
---record --sync; which of four ports each of them has is another in each run, since two processes of one program differ in their rates too. Each is
-asked once until its memory was used, and then they are asked in turns, in short bursts, by one program (bench/serve/play.rs); the order of the four is
-another in each turn. So what else the machine does falls on all of them. Words: gb_serve, gb_audit, that program, how many
-requests are made in a burst with 32 ahead (a sixth of that with 1 ahead and with --sync), how many turns make a run, and how many runs are made.
-Printed are, over all turns of all runs: the median rates; the ratio of the median to that of the first server; the median of the ratios to the first server within
-a turn, with the quartiles of these; and the same ratio of processor time for a request. The second server without records shows in each of
-these what chance makes of nothing. Then come the bytes of a say and of a fetch in a record, and how fast gb_audit goes through one."""
+"""Measures the cost of `gb_serve --record`. A run starts four new servers of one node: two without records, one with --record, and one with --record
+--sync. Which of four ports each of them has changes from run to run, because two processes of one program differ in their rates too. Requests are
+made to each once until its memory was used. Then requests are made to them in turns, in short bursts, by one program (bench/serve/play.rs); the order
+of the four changes from turn to turn. So other work of the machine affects all of them. Words: gb_serve, gb_audit, that program, how many requests
+are made in a burst with 32 ahead (a sixth of that with 1 ahead and with --sync), how many turns make a run, and how many runs are made. Prints, over
+all turns of all runs: the median rates; the ratio of the median to that of the first server; the median of the ratios to the first server within a
+turn, with the quartiles of these; and the same ratio of processor time for a request. The second server without records shows how far each of these
+varies by chance. Then come the bytes of a say and of a fetch in a record, and the rate at which gb_audit audits one."""
 import contextlib
 import glob
 import os
@@ -22,7 +22,7 @@ from watched import seconds
 PORTS = (23000, 23200, 23400, 23600)
 WAYS = (("without", []), ("without again", []), ("--record", ["--record"]), ("--record --sync", ["--record", "--sync"]))
 SYNCED = 3
-# More than a node's ring to its recorder has places.
+# More than the places of a node's ring to its recorder.
 WARM = 20_000
 
 
@@ -58,7 +58,7 @@ class Bench:
         return rate, (seconds(server) - before) / count * 1e6
 
     def turn(self, servers, ports, path, ahead, first):
-        """Returns the rate and the processor time of each server, which are asked one after the other from the first on."""
+        """Returns the rate and the processor time of each server, in which requests are made one after the other from the first on."""
         found = [None] * len(servers)
         for step in range(len(servers)):
             way = (first + step) % len(servers)
@@ -67,7 +67,7 @@ class Bench:
         return found
 
     def run(self, number, path, fetches, groups):
-        """A run with servers of its own: for 1 and for 32 ahead, what was found in each turn."""
+        """Makes a run with servers of its own: returns, for 1 and for 32 ahead, the results of each turn."""
         ports = [PORTS[(way + number) % len(PORTS)] for way in range(len(PORTS))]
         folders = [tempfile.mkdtemp(dir=self.folder) for _ in WAYS]
         with contextlib.ExitStack() as stack:
@@ -97,7 +97,7 @@ class Bench:
                       f" ({low:.2f} to {high:.2f}); {spent:.2f} us of processor time each, {more:.2f} of the first", flush=True)
 
     def lines(self, word):
-        """Prints the bytes of the lines of a request in the last record, and what an audit of it takes."""
+        """Prints the bytes of the lines of a request in the last record, and the cost of an audit of it."""
         name = glob.glob(os.path.join(self.kept, "*.record"))[0]
         with open(name, "rb") as file:
             sizes = [len(line) for line in file if line.split(b" ")[2:3] == [word]]

@@ -1,9 +1,9 @@
 #!/usr/bin/env python3
-"""Each request for memory of a program refused in turn: refused.py PRELOAD GB_SIM PLAYER HOST MAKERS
+"""Refuses each request for memory of a program in turn: refused.py PRELOAD GB_SIM PLAYER HOST MAKERS
 
 PRELOAD is bench/refused/refuse_malloc.c as a shared library, GB_SIM a built gb_sim, PLAYER, HOST and MAKERS the built programs of bench/refused. The
-answers of the named schedules, and of the host's day, stand below, and no program is asked for them. Every run is judged; status 1 where one
-is wrong. What is counted is printed as the tables of docs/reference/MEMORY.md.
+answers of the named schedules, and of the host's day, are in this file, and no program computes them. Every run is judged; status 1 if one is wrong.
+The counts are printed as the tables of docs/reference/MEMORY.md.
 """
 import collections
 import os
@@ -16,10 +16,10 @@ import tempfile
 import schedule as long_schedule
 
 REFUSED = 'refused 16 OutOfMemory'
-NO_MEMORY = 'no memory'  # the player's line where the cluster itself had no memory, so that nothing was answered
+NO_MEMORY = 'no memory'  # the player's line if the cluster itself had no memory, so that nothing was answered
 OUT_OF_MEMORY = 'out of memory'
 
-# What a run of gb_sim came to, and how that is headed in a table.
+# The outcomes of a run of gb_sim, and their heads in a table.
 SEEN = (OUT_OF_MEMORY, 'refused, then out of memory', 'refused', 'as if none')
 HEADS = (f'`{OUT_OF_MEMORY}`', f'`{REFUSED}`, then `{OUT_OF_MEMORY}`', f'`{REFUSED}`', 'as if none')
 
@@ -33,7 +33,7 @@ def made(node, tenant, group, kind, nodes, size, window):
 
 
 def furnished(nodes, kind, tenants=(7,), more=(), size=4_096, window=4):
-    """Each tenant with its group 1 at each node, then `more` groups of the first tenant; all is answered `ok`."""
+    """Returns each tenant with its group 1 at each node, then `more` groups of the first tenant; all lines are answered `ok`."""
     lines = [f'cluster {nodes} 3']
     for tenant in tenants:
         for node in range(nodes):
@@ -45,7 +45,7 @@ def furnished(nodes, kind, tenants=(7,), more=(), size=4_096, window=4):
 
 
 def schedule(lines, *pairs):
-    """Lines that are all answered `ok`, and then pairs of a line and its answer."""
+    """Returns lines that are all answered `ok`, and then pairs of a line and its answer."""
     return Schedule(lines + [line for line, _ in pairs], ['ok'] * len(lines) + [answer for _, answer in pairs])
 
 
@@ -92,13 +92,13 @@ SCHEDULES = {
         ('arrive 1', 'good seen 0 0'), ('fetch 1 7 1 0 16', 'log 2 0:1:61 0:2:62')),
 }
 
-# The same, with the other tenant served first, so that what both share is asked for by its commands, and with a fetch of its own.
+# The same, with the other tenant served first, so that its commands ask for what both share, and with a fetch of its own.
 OTHER_FIRST = schedule(
     furnished(2, 'beb', tenants=(8, 7)), *zip(SCHEDULES['two_tenants'].lines[13:-1], SCHEDULES['two_tenants'].answers[13:-1]),
     ('fetch 1 8 1 0 16', 'log 2 0:1:71 0:2:72'), ('fetch 1 7 1 0 16', 'log 2 0:1:61 0:2:62'))
 
 def host_log(first, second):
-    """The first 16 entries of a log that has ten messages of each node, one node's before the other's."""
+    """Returns the first 16 entries of a log that has ten messages of each node, one node's before the other's."""
     entries = [f'{node}:{number}:61{node:02x}{number - 1:02x}' for node in (first, second) for number in range(1, 11)]
     return ' '.join(['log 16', *entries[:16]])
 
@@ -109,7 +109,8 @@ HOST_DAY = ['play', 'open', *['ok'] * 6, *[f'said {number}' for number in range(
             'good 10 1', 'ticked', host_log(0, 1), 'ticked', host_log(1, 0), 'closed', 'merged 34']
 HOST_MAKES = (3, 5, len(HOST_DAY) - 1)  # where each node makes the group, and where the merged run does
 
-# What bench/refused/makers.rt.txt makes, and the measure of each value; of the text that explains refused words, which clap writes, only that there is one.
+# The values that bench/refused/makers.rt.txt makes, and the measure of each; of the text that explains refused words, which clap writes, only that
+# there is one.
 MAKERS = [
     ('read_payload', 1), ('read_message', 1), ('split_words', 4), ('parse_request', 1), ('read_ask', 1), ('read_ask of an await', 1),
     ('read_other_command', 1), ('read_secrets', 1), ('await_text', 83), ('reply_lines', 3_027), ('entry_lines', 3_021), ('token_line', 65),
@@ -154,7 +155,7 @@ def text_of(lines):
 
 
 def without(bench, name, cache, place):
-    """What gb_sim answers where the line at a place is not asked."""
+    """Returns the answers of gb_sim without the line at this index."""
     if (name, place) not in cache:
         lines = SCHEDULES[name].lines
         cache[name, place] = bench.run([bench.sim], lines[:place] + lines[place + 1:]).lines
@@ -162,13 +163,13 @@ def without(bench, name, cache, place):
 
 
 def split(ran):
-    """The lines of a run of gb_sim but the last `out of memory`, and how many of them stand before the first refusal for memory."""
+    """Returns the lines of a run of gb_sim without the last `out of memory`, and how many of them are before the first refusal for memory."""
     told = ran.lines[:-1] if ran.status == 3 and ran.lines[-1:] == [OUT_OF_MEMORY] else ran.lines
     return told, told.index(REFUSED) if REFUSED in told else len(told)
 
 
 def is_served(schedule, ran):
-    """Whether the lines of a run of gb_sim are whole, are the schedule's answers up to the first refusal for memory, and are all that are due
+    """Returns whether the lines of a run of gb_sim are whole, are the schedule's answers up to the first refusal for memory, and are all that are due
     unless the program says that it ended."""
     told, first = split(ran)
     return (ran.status in (0, 3) and (not ran.text or ran.text.endswith('\n')) and told[:first] == schedule.answers[:first]
@@ -184,7 +185,7 @@ def came_to(ran):
 
 
 def is_consistent(bench, name, ran, cache):
-    """Whether what follows the one event that was refused are the answers of the schedule without that event."""
+    """Returns whether the answers behind the one refused event are those of the schedule without that event."""
     found, (told, first) = came_to(ran), split(ran)
     if found != 'refused':
         return found != 'refused, then out of memory'
@@ -192,7 +193,7 @@ def is_consistent(bench, name, ran, cache):
 
 
 def sim_in_turn(bench, name, many):
-    """Every request of gb_sim on a schedule refused in turn: how many there are, and what the runs came to. A later request is refused no
+    """Refuses every request of gb_sim on a schedule in turn. Returns how many there are, and the outcomes of the runs. A later request is refused no
     earlier: no answer is lost before a refusal."""
     each, seen, cache, least = SCHEDULES[name], collections.Counter(), {}, 0
     whole = bench.run([bench.sim], each.lines)
@@ -213,7 +214,7 @@ def sim_in_turn(bench, name, many):
 
 
 def under_limit(bench, schedule, limit):
-    """What gb_sim comes to with so many bytes of address space."""
+    """Returns the outcome of gb_sim with this number of bytes of address space."""
     bench.runs += 1
     set_limit = lambda: resource.setrlimit(resource.RLIMIT_AS, (limit, limit))
     ended = subprocess.run([bench.sim], input=text_of(schedule.lines).encode(), capture_output=True, timeout=60,
@@ -227,7 +228,7 @@ def under_limit(bench, schedule, limit):
 
 
 def limits_in_turn(bench, schedule, step):
-    """Limits of address space, rising by `step` bytes from 1 MiB to the first under which all is answered."""
+    """Limits the address space, rising by `step` bytes from 1 MiB to the first limit under which all lines are answered."""
     seen, limit = collections.Counter(), 1 << 20
     while True:
         found = under_limit(bench, schedule, limit)
@@ -238,7 +239,7 @@ def limits_in_turn(bench, schedule, step):
 
 
 def long_one(bench):
-    """A schedule of more lines, whose answers are those that gb_sim gives with all the memory there is."""
+    """Returns a schedule of more lines, with the answers that gb_sim writes if no request for memory is refused."""
     lines = list(long_schedule.lines_of(4_000))
     return Schedule(lines, bench.run([bench.sim], lines).lines)
 
@@ -248,8 +249,8 @@ def play(bench, lines, start=0, again=True):
 
 
 def judged_play(lines, whole, ran, start):
-    """What a run of the player came to that gives the refused event again at once: the refused line, or `as if none` where a make had no
-    memory to keep a member's token, which is then made when it is asked for; None where the run is wrong."""
+    """Returns the outcome of a run of the player that gives the refused event again at once: the refused line, or `as if none` if a make had no
+    memory to keep a member's token, which is then made when it is needed; None if the run is wrong."""
     places = [at for at, line in enumerate(ran.lines) if line in (REFUSED, NO_MEMORY)]
     if ran.status != 0 or len(places) > 1:
         return None
@@ -263,7 +264,7 @@ def judged_play(lines, whole, ran, start):
 
 
 def play_in_turn(bench, name):
-    """Every request of the cluster on a schedule refused in turn, the refused event given again at once."""
+    """Refuses every request of the cluster on a schedule in turn; the refused event is given again at once."""
     expected, seen = SCHEDULES[name], collections.Counter()
     whole = play(bench, expected.lines)
     is_right = whole.lines[:1 + len(expected.lines)] == ['play'] + expected.answers and whole.status == 0
@@ -282,8 +283,8 @@ def play_in_turn(bench, name):
 
 
 def judged_host(whole, ran, start):
-    """What a run of the host came to: the refused line, `closing` where closing was refused, which is not done again, or `as if none` where a
-    make, by a node or in the run that merging makes, had no memory to keep a member's token; None where the run is wrong."""
+    """Returns the outcome of a run of the host: the refused line, `closing` if closing was refused, which is not done again, or `as if none` if a
+    make, by a node or in the run that merging makes, had no memory to keep a member's token; None if the run is wrong."""
     places = [at for at, line in enumerate(ran.lines) if line in (REFUSED, NO_MEMORY)]
     place = next((at for at, made in enumerate(ran.made_before) if start <= made), None)
     if ran.status != 0 or len(places) > 1 or place is None or not ran.text.endswith('\n'):
@@ -296,13 +297,13 @@ def judged_host(whole, ran, start):
         return 'closing' if ran.lines == whole.lines[:place] + [NO_MEMORY] else None
     if whole.lines[place].startswith('merged'):
         return 'merging' if ran.lines == whole.lines[:place] + [NO_MEMORY] + whole.lines[place:] else None
-    # An answer that refuses an event for memory stands in the tape, so the tapes are not merged: that is said of runs in which no memory was refused.
+    # An answer that refuses an event for memory is in the tape, so the tapes are not merged: the rest is for runs in which no memory was refused.
     last = 'audit fault' if ran.lines[place] == REFUSED else whole.lines[-1]
     return ran.lines[place] if ran.lines[:place] + ran.lines[place + 1:] == whole.lines[:-1] + [last] else None
 
 
 def host_in_turn(bench):
-    """Every request of the host's day refused in turn."""
+    """Refuses every request of the host's day in turn."""
     seen = collections.Counter()
     whole = bench.run([bench.host], [])
     bench.judge(whole.lines == HOST_DAY and whole.status == 0, 'host', whole.text)
@@ -320,7 +321,7 @@ def host_in_turn(bench):
 
 
 def are_made(lines):
-    """Whether all values are made, with their measures."""
+    """Returns whether all values are made, with their measures."""
     told = [line.rpartition(': ')[::2] for line in lines[1:]]
     return lines[:1] == ['play'] and len(told) == len(MAKERS) and all(
         name == made and (size == str(measure) if measure else size.isdecimal() and size != '0')
@@ -328,8 +329,8 @@ def are_made(lines):
 
 
 def makers_in_turn(bench):
-    """Every request of the functions that make a value refused in turn, the refused call made again at once: for each function how many requests
-    it makes, and how many of the runs it ended with `no memory`; the others were as if none was refused."""
+    """Refuses every request of the functions that make a value in turn; the refused call is made again at once. Returns for each function how many
+    requests it makes, and how many of the runs it ended with `no memory`; the others were as if none was refused."""
     whole, made, seen = bench.run([bench.makers], []), collections.Counter(), collections.Counter()
     bench.judge(are_made(whole.lines) and whole.status == 0, 'makers', whole.text)
     for place in range(1, len(whole.lines)):
@@ -347,7 +348,7 @@ def makers_in_turn(bench):
 
 
 def items_of(line):
-    """The items of a packet that was sent: tenant and payload, in order."""
+    """Returns the items of a packet that was sent: tenant and payload, in order."""
     text, items = bytes.fromhex(line.split()[2]), []
     at = 31
     for _ in range(int.from_bytes(text[29:31], 'big')):
@@ -358,13 +359,13 @@ def items_of(line):
 
 
 def is_of(line, tenant):
-    """Whether a line is a tenant's command."""
+    """Returns whether a line is a tenant's command."""
     words = line.split()
     return words[0] in ('tenant', 'make', 'open', 'say', 'fetch') and words[2] == str(tenant)
 
 
 def is_kept(lines, answers, ran):
-    """Whether tenant 7 was served as the schedule says: its replies, and its items in the packets, in order."""
+    """Returns whether tenant 7 was served as the schedule says: its replies, and its items in the packets, in order."""
     told = ran.lines[1:1 + len(lines)]
     mine = [at for at, line in enumerate(lines) if is_of(line, 7)]
     items = [item for line in ran.lines if line.startswith('sent ') for item in items_of(line) if item[0] == 7]
@@ -373,7 +374,7 @@ def is_kept(lines, answers, ran):
 
 
 def other_tenant_in_turn(bench, schedule):
-    """Every request for memory of tenant 8's commands refused in turn, and the command not given again: tenant 7 is served as ever."""
+    """Refuses every request for memory of tenant 8's commands in turn, and does not give the command again: tenant 7 is served all the same."""
     lines, answers = schedule
     whole, seen, requests = play(bench, lines, again=False), collections.Counter(), 0
     bench.judge(whole.lines[1:1 + len(lines)] == answers, 'other tenant', whole.text)
@@ -389,7 +390,7 @@ def other_tenant_in_turn(bench, schedule):
 
 
 def pack_in_turn(bench):
-    """Every request of the first packing refused in turn, and the packing given again at once: the same frame, in the same order."""
+    """Refuses every request of the first packing in turn, and gives the packing again at once: the frame is the same, in the same order."""
     lines, answers = SCHEDULES['two_tenants']
     place = lines.index('pack 0 1')
     whole, seen, requests = play(bench, lines), collections.Counter(), 0

@@ -1,9 +1,10 @@
 #!/usr/bin/env python3
-"""Requests for memory of gb_serve refused: refused_server.py PRELOAD GB_SERVE [PLACES [SEED]]
+"""Refuses requests for memory of gb_serve: refused_server.py PRELOAD GB_SERVE [PLACES [SEED]]
 
-PRELOAD is bench/refused/refuse_malloc.c as a shared library. A server of three nodes is asked a fixed list of things, in groups of all ten kinds;
-before it serves, while it serves and at its end chosen requests for memory are refused. Every run is judged; status 1 where one is wrong. The
-requests of all threads are counted in one row, so a run cannot be repeated to the request. What is counted is printed as the tables of docs/reference/MEMORY.md.
+PRELOAD is bench/refused/refuse_malloc.c as a shared library. A fixed list of requests is made at a server of three nodes, in groups of all ten kinds;
+before it serves, while it serves and at its end chosen requests for memory are refused. Every run is judged; status 1 if one is wrong. The requests
+for memory of all threads are counted in one row, so a run cannot be repeated exactly. The counts are printed as the tables of
+docs/reference/MEMORY.md.
 """
 import collections
 import mmap
@@ -24,10 +25,10 @@ import session
 NODES, KINDS = 3, ('beb', 'lazy', 'eager', 'allack', 'majority', 'fbeb', 'flazy', 'feager', 'fallack', 'fmajority')
 TENANT, ROUNDS, SPARE = 7, 3, 15  # the group SPARE is made and dropped
 REFUSED, BAD_PLACE = 'refused 16 OutOfMemory', 'refused 11 BadPlace'
-SECONDS = 5  # no single thing that is asked takes longer
-PAUSE = 0.001  # before it is asked again, in seconds
-OUTAGE = 0.3  # how long all requests are refused, in seconds
-SESSIONS = 120  # connections that each node serves in all: no more than wait at a socket at once
+SECONDS = 5  # the longest time of a single request
+PAUSE = 0.001  # seconds before it is made again
+OUTAGE = 0.3  # the seconds for which all requests are refused
+SESSIONS = 120  # the connections that each node serves in all, at most the number that may wait at a socket at once
 LAST = 2**64 - 1
 NUMBERS = ('requests', 'refused', 'from', 'many', 'chance', 'seed')
 
@@ -35,11 +36,11 @@ Ended = collections.namedtuple('Ended', 'lines status')
 
 
 class Wrong(Exception):
-    """A run that is not as it is to be."""
+    """A run that is not as it must be."""
 
 
 class Numbers:
-    """What bench/refused/refuse_malloc.c counts in a server, and what it refuses there."""
+    """The numbers that bench/refused/refuse_malloc.c counts in a server, and the requests that it refuses there."""
 
     def __init__(self):
         self.file = tempfile.NamedTemporaryFile()
@@ -71,7 +72,7 @@ class Server:
         self.text = b''
 
     def read(self, seconds=SECONDS):
-        """What comes next on standard output; nothing: it is closed."""
+        """Returns the next bytes on standard output, or none if it is closed."""
         if not select.select([self.process.stdout], [], [], seconds)[0]:
             raise Wrong(f'nothing written for {seconds} s after {self.text!r}')
         piece = os.read(self.process.stdout.fileno(), 65536)
@@ -79,14 +80,14 @@ class Server:
         return piece
 
     def begins(self):
-        """Whether it writes that it serves."""
+        """Returns whether it writes that it serves."""
         while b'\n' not in self.text:
             if not self.read():
                 return False
         return self.text.startswith(b'serving 3 nodes from port ')
 
     def ended(self, seconds=SECONDS):
-        """Its whole output, and its status."""
+        """Returns its whole output, and its status."""
         while self.read(seconds):
             pass
         try:
@@ -108,13 +109,13 @@ class Server:
 
 
 class Asker:
-    """A client at one node that asks again what was refused for memory, on a new connection where its own was closed."""
+    """A client at one node that makes a request again after it was refused for memory, on a new connection if its own was closed."""
 
     def __init__(self, seen, port, node):
         self.seen, self.port, self.node, self.session = seen, port, node, None
 
     def send(self, command, words):
-        """Sends a command on a connection of its own; whether this could be done."""
+        """Sends a command on a connection of its own. Returns whether this could be done."""
         try:
             if self.session is None:
                 self.session = session.Session(self.port, self.node, SECONDS)
@@ -137,7 +138,7 @@ class Asker:
         self.session = None
 
     def receive(self):
-        """The reply; None where the connection was closed."""
+        """Returns the reply, or None if the connection was closed."""
         try:
             return self.session.receive()
         except ConnectionError:
@@ -147,7 +148,7 @@ class Asker:
             raise Wrong(f'no reply of node {self.node} for {SECONDS} s') from None
 
     def ask(self, command, *words, done='ok'):
-        """The reply in the end. `done` is the reply where a request was done whose reply was lost."""
+        """Returns the reply in the end. `done` is the reply if a request was done whose reply was lost."""
         was_lost, end = False, time.monotonic() + SECONDS
         while time.monotonic() < end:
             reply = self.receive() if self.send(command, words) else None
@@ -179,7 +180,7 @@ def entries_of(reply):
 
 
 def set_up(askers):
-    """The tenant, and a group of each kind, at all nodes."""
+    """Adds the tenant, and makes a group of each kind, at all nodes."""
     groups = list(enumerate(KINDS)) + [(SPARE, 'fallack')]
     for asker in askers:
         asker.wants('ok', 'tenant', TENANT, 16, 16, 4096, 8, done='refused 13 TenantThere')
@@ -198,7 +199,7 @@ def say(asker, group, payload, number):
 
 
 def wait_for(waiter, group, place):
-    """The reply to an `await` that was sent. It is asked again where its connection was closed."""
+    """Returns the reply to an `await` that was sent. It is sent again if its connection was closed."""
     end = time.monotonic() + SECONDS
     while time.monotonic() < end:
         reply = waiter.receive() if waiter.session else None
@@ -214,7 +215,8 @@ def wait_for(waiter, group, place):
 
 
 def exchange(askers, waiter):
-    """In each group each node says a message; a client at the last node waits for each, and clients elsewhere go on. The messages, by group."""
+    """Lets each node say a message in each group; a client at the last node waits for each, and clients elsewhere go on. Returns the messages, by
+    group."""
     told = collections.defaultdict(set)
     for number in range(ROUNDS):
         for group in range(len(KINDS)):
@@ -232,7 +234,7 @@ def exchange(askers, waiter):
 
 
 def agree(askers, told):
-    """The logs of all members are the messages that were said, soon."""
+    """Checks that the logs of all members soon are the messages that were said."""
     end = time.monotonic() + SECONDS
     for asker in askers:
         for group, messages in told.items():
@@ -257,7 +259,7 @@ def finish(server, seconds=SECONDS):
 
 
 def are_free(port):
-    """Whether all ports of a server can be bound."""
+    """Returns whether all ports of a server can be bound."""
     for node in range(NODES):
         for kind, number in ((socket.SOCK_DGRAM, port + node), (socket.SOCK_STREAM, port + 64 + node)):
             with socket.socket(socket.AF_INET, kind) as bound:
@@ -271,7 +273,7 @@ def are_free(port):
 
 
 def heal(server, first):
-    """Ends an outage that begins at a request, after a while."""
+    """Ends, after a while, an outage that begins at a request."""
     while server.numbers.get('requests') < first and server.numbers.get('from'):
         time.sleep(PAUSE)
     time.sleep(OUTAGE)
@@ -284,7 +286,7 @@ class Bench:
         self.runs, self.wrong = 0, []
 
     def judged(self, what, run, *words):
-        """What a run comes to, or None where it is wrong."""
+        """Returns the outcome of a run, or None if it is wrong."""
         self.runs += 1
         try:
             return run(*words)
@@ -294,7 +296,7 @@ class Bench:
             return None
 
     def asked_shortly(self, server, seen):
-        """Asks each node one thing, and lets the server end, which serves one connection a node then."""
+        """Makes one request at each node, and lets the server end, which then serves one connection at a node."""
         askers = [Asker(seen, self.port, node) for node in range(NODES)]
         for asker in askers:
             asker.wants('ok', 'tenant', TENANT, 16, 16, 4096, 8, done='refused 13 TenantThere')
@@ -304,7 +306,8 @@ class Bench:
         return served
 
     def before(self, start, words=()):
-        """A run with a request refused before it serves: what it comes to, and how many requests were made when it first served all nodes."""
+        """Runs with a request refused before the server serves. Returns the outcome, and how many requests were made when it first served all
+        nodes."""
         with Server(self, start, words=words) as server:
             if not server.begins():
                 ended = server.ended()
@@ -325,7 +328,7 @@ class Bench:
             return next((what for what in ('refused', 'closed') if seen[what]), 'as if none'), served
 
     def all_before(self, words=()):
-        """Each request refused before all nodes serve."""
+        """Refuses each request before all nodes serve."""
         found, start = collections.Counter(), 0
         _, most = self.before(0, words)
         for start in range(1, most + 1):
@@ -335,8 +338,8 @@ class Bench:
         return most, found
 
     def while_serving(self, offset, chance=0, seed=0, is_outage=False):
-        """A run in which, from when it serves, a request is refused, or all for a while from it on, or one in `chance`: what was seen, how many were
-        refused, and how many requests were made."""
+        """Runs a server in which, once it serves, a request is refused, or all for a while from it on, or one in `chance`. Returns the outcomes, how
+        many were refused, and how many requests were made."""
         seen = collections.Counter()
         with Server(self) as server:
             if not server.begins():
@@ -373,7 +376,7 @@ class Bench:
 
 
 def at_end(bench, offset, words):
-    """A run in which a request is refused after the last client has its last reply: what it comes to, and how many requests were made from there on."""
+    """Runs with a request refused after the last client has its last reply. Returns the outcome, and how many requests were made from there on."""
     with Server(bench, sessions=1, words=words) as server:
         if not server.begins():
             raise Wrong('it does not begin')
@@ -404,7 +407,7 @@ def at_end(bench, offset, words):
 
 
 def all_at_end(bench, words):
-    """Each request refused from when the clients have their replies, until three runs met none."""
+    """Refuses each request after the clients have their replies, until three runs met none."""
     found, offset, unmet = collections.Counter(), 0, 0
     while unmet < 3:
         offset += 1
@@ -440,7 +443,7 @@ def print_before(bench):
 
 
 def not_served(bench, words, keys, expected):
-    """Each request refused of a server that does not serve: how many there are, and how many of the runs ended as without a refusal."""
+    """Refuses each request of a server that does not serve. Returns how many there are, and how many of the runs ended as without a refusal."""
     found, start, numbers = collections.Counter(), 0, None
     while numbers is None or numbers.get('refused'):
         start, numbers = start + 1, Numbers()

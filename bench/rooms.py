@@ -1,13 +1,13 @@
 #!/usr/bin/env python3
-"""Random schedules of rooms, answered by gb_sim and by bench/rooms_reference.py and compared line by line: rooms.py [SCHEDULES [SEED]]
+"""Compares the answers of gb_sim and of bench/rooms_reference.py to random schedules of rooms, line by line: rooms.py [SCHEDULES [SEED]]
 
-There are 300 schedules from seed 1 on, if not given otherwise, one for each seed: few tenants and groups, generations 0 to 6 and now and then
-large ones, versions 1, 2 and 3 mixed, small budgets, drops, items that come late, packets with little room, crash notices, noise, bad lines.
-Behind most arrivals the logs there are fetched, so that a packing with other items than the reference's shows.
+There are 300 schedules from seed 1 on, if not given otherwise, one for each seed: few tenants and groups, generations 0 to 6 and now and then large
+ones, versions 1, 2 and 3 mixed, small budgets, drops, items that come late, packets with little room, crash notices, noise, bad lines. Behind most
+arrivals the logs there are fetched, so that a packing with other items than the reference's shows.
 
-SIM names a built gb_sim. Without it `rt try` builds one in crates/gb_sim, unproved, for all schedules at once. Printed are how many schedules
-and lines were alike, and what they had in them. Where one is not alike it is shortened to as few lines as still differ and kept in bench/out/rooms,
-and the status is 1.
+SIM names a built gb_sim. Without it `rt try` builds one in crates/gb_sim, unproved, for all schedules at once. Prints how many schedules and lines
+had equal answers, and what they had in them. A schedule with another answer is shortened to the fewest lines that still differ and kept in
+bench/out/rooms, and the status is 1.
 """
 import collections
 import os
@@ -24,7 +24,7 @@ KEPT = os.path.join(TOP, 'bench', 'out', 'rooms')
 
 LAST = 2 ** 32 - 1
 LARGE = [7, 255, 256, 65_535, 65_536, 2 ** 31 - 1, 2 ** 31, LAST - 1, LAST]
-# Payloads that fill packets of each version to the last byte, or pass it by one.
+# Payloads that fill packets of each version to the last byte, or exceed it by one.
 LONG = [913, 914, 1_000, 1_023, 1_024, 1_025, 4_005, 4_006, 4_021, 4_022, 4_095, 4_096, 4_097]
 
 BAD = ['open 0 7 1.0', 'open 0 7 1.01', 'open 0 7 1.', 'open 0 7 .1', 'open 0 7 1.1.1', f'open 0 7 1.{LAST + 1}', 'open 0 7 65536', 'open 0 7 01.1',
@@ -37,13 +37,13 @@ BAD_STARTS = ['cluster 17 3', 'cluster 2 1', 'cluster2 2 3 3', 'cluster2 2 3 3,4
 
 
 def named(address):
-    """The words of an address."""
+    """Returns the words of an address."""
     later = f'.{address.generation}' if address.generation else ''
     return f'{address.tenant} {address.group}{later}'
 
 
 class Maker:
-    """Makes the schedule of a seed. The reference answers each line as it is made, so that most lines ask for what is there."""
+    """Makes the schedule of a seed. The reference answers each line as it is made, so that most lines name groups and packets that are there."""
 
     def __init__(self, seed):
         self.draw = random.Random(seed)
@@ -120,7 +120,7 @@ class Maker:
             return f'{kind} {",".join(members)} {draw.choice([0, 5, 10])} {draw.choice([0, 91])} {draw.choice([0, 1, 7])}'
         return f'{kind} {",".join(members)} {draw.randint(1, 6)} {draw.randint(10, 60)} {draw.randint(1, 4)}'
 
-    # What is asked for
+    # Requests
 
     def some_node(self):
         return self.draw.choice(self.nodes)
@@ -149,7 +149,7 @@ class Maker:
             self.tell(f'open {node.me} {named(address)}')
 
     def advance(self):
-        """The next generation of a room at all nodes, or at most of them."""
+        """Makes the next generation of a room at all nodes, or at most of them."""
         draw = self.draw
         room = draw.choice(self.rooms)
         greatest = max((node.rooms[room].greatest for node in self.nodes if room in node.rooms), default=-1)
@@ -211,7 +211,7 @@ class Maker:
         self.tell(f'fetch {node.me} {named(self.some_address(node))} {start} {draw.choice([0, 1, 16, 16, 17])}')
 
     def look(self, node):
-        """Fetches what is new in each log of a node, or what is last there."""
+        """Fetches the new entries of each log of a node, or its last ones."""
         for address in self.living(node):
             size = len(node.living(address).log())
             self.tell(f'fetch {node.me} {named(address)} {max(0, size - self.draw.randint(1, 16))} 16')
@@ -219,7 +219,7 @@ class Maker:
     # Packets
 
     def two(self):
-        """Two nodes, mostly with something that waits at the first for the second."""
+        """Returns two nodes, mostly with an item that waits at the first for the second."""
         busy = [(node, self.nodes[to]) for node in self.nodes for to in node.links
                 if any(group and group.waiting.get(to) for group in node.places())]
         if busy and self.chance(0.9):
@@ -262,7 +262,7 @@ class Maker:
             self.arrive(len(self.packets))
 
     def late(self):
-        """A packet that was sent before comes, perhaps again."""
+        """Lets a packet arrive that was sent before, perhaps again."""
         if self.packets:
             self.arrive(self.draw.randint(max(1, len(self.packets) - 20), len(self.packets)))
 
@@ -271,13 +271,13 @@ class Maker:
         self.send(f'again {node.me} {to.me} {self.draw.choice([0, 0, 1, 2, 2 ** 64 - 1])}')
 
     def crash(self):
-        """Ticks until others are noticed, but those that were heard in between."""
+        """Ticks until others are noticed, except those that were heard in between."""
         node = self.some_node()
         for _ in range(node.silence if self.has_crashes else 1):
             self.tell(f'tick {node.me}')
 
     def noise(self):
-        """Bytes of a packet that was sent, right or damaged, at some node."""
+        """Makes noise of the bytes of a packet that was sent, right or damaged, at some node."""
         if not self.packets:
             return
         text = bytearray(text_of(self.draw.choice(self.packets)))
@@ -323,7 +323,7 @@ class Maker:
 
 
 def answers_of(lines):
-    """What the reference answers."""
+    """Returns the answers of the reference."""
     return list(Reference().answers(lines))
 
 
@@ -332,7 +332,7 @@ def text_file(lines):
 
 
 def told(text, status):
-    """The lines that a gb_sim wrote, with its exit status behind them where it is not the one that they ask for."""
+    """Returns the lines that a gb_sim wrote, followed by its exit status if that is not the one that they mean."""
     lines = text.splitlines()
     due = '2' if lines and lines[-1].startswith('bad line') else '0'
     return lines if status == due else [*lines, f'status {status}']
@@ -366,7 +366,7 @@ class Sim:
 
 
 def shorter(sim, lines):
-    """As few of these lines as still give other answers than the reference's: none of them can be left out alone."""
+    """Returns the fewest of these lines whose answers still differ from the reference's: none of them can be left out alone."""
     size = len(lines) // 2
     while size:
         before, place = lines, 0
@@ -382,14 +382,14 @@ def shorter(sim, lines):
 
 
 def first_difference(ours, theirs):
-    """How many answers are alike, and the words for the first that are not."""
+    """Returns how many answers are equal, and the words for the first that is not."""
     place = next((at for at, (one, other) in enumerate(zip(ours, theirs)) if one != other), min(len(ours), len(theirs)))
     one, other = (repr(told[place][:200]) if place < len(told) else 'nothing more' for told in (ours, theirs))
     return place, f'answer {place + 1} is {other}, and the reference has {one}'
 
 
 def keep(sim, seed, lines):
-    """Shortens a schedule whose answers differ, keeps it, and tells of it."""
+    """Shortens a schedule whose answers differ, keeps it, and prints where."""
     lines = shorter(sim, lines)
     os.makedirs(KEPT, exist_ok=True)
     path = os.path.join(KEPT, f'seed-{seed}')

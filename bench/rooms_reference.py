@@ -1,13 +1,13 @@
 #!/usr/bin/env python3
-"""A slow gb_sim, by the rules of docs/FORMATS.md and of docs/DEFINITIONS.md and by nothing else: no code of the crates is asked.
+"""A slow gb_sim, by the rules of docs/FORMATS.md and of docs/DEFINITIONS.md and by nothing else: it uses no code of the crates.
 
-    rooms_reference.py < SCHEDULE     writes the answer to each line; status 2 where a line is bad
+    rooms_reference.py < SCHEDULE     writes the answer to each line; status 2 if a line is bad
 
-Everything that a schedule can say is answered: rooms with their generations, all ten kinds of broadcast, links, notices, noise and bad lines.
-At each call a broadcast looks at all that the group was told, and asks its module's two questions of each message. The faults of noise are
-those that bench/vectors.py finds.
+All lines of schedules are answered: rooms with their generations, all ten kinds of broadcast, links, notices, noise and bad lines. At each call a
+broadcast looks at all calls that the group received, and asks its module's two questions of each message. The faults of noise are those that
+bench/vectors.py finds.
 
-Left out are tokens and keys, since each line but a forge comes with the token that it needs; want of memory, which is never answered here; how
+Left out are tokens and keys, because each line except a forge has the token that it needs; refusals for memory, which are never answered here; how
 answers are gathered before they are written; and frame numbers near 2^64, which no schedule reaches.
 """
 import collections
@@ -27,7 +27,7 @@ ROOMS = 1_024  # of all tenants of a node
 WINDOW = 64  # frames of a link
 ENTRIES = 16  # of a fetch
 LONGEST = max(limits.payload for limits in vectors.LIMITS.values())  # payload of any version
-# How many words stand behind the first word of a line.
+# The numbers of words behind the first word of a line.
 WORDS = {'tenant': [6], 'make': [8], 'open': [3], 'shut': [3], 'drop': [3], 'say': [4, 5], 'fetch': [5], 'forge': [3], 'pack': [2], 'again': [3],
          'ack': [2], 'arrive': [1], 'noise': [2], 'tick': [1], 'stop': [1]}
 LINE, LINES = 65_536, 1_000_000  # bytes of a line, lines of a schedule
@@ -42,11 +42,11 @@ Packet = collections.namedtuple('Packet', 'version sender destination base mask 
 
 
 class Refused(Exception):
-    """A request is refused by this name."""
+    """A request is refused with this name."""
 
 
 class BadLine(Exception):
-    """A line is none of the grammar."""
+    """A line is not one of the grammar."""
 
 
 def refuse(name, is_so=True):
@@ -59,7 +59,7 @@ def item_size(version, payload):
 
 
 def text_of(packet):
-    """The bytes of a packet."""
+    """Returns the bytes of a packet."""
     text = struct.pack(vectors.HEAD, b'GB', *packet[:6], len(packet.items))
     for address, message, payload in packet.items:
         named = address if packet.version == 3 else address[:2]
@@ -68,17 +68,17 @@ def text_of(packet):
 
 
 class Group:
-    """A generation that lives at a node: what it was told, and what its broadcast makes of that."""
+    """A generation that lives at a node: the calls that it received, and the effects of its broadcast."""
 
     def __init__(self, me, address, spec):
         self.me, self.address, self.spec = me, address, spec
         self.phase = 'made'
         self.payloads = {}  # of each message that is known, in the order of first mention
-        self.came = set()  # which node had which message
+        self.came = set()  # the pairs of a node and a message that it has
         self.noticed = set()
         self.delivered, self.sent = [], []
         self.waiting = {node: [] for node in spec.members if node != me}
-        self.acknowledged = {}  # the nodes that have an own message for good
+        self.acknowledged = {}  # the nodes that have acknowledged each own message
 
     def holders(self, message):
         return {self.me} | {node for node, told in self.came if told == message}
@@ -96,7 +96,7 @@ class Group:
         return {'beb': origin == self.me, 'lazy': origin == self.me or origin in self.noticed}.get(self.spec.module, True)
 
     def settle(self):
-        """What a call delivers and sends, each in the order of first mention."""
+        """Returns the messages that a call delivers and sends, each in the order of first mention."""
         for message in self.payloads:
             if message not in self.sent and self.is_sent(message):
                 self.sent.append(message)
@@ -106,7 +106,7 @@ class Group:
                 self.delivered.append(message)
 
     def log(self):
-        """What was delivered; in first-in first-out order each origin's messages wait for those before them."""
+        """Returns the delivered messages; in first-in first-out order each origin's messages wait for those before them."""
         if not self.spec.is_fifo:
             return self.delivered
         log, there, top = [], set(), collections.Counter()
@@ -163,13 +163,13 @@ class Group:
             self.settle()
 
     def done(self, node, message):
-        """A node has a message for good."""
+        """Notes that a node has acknowledged a message."""
         if message[0] == self.me and message[1] in self.acknowledged:
             self.acknowledged[message[1]].add(node)
 
 
 class Room:
-    """What a node keeps of a room: the greatest generation made, and the places of those that live."""
+    """The state of a room at a node: the greatest generation made, and the places of those that live."""
 
     def __init__(self):
         self.greatest = -1
@@ -177,7 +177,7 @@ class Room:
 
 
 class Link:
-    """What a node keeps of another node: frames for it that are not done, and the numbers of those that came from it."""
+    """The state of another node at a node: frames for it that are undone, and the numbers of those that came from it."""
 
     def __init__(self):
         self.last, self.undone, self.received = 0, {}, set()
@@ -225,7 +225,7 @@ class Node:
         return [group for room in self.rooms.values() for group in room.places]
 
     def living(self, address):
-        """The generation of this whole address, if it lives here."""
+        """Returns the generation of this whole address, if it lives here."""
         return next((group for group in self.places() if group and group.address == address), None)
 
     def found(self, address):
@@ -279,7 +279,7 @@ class Node:
     # Packets
 
     def walk(self, to):
-        """The places and items that wait for a node, in turns from its cursor on."""
+        """Yields the places and items that wait for a node, in turns from its cursor on."""
         groups = self.places()
         order = [*range(self.cursors[to], len(groups)), *range(self.cursors[to])]
         queues = {place: list(groups[place].waiting.get(to, [])) for place in order if groups[place]}
@@ -290,10 +290,10 @@ class Node:
                     yield place, Item(groups[place].address, message, groups[place].payloads[message])
 
     def batch(self, to):
-        """What a packing takes of the walk; it moves the cursor and takes the items away."""
+        """Returns the items that a packing takes of the walk; it moves the cursor and removes the items."""
         walk = list(self.walk(to))
         sizes = [item_size(self.version, item.payload) for _, item in walk]
-        # Where the first item is longer than the room, there is room for the longest of any version.
+        # If the first item is longer than the room, there is room for the longest of any version.
         room = self.room if not walk or sizes[0] <= self.room else item_size(self.version, bytes(LONGEST))
         count = 0
         while count < len(walk) and sum(sizes[:count + 1]) <= room:
@@ -331,7 +331,7 @@ class Node:
         return self.sent(to, 0, []) if to != self.me else None
 
     def arrives(self, packet):
-        """What came with a packet's frame, the number of its items, and the number of frames that are done by it."""
+        """Returns the result of a packet's frame, the number of its items, and the number of frames that are done by it."""
         sender, frame = packet.sender, packet.frame
         self.ticks[sender] = 0
         link = self.links[sender]
@@ -353,7 +353,7 @@ class Node:
         return 'first', len(packet.items), len(done)
 
     def tick(self):
-        """The nodes that are newly noticed."""
+        """Returns the nodes that are newly noticed."""
         for node in self.links:
             self.ticks[node] += 1
         new = [node for node in self.links if node not in self.noticed and self.ticks[node] >= self.silence]
@@ -418,7 +418,7 @@ class Cluster:
         return self.nodes[number(word, len(self.nodes) - 1)]
 
     def request(self, head, node, words):
-        """What a request's words ask for: a call that gives its reply."""
+        """Returns the call that a request's words mean, which returns its reply."""
         if head == 'tenant':
             tenant, *rest = words
             tenant, asked = number(tenant, 65_535), row(*rest)
@@ -468,7 +468,7 @@ class Cluster:
         return 'ok'
 
     def event(self, head, words):
-        """What a line's words ask for, and the node that must run for it."""
+        """Returns the call that a line's words mean, and the node that must run for it."""
         if len(words) not in WORDS.get(head, ()):
             raise BadLine
         if head == 'arrive':
@@ -498,7 +498,7 @@ class Cluster:
 
 
 def started(head, words):
-    """The cluster that the first words of a schedule ask for."""
+    """Returns the cluster that the first words of a schedule mean."""
     if head == 'cluster' and len(words) == 2:
         nodes, versions, room = number(words[0], 16, 1), None, []
     elif head == 'cluster2' and len(words) in (3, 4):
@@ -519,7 +519,7 @@ class Reference:
         self.cluster, self.count = None, 0
 
     def answer(self, line):
-        """The answer to the next line; nothing where it asks for nothing."""
+        """Returns the answer to the next line, or nothing for a line that asks for nothing."""
         self.count += 1
         if self.count > LINES or len(line) > LINE:
             raise BadLine
@@ -532,7 +532,7 @@ class Reference:
         return 'ok'
 
     def answers(self, lines):
-        """The answers to these lines, up to the first bad one."""
+        """Returns the answers to these lines, up to the first bad one."""
         for line in lines:
             try:
                 text = self.answer(line)

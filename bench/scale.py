@@ -1,6 +1,6 @@
-"""Measures a gb_serve under paced loads: scale.py SERVE PLAY sizes|figures [ROUNDS] [WORDS]. `figures` prints what the sheet of
-bench/capacity.py is made from, the medians of the rounds, and writes them into bench/figures.txt. `sizes` plays loads of three sizes and prints what they cost beside what that sheet says;
-it ends with status 1 where the median of a ratio is not within 30 percent."""
+"""Measures a gb_serve under paced loads: scale.py SERVE PLAY sizes|figures [ROUNDS] [WORDS]. `figures` prints the figures that the sheet of
+bench/capacity.py is made from, the medians of the rounds, and writes them into bench/figures.txt. `sizes` plays loads of three sizes and prints their
+costs beside those of that sheet; it ends with status 1 if the median of a ratio is not within 30 percent."""
 import os
 import statistics
 import subprocess
@@ -18,7 +18,7 @@ SECONDS = 2
 
 
 def paced(kind, members, payload, rate, groups=16, **more):
-    """A load at a rate for some seconds, of as many messages as fit into the groups."""
+    """Returns a load at a rate for some seconds, of as many messages as fit into the groups."""
     each = min(1024, 65536 // payload, load.whole(rate, groups, members, SECONDS))
     return Load(kind, members, groups, payload, each, rate, **more)
 
@@ -28,7 +28,7 @@ def date():
 
 
 def commit():
-    """The commit that is measured: COMMIT of the environment, or this checkout's."""
+    """Returns the commit that is measured: COMMIT of the environment, or this checkout's."""
     folder = os.path.dirname(os.path.abspath(__file__))
     return os.environ.get("COMMIT") or subprocess.run(["git", "-C", folder, "rev-parse", "--short", "HEAD"], capture_output=True, text=True, check=True).stdout.strip()
 
@@ -134,14 +134,14 @@ SIZE_SECONDS = 8
 
 
 def asked_of(share, kind, members, groups, payload):
-    """A load that takes this share of a core by the sheet, for some seconds, where the groups have room for as many messages."""
+    """Returns a load that takes this share of a core by the sheet, for some seconds, if the groups have room for that many messages."""
     rate = share / capacity.message_cost(kind, members, payload, members) * 1e6
     each = min(1024, 65536 // payload, load.whole(rate, groups, members, SIZE_SECONDS))
     return Load(kind, members, groups, payload, each, round(rate))
 
 
 def compared(asked, cost):
-    """What was measured and what is computed for a load, by name: processor time in milliseconds, resident memory in MiB, packets."""
+    """Returns the measured and the computed costs of a load, by name: processor time in milliseconds, resident memory in MiB, packets."""
     each = capacity.message_cost(asked.kind, asked.members, asked.payload, asked.members)
     processor = (each * cost.messages + capacity.idle_cost(asked.members) * asked.members * cost.seconds) / 1e6
     group = capacity.group_memory(asked.kind, asked.members, asked.each, asked.each * asked.payload)
@@ -154,7 +154,7 @@ def compared(asked, cost):
 
 
 def sizes(serve, play, rounds):
-    """Whether each median of a ratio is within 30 percent."""
+    """Returns whether each median of a ratio is within 30 percent."""
     is_near = True
     for name, share, *what in SIZES:
         asked = asked_of(share, *what)

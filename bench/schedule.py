@@ -3,8 +3,8 @@
 broadcast, on a cluster whose nodes all are members: schedule.py LINES [NODES [VERSION [BYTES]]].
 
 There are 4 nodes if not given otherwise, which send packets of version 1 and say payloads of 2 bytes. A node says in four groups, of a
-tenant each, and packs what waits for each other node into one frame. Each group may have 1,024 messages at a node, and at most 65,536
-bytes; what is said beyond that is refused, and nothing waits then.
+tenant each, and packs the items that wait for each other node into one frame. Each group may have 1,024 messages at a node, and at most
+65,536 bytes; a message beyond that is refused, and nothing waits then.
 """
 import sys
 
@@ -61,7 +61,7 @@ def schedule(nodes, version, size):
 
 
 def lines_of(count, nodes=4, version=1, size=2):
-    """The first lines of the schedule."""
+    """Returns the first lines of the schedule."""
     for number, line in enumerate(schedule(nodes, version, size)):
         if number == count:
             return

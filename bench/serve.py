@@ -1,6 +1,6 @@
-"""What gb_serve does over loopback, beside a Redis server where redis-server is there; one program asks both (bench/serve/play.rs).
-Words: gb_serve, that program, the library that loses datagrams (bench/serve/lossy.c), how many requests are made in each measurement,
-and how many rounds. Of rates the best of the rounds is told at the end, of times the round with the least median."""
+"""Measures gb_serve over loopback, beside a Redis server if redis-server is there; one program makes the requests at both
+(bench/serve/play.rs). Words: gb_serve, that program, the library that loses datagrams (bench/serve/lossy.c), how many requests are made in
+each measurement, and how many rounds. Of rates the best of the rounds is printed at the end, of times the round with the least median."""
 import os
 import shutil
 import struct
@@ -27,7 +27,7 @@ def keys(node):
 
 
 def message(command, node, tenant, group, words):
-    """A message of the member of a group at a node."""
+    """Returns a message of the member of a group at a node."""
     return framed(f"{command} {keys(node).member(tenant, group)} {tenant} {group} {words}".encode("ascii"))
 
 
@@ -62,7 +62,7 @@ class Server:
         self.process.wait()
 
     def seconds(self):
-        """Its processor time."""
+        """Returns its processor time."""
         with open(f"/proc/{self.process.pid}/stat") as file:
             fields = file.read().rpartition(")")[2].split()
         return (int(fields[11]) + int(fields[12])) / os.sysconf("SC_CLK_TCK")

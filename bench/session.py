@@ -1,5 +1,5 @@
-"""Keys, tokens and a connection for the scripts here, which send what they like and read replies as they stand: docs/FORMATS.md, "Sessions"
-and "Tokens". A client for programs is the package in clients/python."""
+"""Keys, tokens and a connection for the scripts here, which send any bytes and read replies as they are: docs/FORMATS.md, "Sessions" and
+"Tokens". A client for programs is the package in clients/python."""
 import hashlib
 import hmac
 import socket
@@ -9,7 +9,7 @@ CLUSTER_KEY, ADMIN_KEY, TENANT_KEY = bytes([0x11] * 32), bytes([0x22] * 32), byt
 
 
 def token_for(command, node, tenant, group):
-    """The token that a command needs at a node, in hexadecimal digits."""
+    """Returns the token that a command needs at a node, in hexadecimal digits."""
     if command == 'tenant':
         key, text = ADMIN_KEY, b'A'
     elif command in ('say', 'fetch', 'await'):

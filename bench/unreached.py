@@ -1,7 +1,7 @@
 #!/usr/bin/env python3
 """Finds functions that no program reaches, by name: from each program's `main` over the names that a function's text has. A method of a
-trait's impl is reached where its name occurs in reached text, as any function is. A name is looked for in the crate itself and in those
-below it, so a function counts as reached too easily rather than too rarely.
+trait's impl is reached if its name occurs in reached text, as any function is. A name is looked for in the crate itself and in those below
+it, so a function counts as reached too easily rather than too rarely.
 
     bench/unreached.py [--functions]
 
@@ -15,10 +15,10 @@ import re
 TOP = os.path.dirname(os.path.dirname(os.path.abspath(__file__)))
 HEAD = re.compile(r"^( *)(?:pub(?:\([a-z]+\))? )?(?:const )?(?:unsafe )?fn (\w+)")
 WORD = re.compile(r"[A-Za-z_]\w*")
-# What the scope names for embedding: threads of a host with no loop, sessions over a stream, and the group by itself.
+# The parts that the scope names for embedding: threads of a host with no loop, sessions over a stream, and the group by itself.
 EMBEDDING = ("gb_trace", "gb_alone", "gb_worker", "gb_duties")
-# The same by file: the rings that join such threads; a packet written in one call, where a node writes it as it packs; what a seat has
-# of its calls; and merging the tapes of a host that lacked memory for some events, which the programs tell as an audit fault.
+# The same by file: the rings that join such threads; a packet written in one call, which a node writes as it packs; the calls that a seat
+# has; and merging the tapes of a host that lacked memory for some events, which the programs report as an audit fault.
 EMBEDDED = {
     "crates/gb_port/src/mesh.rt": ("mesh", "connect", "unconnected", "add_inlet", "add_outlet"),
     "crates/gb_frame/src/writing.rt": ("encode",),
@@ -28,7 +28,7 @@ EMBEDDED = {
 
 
 def needs():
-    """Returns, for each crate, those of ours that it stands on, in the order of crates.txt."""
+    """Returns, for each crate, those of ours that it uses, in the order of crates.txt."""
     found = {}
     with open(os.path.join(TOP, "crates.txt")) as file:
         for line in file:
@@ -40,7 +40,7 @@ def needs():
 
 
 def below(crate, stands_on):
-    """Returns the crate and all that it stands on."""
+    """Returns the crate and all crates that it uses."""
     seen, left = set(), [crate]
     while left:
         one = left.pop()
@@ -70,7 +70,7 @@ def without_ghosts(lines):
 
 
 def end_of(lines, at, indent):
-    """Returns the place of the last line of the function whose head is at this place. A declaration ends with a semicolon. A clause may
+    """Returns the index of the last line of the function whose head is at this index. A declaration ends with a semicolon. A clause may
     take several lines; its braces are counted."""
     is_open, depth = False, 0
     for place in range(at, len(lines)):
@@ -131,7 +131,7 @@ def read_all(stands_on):
 
 
 def reached(programs, stands_on, found):
-    """Returns the places (crate and number) of the functions that a program reaches."""
+    """Returns the indices (crate and number) of the functions that a program reaches."""
     by_name = {}
     for crate, ones in found.items():
         for number, one in enumerate(ones):

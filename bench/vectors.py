@@ -1,9 +1,9 @@
 #!/usr/bin/env python3
-"""Vectors of packets, by the rules of docs/FORMATS.md ("Packets") and by nothing else: no code of the crates is asked.
+"""Makes vectors of packets, by the rules of docs/FORMATS.md ("Packets") and by nothing else: it uses no code of the crates.
 
     vectors.py                 prints the lists of vectors
-    vectors.py --check         compares them with docs/FORMATS.md ("Vectors"); status 1 where a line is not the same
-    vectors.py --ask PROGRAM   hands each vector to a node of a built gb_sim, and compares its answers
+    vectors.py --check         compares them with docs/FORMATS.md ("Vectors"); status 1 if a line is not the same
+    vectors.py --ask PROGRAM   gives each vector to a node of a built gb_sim, and compares its answers
 
 Each packet is written from its fields, and read back by the table of faults.
 """
@@ -29,7 +29,7 @@ LIMITS = {1: Limits(16, 1_024, 8_192), 2: Limits(32, 4_096, 16_384), 3: Limits(3
 
 FAULTS = "Short Magic Version Node Mask Count Length Trailing TooLong Tag".split()
 
-# The generations are one for each payload; the form is the struct of an item's header.
+# There is one generation for each payload; the form is the struct of an item's header.
 Packet = collections.namedtuple("Packet", "version sender destination base mask frame payloads generations form")
 
 
@@ -38,7 +38,7 @@ def tag(text):
 
 
 def written(packet):
-    """The text of a packet. Its items are messages 1, 2, .. of its sender in each of their generations of group 1 of tenant 7."""
+    """Returns the text of a packet. Its items are messages 1, 2, .. of its sender in each of their generations of group 1 of tenant 7."""
     text = struct.pack(HEAD, b"GB", *packet[:6], len(packet.payloads))
     said = collections.Counter()
     for generation, payload in zip(packet.generations, packet.payloads):
@@ -49,7 +49,7 @@ def written(packet):
 
 
 def fault(text):
-    """The number of the first fault of some bytes. 0 where they are a packet."""
+    """Returns the number of the first fault of some bytes, or 0 if they are a packet."""
     head, end = struct.calcsize(HEAD), len(text) - TAG
     if len(text) < head + TAG:
         return 1
@@ -86,7 +86,7 @@ def answer(number):
 
 
 def payloads(lengths):
-    """Payloads of these lengths, the first of bytes 61, the next of bytes 62, and so on."""
+    """Returns payloads of these lengths, the first of bytes 61, the next of bytes 62, and so on."""
     return [bytes([0x61 + place]) * length for place, length in enumerate(lengths)]
 
 
@@ -99,7 +99,7 @@ def acknowledgement(version):
     return Packet(version, 1, 0, 1, 2, 0, [], [], ITEM)
 
 
-# What each packet is, the packet, and its fault.
+# The description of each packet, the packet, and its fault.
 SHORT = [
     ("version 1, message 1 of node 0 to node 1", message(1), 0),
     ("the same in version 2", message(2), 0),
@@ -132,13 +132,13 @@ LONG = [
 
 
 def lengths_told(packet):
-    """The lengths of a packet's payloads, as "7 of 1,024, 913"."""
+    """Returns the lengths of a packet's payloads, for instance "7 of 1,024, 913"."""
     counts = collections.Counter(map(len, packet.payloads))
     return ", ".join(f"{count} of {length:,}" if count > 1 else f"{length:,}" for length, count in counts.items())
 
 
 def lists():
-    """The lines of the two lists."""
+    """Returns the lines of the two lists."""
     short, long = [], []
     for what, packet, number in SHORT:
         short += [f"- {what}: {answer(number)}", f"  `{written(packet).hex()}`"]
@@ -154,7 +154,7 @@ def lists():
 
 
 def bullets(lines):
-    """The items of a list, each as one line, wherever its lines end in the page."""
+    """Returns the items of a list, each as one line, however its lines are broken in the page."""
     return re.sub(r"\n  ", " ", "\n".join(lines)).split("\n")
 
 
@@ -163,7 +163,7 @@ def vectors():
 
 
 def check():
-    """Whether docs/FORMATS.md has these lists, and its example is the first vector."""
+    """Returns whether docs/FORMATS.md has these lists, and its example is the first vector."""
     top = os.path.join(os.path.dirname(os.path.abspath(__file__)), "..")
     with open(os.path.join(top, "docs", "FORMATS.md"), encoding="utf-8") as file:
         sections = dict(part.split("\n", 1) for part in re.split(r"^#+ ", file.read(), flags=re.M)[1:])
@@ -180,7 +180,7 @@ def check():
 
 
 def ask(program):
-    """Whether a built gb_sim reads each vector so. It answers `not noise` to what is a packet of the cluster."""
+    """Returns whether a built gb_sim reads each vector in this way. It answers `not noise` to a packet of the cluster."""
     lines = [f"cluster2 32 1000 {','.join('2' * 32)}"]
     expected = ["ok"]
     for packet, number in vectors():

@@ -1,10 +1,10 @@
-"""What `gb_serve --status` costs while its figures are read once a second. A run starts three servers of one node anew: one without the
-option, another without it, and one whose figures are read; which of three ports each of them has is another in each run, since two processes of
-one program differ in their rates too. They are asked in turns, in bursts of a second or so, by one program
-(bench/serve/play.rs); the order of the three is another in each turn. Words: gb_serve, that program, how many fetches are made in a burst
-with 32 ahead (a fifth of that with 1 ahead), how many bursts of each server make a run, and how many runs are made.
-A run prints the median rate of each server, the median of the ratios of the second and of the third to the first within a turn, and
-the server's processor time for a fetch over all bursts of the run, with that of its answers by HTTP. At the end the medians over all turns of all runs
+"""Measures the cost of `gb_serve --status` while its figures are read once a second. A run starts three new servers of one node: one
+without the option, another without it, and one whose figures are read. Which of three ports each of them has changes from run to run,
+because two processes of one program differ in their rates too. Requests are made to them in turns, in bursts of a second or so, by one
+program (bench/serve/play.rs); the order of the three changes from turn to turn. Words: gb_serve, that program, how many fetches are made in
+a burst with 32 ahead (a fifth of that with 1 ahead), how many bursts of each server make a run, and how many runs are made. A run prints
+the median rate of each server, the median of the ratios of the second and of the third to the first within a turn, and the server's
+processor time for a fetch over all bursts of the run, with that of its answers by HTTP. At the end the medians over all turns of all runs
 are printed, and the least and the greatest of the runs' medians."""
 import glob
 import statistics
@@ -49,7 +49,7 @@ def prepare(port):
 
 
 def seconds(server):
-    """The processor time of all threads of a server; all live until it ends."""
+    """Returns the processor time of all threads of a server; all live until it ends."""
     total = 0
     for path in glob.glob(f"/proc/{server.process.pid}/task/*/schedstat"):
         with open(path) as file:
@@ -58,7 +58,7 @@ def seconds(server):
 
 
 def burst(play, server, port, path, ahead, count):
-    """Fetches a second, and the server's processor time."""
+    """Returns the fetches a second, and the server's processor time."""
     before = seconds(server)
     done = subprocess.run([play, "rate", "session", str(port + 64), "1", str(ahead), path, str(count)], capture_output=True, text=True, timeout=300)
     assert done.returncode == 0, done.stderr
@@ -90,7 +90,7 @@ def report(what, rates, spent):
 
 
 def run_anew(program, play, path, count, turns, number):
-    """A run with three servers of its own: for 1 and for 32 ahead, the rates of each and its microseconds for a fetch."""
+    """Makes a run with three servers of its own: returns, for 1 and for 32 ahead, the rates of each and its microseconds for a fetch."""
     ports = [PORTS[(who + number) % len(PORTS)] for who in range(len(PORTS))]
     words = [[program, "--nodes", "1", "--base-port", str(port)] for port in ports]
     words[2] += ["--status", f"127.0.0.1:{STATUS}"]

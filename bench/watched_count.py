@@ -1,6 +1,6 @@
-"""How many instructions a fetch takes of a node's loop at a server without and with `--status`, whose figures are read once a second, by valgrind's
-callgrind: unlike a rate that is a number which a busy machine hardly changes. Words: gb_serve, bench/serve/play.rs as a program, how many
-fetches are made of each server, 50,000 if not given, and how many pairs of servers are run, 3 if not given."""
+"""Counts the instructions of a node's loop for a fetch at a server without and with `--status`, whose figures are read once a second, by valgrind's
+callgrind: unlike a rate, this number hardly changes on a busy machine. Words: gb_serve, bench/serve/play.rs as a program, how many fetches are made
+of each server, 50,000 if not given, and how many pairs of servers are run, 3 if not given."""
 import glob
 import os
 import re
@@ -14,7 +14,7 @@ from watched import PORTS, STATUS, Reader, prepare
 
 
 def counts(folder):
-    """The instructions of each thread but the first, which callgrind numbers in the order in which they began: the loop, and the desk."""
+    """Returns the instructions of each thread but the first, which callgrind numbers in the order in which they began: the loop, and the desk."""
     found = []
     for path in sorted(glob.glob(f"{folder}/out-*")):
         with open(path, errors="replace") as file:
@@ -23,7 +23,7 @@ def counts(folder):
 
 
 def run(program, play, path, count, is_watched):
-    """The instructions of a loop for a fetch, those of the desk in all, and how often the figures were read."""
+    """Returns the instructions of a loop for a fetch, those of the desk in all, and how often the figures were read."""
     with tempfile.TemporaryDirectory() as folder:
         words = ["valgrind", "--tool=callgrind", "--separate-threads=yes", f"--callgrind-out-file={folder}/out",
                  program, "--nodes", "1", "--base-port", str(PORTS[0])]

@@ -1,10 +1,10 @@
 #!/usr/bin/env python3
-"""Tries the wrong bodies that the gate leaves out (crates/NAME/wrong-bodies/*.edit), as `rt must-fail` tries those of must-fail: the prover must
-refuse each. For each such crate this costs one more check of the whole crate, which is why they do not stand in the gate.
+"""Tries the mutants that the gate leaves out (crates/NAME/wrong-bodies/*.edit), as `rt must-fail` tries those of must-fail: the prover must
+refuse each. For each such crate this costs one more check of the whole crate, which is why they are not in the gate.
 
     bench/wrong_bodies.py [CRATE..]
 
-All crates that have some, if none is named. Crates below are built first, where they have changed. A line tells of each; status 1: one was not
+All crates that have some, if none is named. Crates below are built first, if they have changed. A line reports each; status 1: one was not
 refused. RT names another `rt`."""
 import glob
 import importlib.machinery
@@ -17,7 +17,7 @@ TOP = os.path.dirname(os.path.dirname(os.path.abspath(__file__)))
 
 
 def load_rt():
-    """The toolchain's command as a module, whose ways of trying an edit are the gate's."""
+    """Returns the toolchain's command as a module, which tries an edit in the same way as the gate."""
     path = os.path.realpath(shutil.which(os.environ.get("RT", "rt")))
     loader = importlib.machinery.SourceFileLoader("rt", path)
     module = importlib.util.module_from_spec(importlib.util.spec_from_loader("rt", loader))

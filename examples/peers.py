@@ -1,19 +1,19 @@
 #!/usr/bin/env python3
-"""A cluster of three nodes and a spare, as four processes on loopback: what dies, is cut off, comes back, and is sent again.
+"""A cluster of three nodes and a spare, as four processes on loopback: a node dies, is cut off and comes back, and packets are sent again.
 
     peers.sh [PORT [SECONDS [PASS]]]
 
-Every packet goes through a relay (relay.py) that can lose, repeat, reorder, part, capture and replay. Node 3 is the spare: it serves
-from the start, and is in no group until a node dies. The walk has two passes, `whole` and `lossy`, the second with a network that loses,
-repeats and reorders 5 percent each; PASS is one of them, both if not given. In each pass a run of the cluster goes through all that can
-happen to it, and the next run begins from nothing. After each stage all logs are fetched and compared: each message stands once, as it
-was said; where the kind keeps the order it is kept; no message of a running member is missing at another; and all running members have
-the same messages.
+Every packet goes through a relay (relay.py) that can lose, repeat, reorder, part, capture and replay. Node 3 is the spare: it serves from
+the start, and is in no group until a node dies. The walk has two passes, `whole` and `lossy`, the second with a network that loses, repeats
+and reorders 5 percent each; PASS is one of them, both if not given. In each pass a run of the cluster goes through all these stages, and
+the next run begins from nothing. After each stage all logs are fetched and compared: each message is there once, as it was said; if the
+kind keeps an order, it is kept; no message of a running member is missing at another; and all running members have the same messages.
 
-A step prints one line. The walk ends with status 0 and `closed`, or with status 1 at the first thing that is not so, with the reason. All
+A step prints one line. The walk ends with status 0 and `closed`, or with status 1 at the first check that fails, with the reason. All
 processes end with it. PORT, 24000 if not given, and 250 ports above it are used. SECONDS, 3 if not given and 2 to 20, is the silence after
-which a node is noticed: on a machine that is so loaded that a process stands still for seconds, take more. PEER and CTL name the programs if not bin/gb_peer and
-bin/gb_ctl. It needs Python 3.9 and nothing else; a tunnel to a session is tried where stunnel, or ssh and sshd, are installed.
+which a node is noticed: on a machine that is so loaded that a process pauses for seconds, take more. PEER and CTL name the programs if not
+bin/gb_peer and bin/gb_ctl. It needs Python 3.9 and nothing else; a tunnel to a session is tested if stunnel, or ssh and sshd, are
+installed.
 """
 
 from __future__ import annotations
@@ -41,20 +41,20 @@ NODES = (0, 1, 2, 3)
 TENANT = 7
 TICK = 50  # milliseconds
 LIMIT = 90.0
-"""How long a stage may take, in seconds."""
+"""The longest time of a stage, in seconds."""
 
 KINDS = ("fallack", "flazy", "eager", "fmajority")
 """The kinds of the groups that each stage speaks in; the first is the all-ack one."""
 
 PASSES = {"whole": (7, 0), "lossy": (9, 5)}
-"""The first of the two runs of each pass, and how many percent of the packets are lost, are repeated and are reordered."""
+"""The first of the two runs of each pass, and the percentage of packets that are lost, that are repeated and that are reordered."""
 
 Message = Tuple[int, int]
 """The node that said it, and its number."""
 
 
 class Wrong(Exception):
-    """Something is not as it should be. The text says what."""
+    """A check failed. The text says which."""
 
 
 def tell(text: str) -> None:
@@ -63,7 +63,7 @@ def tell(text: str) -> None:
 
 
 def wait_for(what: str, holds: Callable[[], bool], seconds: float = LIMIT) -> float:
-    """Wait until something holds, and return how long that took. Wrong if it does not in time."""
+    """Wait until something holds, and return how long that took. Raises Wrong if it does not hold in time."""
     begun = time.monotonic()
     while not holds():
         if time.monotonic() - begun > seconds:
@@ -79,7 +79,7 @@ def names(nodes: Sequence[int]) -> str:
 
 
 class Node:
-    """What one machine has: a folder, a cluster file, a process, and a client that asks it."""
+    """A machine: a folder, a cluster file, a process, and a client of its node."""
 
     def __init__(self, cluster: Cluster, number: int) -> None:
         self.cluster = cluster
@@ -124,7 +124,7 @@ class Node:
             self.process.stdin.write(text.encode("ascii"))
             self.process.stdin.flush()
         except OSError:
-            pass  # It has ended, which its lines tell.
+            pass  # It has ended, as its lines say.
 
     def start(self, run: int) -> None:
         """Start the node, and wait until it serves."""
@@ -147,7 +147,7 @@ class Node:
             try:
                 self.process.stdin.close()
             except OSError:
-                pass  # What could not be written any more.
+                pass  # The bytes could no longer be written.
         self.client.close()
 
     def status(self, what: str) -> int:
@@ -178,7 +178,7 @@ class Node:
         return {name: int(value) for name, _, value in rows if value.isdigit()}
 
     def figure(self, name: str, label: str = "") -> int:
-        """Return one of the figures. `label` is as `fault="tag"`."""
+        """Return one of the figures. `label` is for instance `fault="tag"`."""
         labels = ",".join(part for part in (f'node="{self.number}"', label) if part)
         found = self.figures().get(f"{name}{{{labels}}}")
         if found is None:
@@ -187,10 +187,10 @@ class Node:
 
 
 class Cluster:
-    """Nodes behind a relay, with the folder and the keys of all that is started."""
+    """Nodes behind a relay, with the folder and the keys of all processes."""
 
     def __init__(self, folder: str, port: int, silence: int, peer: str, ctl: str) -> None:
-        """Makes the folders and starts the relay. `silence` is in seconds. OSError if the relay cannot have its ports."""
+        """Make the folders and start the relay. `silence` is in seconds. Raises OSError if the relay cannot have its ports."""
         self.folder = folder
         self.port = port
         self.silence = silence
@@ -206,7 +206,7 @@ class Cluster:
         self.others: List[subprocess.Popen[bytes]] = []
 
     def session_port(self, node: int) -> int:
-        """Return the port of a node's sessions, which is where `gb_ctl --port` finds it."""
+        """Return the port of a node's sessions, where `gb_ctl --port` finds it."""
         return self.port + 64 + node
 
     def status_port(self, node: int) -> int:
@@ -214,7 +214,7 @@ class Cluster:
         return self.port + 128 + node
 
     def tunnel_port(self) -> int:
-        """Return the port that `gb_ctl --port` is given to ask through a tunnel."""
+        """Return the number for `gb_ctl --port` that leads through a tunnel."""
         return self.port + 160
 
     def file_of(self, node: int, run: int) -> str:
@@ -234,7 +234,7 @@ class Cluster:
         return answer
 
     def ask(self, node: Optional[int], *words: str, port: Optional[int] = None) -> str:
-        """Ask by gb_ctl, and return what it prints. Wrong if it does not end with status 0."""
+        """Make a request by gb_ctl, and return its output. Raises Wrong if it does not end with status 0."""
         at = [] if node is None else ["--node", str(node)]
         command = [self.ctl, "--port", str(port or self.port), *at, "--secrets", self.secrets, "--wait", "30", *words]
         done = subprocess.run(command, stdout=subprocess.PIPE, stderr=subprocess.STDOUT, text=True, timeout=120)
@@ -243,7 +243,7 @@ class Cluster:
         return done.stdout
 
     def close(self) -> None:
-        """End all that was started."""
+        """End all processes."""
         for node in self.nodes:
             node.kill()
         self.end_others()
@@ -254,7 +254,7 @@ class Cluster:
         self.others.append(subprocess.Popen(words, stdin=subprocess.DEVNULL, stdout=subprocess.DEVNULL, stderr=subprocess.DEVNULL))
 
     def await_others(self, port: int) -> str:
-        """Wait until something listens at a port. Returns why nothing does, or nothing."""
+        """Wait until something listens at a port. Returns why nothing does, or an empty text."""
         for _ in range(100):
             if any(process.poll() is not None for process in self.others):
                 break
@@ -284,7 +284,7 @@ class Cluster:
 
 
 class Book:
-    """What was said in a run, and what every log has to be after it."""
+    """The messages that were said in a run, and the logs that must follow from them."""
 
     def __init__(self, cluster: Cluster, run: int) -> None:
         self.cluster = cluster
@@ -307,7 +307,7 @@ class Book:
             self._said[number], self._answered[number], self._delivered[number] = {}, set(), set()
 
     def say(self, node: int, groups: Sequence[int], count: int, killed: bool = False) -> None:
-        """Say messages at a node in some groups. With `killed` its process is killed before the answers are read."""
+        """Say messages at a node in some groups. With `killed` its process is killed before the replies are read."""
         client = self.cluster.nodes[node].client
         with client.pipeline() as ahead:
             tickets = []
@@ -340,7 +340,7 @@ class Book:
             raise Wrong(f"node {node}, group {group}: a fetch is answered {error!r}") from error
 
     def messages(self, node: int, group: int) -> Set[Message]:
-        """Return which messages a log has. Wrong where one is not as it was said, stands twice, or is out of order."""
+        """Return the messages of a log. Raises Wrong if one is not as it was said, is there twice, or is out of order."""
         entries = self.log(node, group)
         where = f"node {node}, group {group} ({self.kinds[group]})"
         found: Set[Message] = set()
@@ -358,14 +358,14 @@ class Book:
         return found
 
     def is_uniform(self, group: int) -> bool:
-        """Return True if a message that one member delivers has to be delivered by all that run, also where that one stops."""
+        """Return True if a message that one member delivers has to be delivered by all that run, also if that one stops."""
         return self.kinds[group].endswith(("allack", "majority"))
 
     def missing(self, group: int, running: Sequence[int]) -> Optional[str]:
-        """Return what a log of a running member lacks. None if it lacks nothing."""
+        """Return what a log of a running member lacks, or None if it lacks nothing."""
         logs = {node: self.messages(node, group) for node in running}
         owed = {message for message in self._answered[group] if message[0] in running}
-        if self.is_uniform(group):  # What one member delivered, each running one has to.
+        if self.is_uniform(group):  # Each running member has to deliver what one member delivered.
             owed |= self._delivered[group]
         owed = owed.union(*logs.values())
         for node, log in logs.items():
@@ -375,12 +375,12 @@ class Book:
         return None
 
     def note_delivered(self, node: int, groups: Sequence[int]) -> None:
-        """Note what a member has delivered that is about to stop: the others owe it, where the kind is uniform."""
+        """Note what a member has delivered that is about to stop: the others must deliver it too if the kind is uniform."""
         for group in groups:
             self._delivered[group] |= self.messages(node, group)
 
     def settle(self, groups: Sequence[int], running: Sequence[int]) -> int:
-        """Wait until the running members of groups miss nothing. Returns how many entries their logs have in all."""
+        """Wait until the running members of groups lack nothing. Returns how many entries their logs have in all."""
         total = 0
         for group in groups:
             what: List[Optional[str]] = [None]
@@ -397,7 +397,7 @@ class Book:
                 raise Wrong(f"{what[0]} after {LIMIT:g} seconds") from None
         time.sleep(0.5)
         for group in groups:
-            lack = self.missing(group, running)  # Nothing more has come that is not everywhere.
+            lack = self.missing(group, running)  # All entries that came are everywhere.
             if lack is not None:
                 wait_for(lack, lambda: self.missing(group, running) is None)
             total += sum(len(self.log(node, group)) for node in running)
@@ -416,7 +416,7 @@ class Stages:
         self.harm(percent)
 
     def harm(self, percent: int) -> None:
-        """Have the relay lose, repeat and reorder so much each."""
+        """Let the relay lose, repeat and reorder this percentage each."""
         for word in ("lose", "repeat", "reorder"):
             self.cluster.order(f"{word} {percent}")
 
@@ -436,7 +436,7 @@ class Stages:
         )
 
     def expect_notices(self, wanted: Mapping[int, int]) -> None:
-        """See that nodes have noticed as many others as each should, and no more."""
+        """Check that nodes have noticed as many others as each should, and no more."""
         for node, count in wanted.items():
             found = self.noticed(node)
             if found != count:
@@ -448,7 +448,7 @@ class Stages:
             self.cluster.nodes[node].start(self.run)
 
     def take_tenant_in(self) -> None:
-        """Take the tenant in at every node."""
+        """Add the tenant at every node."""
         for node in NODES:
             self.cluster.ask(node, "tenant", str(TENANT), "64", "1024", "65536", "1024")
 
@@ -499,7 +499,7 @@ class Stages:
         self.tell(f"node 2 is started again and refused: {wanted}")
 
     def use_the_spare(self) -> None:
-        """Make groups with node 3 in the place of node 2."""
+        """Make groups with node 3 instead of node 2."""
         self.book.make(11, (0, 1, 3))
         total = self.speak((11, 12, 13, 14), (0, 1, 3), (0, 1, 3))
         self.tell(f"new groups have the spare, node 3, in place of node 2; the {total} entries of their logs are all that was said")
@@ -592,7 +592,7 @@ class Stages:
         self.tell(f"{sent} packets of run {self.run - 1} are sent again: {counted} counted as tag faults, no log changes")
 
     def steady(self, nodes: Sequence[int], name: str, label: str, above: Optional[Mapping[int, int]] = None) -> Dict[int, int]:
-        """Return a figure of each node once it counts no more, and more than in `above` at each. Wrong if it is not in time."""
+        """Return a figure of each node once it grows no more, and is above `above` at each. Raises Wrong if it is not in time."""
         what = f"figure {name} with {label} of each of nodes {names(nodes)} is above {dict(above or {})}"
         found: List[Dict[int, int]] = [{}]
 
@@ -606,7 +606,7 @@ class Stages:
         return found[0]
 
     def tunnel(self, name: str, begin: Callable[[Cluster], str]) -> None:
-        """Speak at node 0 by way of a tunnel to its sessions, or say why there is none."""
+        """Say messages at node 0 through a tunnel to its sessions, or print why there is none."""
         why = begin(self.cluster)
         if why:
             self.tell(f"a tunnel by {name} is left out: {why}")
@@ -633,14 +633,14 @@ def has_connection(port: int) -> bool:
 
 
 def run_quietly(*words: str) -> None:
-    """Run a program to its end. Wrong if it fails."""
+    """Run a program to its end. Raises Wrong if it fails."""
     done = subprocess.run(words, stdin=subprocess.DEVNULL, stdout=subprocess.PIPE, stderr=subprocess.STDOUT, text=True)
     if done.returncode != 0:
         raise Wrong(f"{' '.join(words)}: status {done.returncode}, {done.stdout.strip()!r}")
 
 
 def begin_stunnel(cluster: Cluster) -> str:
-    """Begin a tunnel by TLS: one stunnel before node 0's sessions, one beside the client. Returns why not, or nothing."""
+    """Start a tunnel by TLS: one stunnel before node 0's sessions, one beside the client. Returns why not, or an empty text."""
     stunnel = shutil.which("stunnel") or shutil.which("stunnel4")
     if stunnel is None or shutil.which("openssl") is None:
         return "stunnel and openssl are not both installed"
@@ -661,7 +661,7 @@ def begin_stunnel(cluster: Cluster) -> str:
 
 
 def begin_ssh(cluster: Cluster) -> str:
-    """Begin a tunnel by ssh, to an sshd of its own. Returns why not, or nothing."""
+    """Start a tunnel by ssh, to an sshd of its own. Returns why not, or an empty text."""
     ssh, sshd = shutil.which("ssh"), shutil.which("sshd", path=os.environ.get("PATH", "") + ":/usr/sbin:/sbin")
     if ssh is None or sshd is None:
         return "ssh and sshd are not both installed"
@@ -707,7 +707,7 @@ def end_by_signal(number: int, _: object) -> None:
 
 
 def main(words: Sequence[str]) -> int:
-    """Return the status: 0, 1 at the first thing that is not so, or 2 for wrong words or a missing program."""
+    """Return the status: 0, 1 at the first check that fails, or 2 for wrong words or a missing program."""
     port, silence, only = (*words, *("24000", "3", "")[len(words) :])[:3]
     if len(words) > 3 or not (port + silence).isdecimal() or not (1024 <= int(port) <= 65_000 and 2 <= int(silence) <= 20) or only not in ("", *PASSES):
         print(__doc__)

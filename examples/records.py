@@ -1,13 +1,13 @@
 #!/usr/bin/env python3
-"""A cluster of three processes that keep records while they serve, and what gb_audit says of these.
+"""A cluster of three processes that keep records while they serve, and the audits of these records by gb_audit.
 
     records.sh [PORT]
 
-Clients ask all three nodes at once. In their midst node 2 is ended by SIGKILL; the others go on, and end in order. Then their records are
-audited: all that the three did is one run of the cluster. After that copies of the records are changed, each in one way, and each change is
-told by its own verdict. At last a node is given no room for its record, and ends with the reason.
+Clients make requests at all three nodes at once. Meanwhile node 2 is ended by SIGKILL; the others go on, and end in order. Then their
+records are audited: they are one run of the cluster. After that copies of the records are changed, each in one way, and each change has a
+verdict of its own. At last a node has no room for its record, and ends with the reason.
 
-A step prints one line. The walk ends with status 0 and `closed`, or with status 1 at the first thing that is not so, with the reason. All
+A step prints one line. The walk ends with status 0 and `closed`, or with status 1 at the first check that fails, with the reason. All
 processes end with it. PORT, 26000 if not given, and 70 ports above it are used. PEER, CTL and AUDIT name the programs if not bin/gb_peer,
 bin/gb_ctl and bin/gb_audit. It needs Python 3.9 and nothing else.
 """
@@ -39,7 +39,7 @@ LIMIT = 90.0
 
 
 class Wrong(Exception):
-    """Something is not as it should be. The text says what."""
+    """A check failed. The text says which."""
 
 
 def tell(text: str) -> None:
@@ -50,7 +50,7 @@ def tell(text: str) -> None:
 
 
 def wait_for(what: str, holds: Callable[[], bool]) -> None:
-    """Wait until something holds. Wrong if it does not in time."""
+    """Wait until something holds. Raises Wrong if it does not hold in time."""
     begun = time.monotonic()
     while not holds():
         if time.monotonic() - begun > LIMIT:
@@ -73,7 +73,7 @@ class Cluster:
         self.processes: Dict[int, subprocess.Popen[bytes]] = {}
 
     def start(self, run: int, node: int, most: Optional[int] = None) -> None:
-        """Start a node, of whose files none may have more bytes than these."""
+        """Start a node, none of whose files may have more than `most` bytes."""
         path = os.path.join(self.folder, f"run-{run}.toml")
         lines = [f"run = {run}", "tick = 20", "silence = 250", "version = 3"]
         for other in NODES:
@@ -105,7 +105,7 @@ class Cluster:
             return file.read().splitlines()
 
     def ask(self, *words: str) -> None:
-        """Ask by gb_ctl. Wrong if it does not end with status 0."""
+        """Make a request by gb_ctl. Raises Wrong if it does not end with status 0."""
         command = [self.ctl, "--port", str(self.port), "--secrets", self.secrets, "--wait", "30", *words]
         done = subprocess.run(command, stdout=subprocess.PIPE, stderr=subprocess.STDOUT, text=True, timeout=120)
         if done.returncode != 0:
@@ -122,7 +122,7 @@ class Cluster:
             return client.status()["nodes_noticed"]
 
     def make(self) -> None:
-        """Take the tenant in at each node, and make and open a group of each kind."""
+        """Add the tenant at each node, and make and open a group of each kind."""
         for node in NODES:
             self.ask("--node", str(node), "tenant", str(TENANT), "4", "1000", "65536", "1000")
         for group, kind in enumerate(KINDS, 1):
@@ -156,7 +156,7 @@ class Cluster:
 
 
 def load(cluster: Cluster, node: int, is_over: threading.Event, replies: Dict[int, int]) -> None:
-    """Say and fetch at a node, 8 requests ahead, until it is over or the node does not answer any more.
+    """Say and fetch at a node, 8 requests ahead, until `is_over` is set or the node no longer replies.
 
     The pace keeps a load over the seconds until a killed node is noticed, and the records short enough for many audits.
     """
@@ -200,7 +200,7 @@ def run_killed(cluster: Cluster, run: int) -> None:
 
 
 def expect(what: str, found: Tuple[int, List[str]], status: int, line: str) -> None:
-    """Expect an audit's status, and a line of it."""
+    """Check an audit's status, and that it has this line."""
     if found[0] != status or not any(re.fullmatch(line, told) for told in found[1]):
         raise Wrong(f"{what}: the audit ended with status {found[0]} and told {found[1]}")
     told = next(told for told in found[1] if re.fullmatch(line, told))
@@ -222,14 +222,14 @@ class Changes:
         self.lines = {node: read(cluster.path(run, node, "record")) for node in NODES}
 
     def place(self, node: int, pattern: str, number: int = 0) -> int:
-        """Return the place of a line of a node's record that has such a text."""
+        """Return the index of a line of a node's record that matches the pattern."""
         found = [at for at, line in enumerate(self.lines[node]) if re.search(pattern, line)]
         if len(found) <= number:
             raise Wrong(f"the record of node {node} has no line with {pattern}")
         return found[number]
 
     def audited(self, changed: Dict[int, List[str]]) -> Tuple[int, List[str]]:
-        """Return what an audit says of the records with these in the place of theirs."""
+        """Return the audit of the records, some of which are replaced by these."""
         folder = tempfile.mkdtemp(dir=self.cluster.folder)
         names = []
         for node in NODES:
@@ -240,27 +240,27 @@ class Changes:
         return self.cluster.audited(self.run, names)
 
     def answer(self) -> None:
-        """Another answer to a say."""
+        """Change the answer to a say."""
         at = self.place(0, r" say .* > said 5$")
         lines = list(self.lines[0])
         lines[at] = lines[at].replace("> said 5", "> said 6")
         expect("an answer was changed", self.audited({0: lines}), 1, rf"audit fault 3 node-0 line {at + 1}")
 
     def dropped(self) -> None:
-        """An entry is left out."""
+        """Leave an entry out."""
         at = self.place(1, r" say 1 7 1 .* > said 5$")
         lines = [line for place, line in enumerate(self.lines[1]) if place != at]
         expect("an entry was left out", self.audited({1: lines}), 1, r"audit fault 3 node-1 line \d+")
 
     def exchanged(self) -> None:
-        """Two entries are exchanged."""
+        """Exchange two entries."""
         first, second = (self.place(1, rf" say 1 7 1 .* > said {number}$") for number in (5, 6))
         lines = list(self.lines[1])
         lines[first], lines[second] = lines[second], lines[first]
         expect("two entries were exchanged", self.audited({1: lines}), 1, rf"audit fault 3 node-1 line {first + 1}")
 
     def strange(self) -> None:
-        """A packet that came is one that its sender has not sent: the entry that sent it is gone."""
+        """Leave out the entry that sent a packet, so that the packet that came is one that its sender has not sent."""
         came = {line.split(" ")[4] for line in self.lines[1] if " came 1 " in line}
         sent = [line.rstrip("\n").rpartition(" > packet ")[2] for line in self.lines[0]]
         for at, line in enumerate(self.lines[0]):
@@ -271,28 +271,28 @@ class Changes:
         raise Wrong("no acknowledgement of node 0 that it sent once came to node 1")
 
     def heads(self) -> None:
-        """The entries of two nodes are exchanged."""
+        """Exchange the entries of two nodes."""
         changed = {0: self.lines[0][:1] + self.lines[1][1:], 1: self.lines[1][:1] + self.lines[0][1:]}
         expect("the entries of two files were exchanged", self.audited(changed), 1, "bad line 2 of node-0")
 
     def twice(self) -> None:
-        """One node's record stands in the place of another's."""
+        """Replace one node's record by another's."""
         expect("a file stood in for another", self.audited({1: self.lines[0]}), 1, "not one cluster: node-1")
 
     def cut(self) -> None:
-        """A file is shortened."""
+        """Shorten a file."""
         whole = "".join(self.lines[0])
         lines = [whole[: len(whole) // 2]]
         expect("a file was shortened", self.audited({0: lines}), 3, r"left node-1 line \d+ entries \d+ awaits 0")
 
     def other_run(self, run: int) -> None:
-        """The record of a node is of another run."""
+        """Replace the record of a node by one of another run."""
         lines = read(self.cluster.path(run, 1, "record"))
         expect("a record is of another run", self.audited({1: lines}), 1, r"other keys node-1 line \d+")
 
 
 def walk(cluster: Cluster) -> None:
-    """Do what the top of this file says."""
+    """Do the steps of the docstring of this file."""
     run_killed(cluster, 1)
     names = [cluster.path(1, node, "record") for node in NODES]
     if any(os.stat(name).st_mode & 0o777 != 0o600 for name in names):

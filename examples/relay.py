@@ -1,18 +1,18 @@
 #!/usr/bin/env python3
-"""A relay between the nodes of a cluster. It carries their packets, and does to them on command what a bad network does.
+"""A relay between the nodes of a cluster. It carries their packets, and does the harm of a bad network to them on command.
 
     relay.py --nodes ADDRESS,ADDRESS.. --base-port P [--seed S]
 
-ADDRESS is where a node binds its packets, node 0 first, as 127.0.0.1:24000. Each ordered pair of N nodes has a UDP port of its own on
-127.0.0.1: what node I sends to port P + N * I + J goes on to node J, and comes to it from the port that node J sends to for node I. So
-the cluster file of node I names port P + N * I + J as the `packets` of each other node J, and its own ADDRESS as its own.
+ADDRESS is where a node binds its packets, node 0 first, for instance 127.0.0.1:24000. Each ordered pair of N nodes has a UDP port of its
+own on 127.0.0.1: packets that node I sends to port P + N * I + J are sent on to node J, and come to it from the port that node J sends to
+for node I. So the cluster file of node I names port P + N * I + J as the `packets` of each other node J, and its own ADDRESS as its own.
 
 Commands are lines on standard input. Each is answered by a line on standard output: `ok`, what is named here, or `bad command: WHY`.
 
-    lose PERCENT       so much of what comes is not carried; 0 to begin with, as all that follows
-    repeat PERCENT     so much is carried twice, the second time up to 20 milliseconds later
-    reorder PERCENT    so much is held back for up to 20 milliseconds, so that later datagrams pass it
-    delay MS           everything is held back for MS milliseconds
+    lose PERCENT       this percentage of the datagrams is not carried; 0 at first, as all below
+    repeat PERCENT     this percentage is carried twice, the second time up to 20 milliseconds later
+    reorder PERCENT    this percentage is held back for up to 20 milliseconds, so that later datagrams pass it
+    delay MS           every datagram is held back for MS milliseconds
     part I [J]         nothing is carried between node I and the others, or node J, either way
     join [I [J]]       it is carried again; without a node between all
     capture FILE       each datagram that is carried is written into FILE from now on; `capture off` ends it
@@ -41,20 +41,20 @@ Address = Tuple[str, int]
 Pair = Tuple[int, int]
 
 HELD = 0.020
-"""How long at most a repetition or a reordered datagram is held back, in seconds."""
+"""The longest time for which a repetition or a reordered datagram is held back, in seconds."""
 
 PACE = 0.001
 BYTES = 2_000_000
-"""The time between two datagrams of a replay, in seconds, and how many bytes go in a second: their receivers keep up with that."""
+"""The time between two datagrams of a replay, in seconds, and the bytes that are sent in a second, with which receivers keep up."""
 
 
 class Relay:
     """A relay that carries datagrams, in a thread of its own, from `start` to `close`."""
 
     def __init__(self, nodes: Sequence[Address], base_port: int, seed: int = 1) -> None:
-        """Binds the ports. OSError if one is taken.
+        """Bind the ports. Raises OSError if one is taken.
 
-        `seed` is the chance's: which datagrams are lost, repeated and reordered.
+        `seed` determines which datagrams are lost, repeated and reordered.
         """
         self.nodes = list(nodes)
         self.base_port = base_port
@@ -82,7 +82,7 @@ class Relay:
             raise
 
     def port(self, sender: int, receiver: int) -> int:
-        """Return the port to which a node sends what is for another."""
+        """Return the port to which a node sends the packets for another."""
         return self.base_port + len(self.nodes) * sender + receiver
 
     def start(self) -> None:
@@ -90,7 +90,7 @@ class Relay:
         self._thread.start()
 
     def close(self) -> None:
-        """Carry nothing more, and give the ports and the capture's file up. A second call does nothing."""
+        """Carry nothing more, and free the ports and the capture's file. A second call does nothing."""
         with self._lock:
             self._is_over = True
         if self._thread.is_alive():
@@ -99,7 +99,7 @@ class Relay:
         self._end_capture()
 
     def command(self, line: str) -> str:
-        """Do what a line says, but for `quit`, and return the answer, without a line feed."""
+        """Do the command of a line, except `quit`, and return the answer, without a line feed."""
         words = line.split()
         commands: Dict[str, Callable[..., str]] = {
             "lose": lambda percent: self._set("lose", percent),
@@ -215,7 +215,7 @@ class Relay:
                     wait = self._send_held()
 
     def _read(self, pair: Pair) -> None:
-        """Take what waits at a port, at most 64 datagrams."""
+        """Take the datagrams that wait at a port, at most 64."""
         for _ in range(64):
             try:
                 data = self._sockets[pair].recv(65_536)
@@ -245,7 +245,7 @@ class Relay:
             self._carry(pair, data, wait + self._random.uniform(0, HELD))
 
     def _falls(self, name: str) -> bool:
-        """Return True for the share of the calls that a command asked for."""
+        """Return True for the percentage of the calls that a command set."""
         return self._random.uniform(0, 100) < self._percent[name]
 
     def _carry(self, pair: Pair, data: bytes, wait: float) -> None:
@@ -255,7 +255,7 @@ class Relay:
             self._send(pair, data)
 
     def _send_held(self) -> float:
-        """Send what was held back long enough. Returns how long the next may be waited for, in seconds."""
+        """Send datagrams that were held back long enough. Returns the time until the next one, in seconds."""
         while self._held and self._held[0][0] <= time.monotonic():
             _, _, pair, data = heapq.heappop(self._held)
             self._send(pair, data)
@@ -272,7 +272,7 @@ class Relay:
 
 
 def read_address(word: str) -> Address:
-    """Return the address that a word `HOST:PORT` spells. ValueError if it spells none."""
+    """Return the address that a word `HOST:PORT` spells. Raises ValueError if it spells none."""
     host, _, port = word.rpartition(":")
     if not host or not port.isdecimal() or not 0 < int(port) < 65_536:
         raise ValueError(f"{word!r} is no HOST:PORT")
@@ -280,7 +280,7 @@ def read_address(word: str) -> Address:
 
 
 def main() -> int:
-    """Relay until the commands end. Returns the status: 0, or 2 where a port could not be bound."""
+    """Relay until the commands end. Returns the status: 0, or 2 if a port could not be bound."""
     parser = argparse.ArgumentParser(description=__doc__, formatter_class=argparse.RawDescriptionHelpFormatter)
     parser.add_argument("--nodes", required=True, help="the nodes' addresses, parted by commas")
     parser.add_argument("--base-port", required=True, type=int)

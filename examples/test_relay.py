@@ -1,5 +1,5 @@
 #!/usr/bin/env python3
-"""Tests of relay.py, with plain UDP sockets in the place of nodes: `python3 examples/test_relay.py`."""
+"""Tests of relay.py, with plain UDP sockets instead of nodes: `python3 examples/test_relay.py`."""
 
 from __future__ import annotations
 
@@ -17,7 +17,7 @@ sys.path.insert(0, os.path.dirname(os.path.abspath(__file__)))
 from relay import Relay, read_address  # noqa: E402
 
 NUMBERS = list(range(400))
-"""What is sent in the tests of shares: each number once, two bytes each."""
+"""The datagrams of the tests of shares: each number once, two bytes each."""
 
 
 def free_ports(count: int) -> int:
@@ -51,7 +51,7 @@ class RelayTest(unittest.TestCase):
         self.relay.start()
 
     def ask(self, line: str, answer: str = "ok") -> None:
-        """Give a command, and see its answer."""
+        """Give a command, and check its answer."""
         self.assertEqual(self.relay.command(line), answer)
 
     def send(self, sender: int, receiver: int, data: bytes) -> None:
@@ -59,7 +59,7 @@ class RelayTest(unittest.TestCase):
         self.nodes[sender].sendto(data, ("127.0.0.1", self.relay.port(sender, receiver)))
 
     def came(self, node: int, patience: float = 0.3) -> List[bytes]:
-        """Return all that comes to a node until nothing comes for `patience` seconds."""
+        """Return all datagrams that come to a node until none comes for `patience` seconds."""
         found = []
         self.nodes[node].settimeout(patience)
         while True:

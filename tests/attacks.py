@@ -1,12 +1,13 @@
 #!/usr/bin/env python3
-"""Attacks on a server by clients and machines that have no right token, and what they may cost nobody else.
+"""Attacks on a server by clients and machines that have no right token, and limits on what they may cost others.
 
 tests/attacks.py --serve GB_SERVE --peer GB_PEER --base-port N [--only WORD]
 
-Starts these two programs on loopback, at ports from N on (256 of them), and runs each attack beside a client that has right
-tokens. No other client waits longer than 100 milliseconds, no node is noticed, a record does not grow by a byte for what is refused or junk,
-and an administrator gets in. The last line is `N passed, M failed`; the status is 1 if one failed. `--only` runs those whose names have WORD.
-It needs nothing beside Python. Where the machine itself is slow, a client may wait three times as long as one of a server that only echoes.
+Starts these two programs on loopback, at ports from N on (256 of them), and runs each attack beside a client that has right tokens. No
+other client waits longer than 100 milliseconds, no node is noticed, a record does not grow by a byte for requests that are refused or for
+junk, and an administrator gets in. The last line is `N passed, M failed`; the status is 1 if one failed. `--only` runs those whose names
+have WORD. It needs nothing beside Python. If the machine itself is slow, a client may wait three times as long as one of a server that only
+echoes.
 """
 import argparse
 import contextlib
@@ -30,7 +31,7 @@ CLUSTER, ADMIN, TENANT = (bytes([byte]) * 32 for byte in (0x11, 0x22, 0x33))
 NOBODY = "0" * 64  # a token that is not valid
 LONGEST = 0.1  # seconds that another client may wait
 SLOWER = 3  # how many times as long as a client of an echo it may wait
-SESSIONS, STATUS, RELAYED = 64, 140, 200  # how far above a server's first port its other ports are
+SESSIONS, STATUS, RELAYED = 64, 140, 200  # the distances of a server's other ports from its first one
 
 
 def token(key, text):
@@ -56,7 +57,7 @@ DENIED = [framed(f"open {NOBODY} 7 {group}") for group in (1, 2)]
 
 
 class Failed(Exception):
-    """What an attack did that it may not do."""
+    """An attack had an effect that it must not have."""
 
 
 def expect(is_so, text):
@@ -98,7 +99,7 @@ class Link:
 
 
 class Process:
-    """A program that serves. It ends when its standard input does."""
+    """A program that serves. It ends when its standard input ends."""
 
     def __init__(self, words, log):
         self.process = subprocess.Popen(words, stdin=subprocess.PIPE, stdout=subprocess.PIPE, stderr=log)
@@ -130,7 +131,7 @@ class Attacks:
         self.log = open(os.path.join(self.folder.name, "log"), "wb")
 
     def next_ports(self):
-        """Each server has ports of its own, since the system keeps closed connections for a while."""
+        """Returns the next ports. Each server has ports of its own, because the system keeps closed connections for a while."""
         self.port += 2
         return self.port
 
@@ -147,7 +148,8 @@ class Attacks:
 
     @contextlib.contextmanager
     def peers(self, silence, seen, folder):
-        """Two nodes, each a gb_peer. `seen` has for each node the ports at which it finds the packets of the two, and its own last."""
+        """Starts two nodes, each a gb_peer. `seen` has for each node the ports at which it finds the packets of the two, and its own
+        last."""
         started = []
         try:
             for node, (ports, status) in enumerate(seen):
@@ -169,7 +171,7 @@ class Attacks:
 
 
 def prepare(port, node=0, members="0", kind="beb", groups=(1, 2)):
-    """Makes the groups of a tenant at a node, as far as they are not there."""
+    """Makes the groups of a tenant at a node, unless they are there."""
     link = Link(port)
     expect(link.ask(f"tenant {ADMIN_TOKEN} 7 {TENANT.hex()} 8 1000 65536 1000") == "ok", "a tenant is not taken in")
     for group in groups:
@@ -194,7 +196,7 @@ while True:
 
 
 class Waits(threading.Thread):
-    """Asks by a function again and again, until it is over, and notes how long each answer takes, in seconds."""
+    """Calls a function again and again, until it is over, and notes how long each call takes, in seconds."""
 
     def __init__(self, ask, is_over):
         super().__init__(daemon=True)
@@ -252,7 +254,7 @@ class Beside:
 
 
 def waiters(port, count):
-    """Connections that wait for an entry of group 1."""
+    """Opens connections that wait for an entry of group 1."""
     links = [Link(port, 30) for _ in range(count)]
     body = framed(f"await {member_token(7, 1)} 7 1 0 16 60000")
     for link in links:
@@ -281,11 +283,11 @@ def bytes_of(folder):
     return sum(os.path.getsize(os.path.join(folder, name)) for name in os.listdir(folder) if name.endswith(".record"))
 
 
-# The attacks. Each returns a line that says what was seen, or raises Failed.
+# The attacks. Each returns a line that says what was measured, or raises Failed.
 
 
 def wake_storm(attacks):
-    """A client without a token touches groups for which 1,000 others wait."""
+    """Touches groups for which 1,000 others wait, by a client without a token."""
     with attacks.served(nodes=2) as server:
         for node in range(2):
             prepare(server.sessions + node, node, "0,1")
@@ -309,7 +311,7 @@ def wake_storm(attacks):
 
 
 def junk_in_records(attacks):
-    """5,000 datagrams that are no packets, and 8 MB of requests without a token, at a node that keeps a record."""
+    """Sends 5,000 datagrams that are no packets, and 8 MB of requests without a token, to a node that keeps a record."""
     with tempfile.TemporaryDirectory() as folder:
         with attacks.served("--tick", "60000", "--dir", folder, "--record") as server:
             prepare(server.sessions)
@@ -339,7 +341,7 @@ def junk_in_records(attacks):
 
 
 def all_places_taken(attacks):
-    """20 strangers at 20 connections; then 20 clients with right tokens, and a stranger that comes again and again."""
+    """Connects 20 strangers to the 20 places; then 20 clients with right tokens, and a stranger that comes again and again."""
     with attacks.served("--connections", "20") as server:
         prepare(server.sessions)
         strangers = [Link(server.sessions) for _ in range(20)]
@@ -359,7 +361,7 @@ def all_places_taken(attacks):
 
 
 def asked_ahead(attacks):
-    """300 strangers ask without waiting for replies; one that has a token asks beside them."""
+    """Sends requests of 300 strangers ahead of their replies; one client that has a token sends requests beside them."""
     with attacks.served() as server:
         prepare(server.sessions)
         strangers = askers(server.sessions, 300)
@@ -401,7 +403,7 @@ while select.get_map():
 
 
 def askers(port, count):
-    """Strangers that ask ahead, in a process of their own, so that they take no time of the client that is watched."""
+    """Starts strangers that send requests ahead, in a process of their own, so that they take no time from the client that is watched."""
     words = [sys.executable, "-c", ASKER, str(port), str(count), (DENIED[0] + DENIED[1]).hex()]
     strangers = subprocess.Popen(words, stdout=subprocess.PIPE)
     strangers.stdout.readline()
@@ -417,7 +419,7 @@ def health(port):
 
 
 def paused_node(attacks):
-    """A node stands still for longer than the silence, and goes on: it notices the other one in turn, and says that it is not well."""
+    """Pauses a node for longer than the silence, and lets it go on: it notices the other one in turn, and reports that it is not well."""
     base = attacks.next_ports()
     with tempfile.TemporaryDirectory() as folder:
         ports = (base, base + 1)
@@ -432,7 +434,7 @@ def paused_node(attacks):
 
 
 def parted(base):
-    """Two nodes have noticed each other: both say so, and the groups go on at each."""
+    """Checks that two nodes have noticed each other: both say so, and the groups go on at each."""
     until = time.monotonic() + 5
     links = [Link(base + SESSIONS + node) for node in range(2)]
     while not all(link.figures()["nodes_noticed"] == 1 for link in links):
@@ -470,14 +472,14 @@ class Relay(threading.Thread):
             for key, _ in select.select(0.05):
                 text = key.fileobj.recv(65_536)
                 at = key.data
-                # What comes to the place of node `at` was sent by the other one; it goes on from the other one's place.
+                # Datagrams that come to the socket of node `at` are from the other one; they are sent on from the other one's socket.
                 if not (self.loses and at == 1):
                     with contextlib.suppress(OSError):
                         self.sockets[1 - at].sendto(text, ("127.0.0.1", self.nodes[at]))
 
 
 def lost_packets(attacks):
-    """Packets from node 0 to node 1 are lost for longer than the silence, those of node 1 are not."""
+    """Loses packets from node 0 to node 1 for longer than the silence, and not those of node 1."""
     base = attacks.next_ports()
     relay = Relay((base, base + 1), (base + RELAYED, base + RELAYED + 1))
     relay.start()
@@ -499,7 +501,7 @@ def lost_packets(attacks):
 
 
 def known_tenants(attacks):
-    """Whether the time of a refusal tells which tenants exist."""
+    """Measures whether the time of a refusal reveals which tenants exist."""
     with attacks.served() as server:
         prepare(server.sessions)
         times = {7: [], 9: []}
@@ -535,7 +537,7 @@ while time.monotonic() < until:
 
 
 def flood(attacks):
-    """Six senders without a key flood the port of a node's packets for four seconds."""
+    """Floods the port of a node's packets for four seconds from six senders without a key."""
     with attacks.served(nodes=2) as server:
         for node in range(2):
             prepare(server.sessions + node, node, "0,1", "allack")
@@ -554,7 +556,7 @@ def flood(attacks):
 
 
 def trickle(attacks):
-    """A byte every half second, on a connection that has asked nothing, and on one that was refused."""
+    """Sends a byte every half second, on a connection that has sent no request, and on one that was refused."""
     with attacks.served() as server:
         prepare(server.sessions)
         fresh, refused = Link(server.sessions), Link(server.sessions)
@@ -584,7 +586,7 @@ def trickle(attacks):
 
 
 def no_descriptors(attacks):
-    """The system has no descriptor for a client; once it has one again, the client is let in though nobody else comes."""
+    """Leaves the system no descriptor for a client; once it has one again, the client is let in though nobody else comes."""
     with attacks.served() as server:
         prepare(server.sessions)
         link = Link(server.sessions)
@@ -603,7 +605,7 @@ def no_descriptors(attacks):
 
 
 def end_beside_askers(attacks):
-    """An administrator ends a server beside strangers that ask ahead."""
+    """Ends a server as an administrator, beside strangers that send requests ahead."""
     with attacks.served() as server:
         prepare(server.sessions)
         strangers = askers(server.sessions, 20)
@@ -622,7 +624,7 @@ def end_beside_askers(attacks):
 
 
 def shutdown_without_token(attacks):
-    """A stop with another token ends nothing."""
+    """Sends a stop with another token, which ends nothing."""
     with attacks.served() as server:
         link = Link(server.sessions)
         expect(link.ask(f"stop {NOBODY}") == "refused 1 Denied", "a stop without a token is not refused")

@@ -1,5 +1,5 @@
 #!/usr/bin/env python3
-"""Floods of datagrams from machines that have no key, and what they may cost the nodes of a cluster and their clients.
+"""Floods of datagrams from machines that have no key, and limits on what they may cost the nodes of a cluster and their clients.
 
     tests/flood.py --serve GB_SERVE --peer GB_PEER --base-port N [--seconds S]
 
@@ -31,18 +31,18 @@ SENDERS = 6
 NODES = 3
 
 BOUND = 0.050
-"""How long a message may take from one node's client to another's at the 99th percentile, in seconds."""
+"""The longest time of a message from one node's client to another's at the 99th percentile, in seconds."""
 
 LOADED = 20
-"""The bound is so many times as long where the machine has more to do than it has processors before a flood begins."""
+"""The factor of the bound if the machine has more to do than it has processors before a flood begins."""
 
 LONGEST_WAIT = 20
 LAST_PLACE = 900
-"""How long a message is waited for, in seconds, and how many are said at most."""
+"""The longest wait for a message, in seconds, and the greatest number of messages."""
 
 
 class Failed(Exception):
-    """What may not be."""
+    """A condition of the test does not hold."""
 
 
 def expect(is_so, text):
@@ -51,7 +51,7 @@ def expect(is_so, text):
 
 
 class Process:
-    """A program that serves, told its keys. It ends when its standard input does."""
+    """A program that serves, with its keys on standard input. It ends when its standard input ends."""
 
     def __init__(self, folder, name, words, cluster=CLUSTER):
         self.log = os.path.join(folder, name)
@@ -95,7 +95,7 @@ def send_junk(port, until, size, sent):
 
 @contextlib.contextmanager
 def flooded(port, seconds, size=100):
-    """Six senders flood a port meanwhile. Yields the numbers of what each sent, which stand when they have ended."""
+    """Floods a port from six senders meanwhile. Yields how many datagrams each sent; the numbers are final when the senders have ended."""
     until = time.monotonic() + seconds
     sent = [multiprocessing.Value("Q", 0) for _ in range(SENDERS)]
     senders = [multiprocessing.Process(target=send_junk, args=(port, until, size, one), daemon=True) for one in sent]
@@ -128,7 +128,7 @@ def begin_groups(clients, kinds):
 
 
 def entries_of(client, group, start, count, seconds):
-    """What a node's log of a group has from a place on, at most `count` entries; waits for them."""
+    """Returns at most `count` entries of a node's log of a group from a place on. Waits for them."""
     until, found = time.monotonic() + seconds, []
     while len(found) < count and time.monotonic() < until:
         found += client.wait([(7, group, start + len(found))], seconds=0.2).entries
@@ -136,7 +136,7 @@ def entries_of(client, group, start, count, seconds):
 
 
 def note_arrivals(waiter, place, arrivals):
-    """Waits for the entries of a log from a place on, and puts the time at which each came; None where one does not come."""
+    """Waits for the entries of a log from a place on, and puts the time at which each came; None if one does not come."""
     while place < LAST_PLACE:
         entries = waiter.wait([(7, 1, place)], most=1, seconds=LONGEST_WAIT).entries
         arrivals.put(time.monotonic() if entries else None)

@@ -33,7 +33,7 @@ def kubernetes() -> str:
 
 
 def nomad() -> str:
-    """Return the cluster file of the job, with the machines that stand in it."""
+    """Return the cluster file of the job, with the machines that it names."""
     with open(os.path.join(TOP, "examples", "nomad", "foqradesh.hcl"), encoding="ascii") as file:
         text = file.read()
     template = text.split('"local/cluster.toml"')[1].split("<<EOF\n")[1].split("EOF\n")[0]
@@ -47,7 +47,7 @@ def nomad() -> str:
 
 
 def moved(file: str, port: int) -> str:
-    """Return a cluster file with ports of this machine in the place of each address."""
+    """Return a cluster file with ports of this machine instead of each address."""
     for word, first in (("packets", port), ("sessions", port + 64)):
         found = re.findall(rf'^{word} = "(.*)"$', file, re.MULTILINE)
         if len(found) != NODES or len(set(found)) != NODES:

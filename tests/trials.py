@@ -1,21 +1,21 @@
 #!/usr/bin/env python3
-"""Runs what people run, each as a trial of its own: the clients, the walks, the pages and the checks of this repository.
+"""Runs the commands that people run, each as a trial of its own: the clients, the walks, the pages and the checks of this repository.
 
     tests/trials.py [--built | --programs DIR] [--only NAME..] [--list] [--jobs N] [--ports FIRST-LAST] [--keep DIR]
 
 The programs are those of bin/, where ./install puts them; with `--programs` those of another folder, and with `--built` those that `rt ci`
-leaves in crates/NAME/out/NAME. `--only` runs the trials of these names, and `--list` prints all names with what each trial tries. As many
-run side by side as there are processors, or N, and the longest begin first. Those that measure times run last, one by one.
+leaves in crates/NAME/out/NAME. `--only` runs the trials of these names, and `--list` prints all names with the purpose of each. Trials run
+side by side, one for each processor, or N of them, and the longest begin first. Those that measure times run last, one by one.
 
-Each trial has a folder and ports of its own, no standard input and a time limit. When it ends, what it started must have ended too. Its
-output is kept in a folder of `--keep`, or of a new temporary folder, and is printed whole where the trial fails. Each trial is one line:
+Each trial has a folder and ports of its own, no standard input and a time limit. When it ends, all that it started must have ended too. Its
+output is kept in a folder of `--keep`, or of a new temporary folder, and is printed whole if the trial fails. Each trial is one line:
 
     passed NAME 12 s
     failed NAME 12 s: WHY
     skipped NAME: WHY        a tool or a program that the trial needs is not there
 
-What a trial leaves out by itself stands in lines behind its own. The last line is `N passed, M failed`, with `, K skipped` if any are. The
-status is 0 if none failed, 1 if some did, and 2 for wrong words. It needs Python 3.9 and nothing else.
+The parts that a trial leaves out by itself are lines behind its own. The last line is `N passed, M failed`, with `, K skipped` if any are.
+The status is 0 if none failed, 1 if some did, and 2 for wrong words. It needs Python 3.9 and nothing else.
 
 A new trial is a row of TRIALS. Its words, and the values of its variables, may name {top}, the checkout; {python}; {port}, the first of 256
 ports; {room}, the trial's folder, which is gone after it; and {gb_sim} and each other program.
@@ -47,10 +47,10 @@ PORTS = 256
 """The ports of a trial."""
 
 GRACE = 5.0
-"""Within so many seconds of a trial's end all has to end that it started."""
+"""The seconds after a trial's end within which all that it started has to end."""
 
 Need = Callable[[], Optional[str]]
-"""What a trial needs that is no program of the repository. It returns why that is not there, or None."""
+"""The need of a trial for something that is no program of the repository. It returns why that is not there, or None."""
 
 
 @dataclasses.dataclass(frozen=True)
@@ -63,18 +63,18 @@ class Trial:
     programs: Sequence[str] = ()
     needs: Sequence[Need] = ()
     seconds: float = 10.0
-    """About how long it takes on a machine that does nothing else. The longest trials begin first."""
+    """The seconds that it takes, about, on a machine that does nothing else. The longest trials begin first."""
     limit: float = 300.0
-    """The most seconds that it may take, on a machine that does much else."""
+    """The greatest number of seconds that it may take, on a machine that does much else."""
     alone: bool = False
-    """It measures times: it runs when the others have ended, and nothing else beside it."""
+    """Whether it measures times: then it runs when the others have ended, and nothing runs beside it."""
     folder: str = "{room}"
-    """Where it is run."""
+    """The folder in which it is run."""
     variables: Dict[str, str] = dataclasses.field(default_factory=dict)
     bad: str = ""
-    """No line of the output may have this pattern."""
+    """The pattern that no line of the output may have."""
     notes: str = ""
-    """Lines of the output with this pattern are printed behind the trial's line: what it left out."""
+    """The pattern of lines of the output that are printed behind the trial's line: the parts that it left out."""
 
     def has_ports(self) -> bool:
         """Return True if the trial names a port."""
@@ -95,7 +95,7 @@ def mypy_words() -> List[str]:
 
 
 def chromium() -> Optional[str]:
-    """Return the name of a Chromium, as CHROMIUM names it, or as it is installed."""
+    """Return the name of a Chromium: the one that CHROMIUM names, or the one that is installed."""
     names = [os.environ.get("CHROMIUM"), "chromium", "chromium-browser", "google-chrome"]
     return next((name for name in names if name and shutil.which(name)), None)
 
@@ -201,14 +201,15 @@ TRIALS = (
 
 
 class Ports:
-    """Rows of ports, each for one trial at a time. A row's last port is held meanwhile, so another runner on this machine takes another row."""
+    """Rows of ports, each for one trial at a time. A row's last port is held meanwhile, so another runner on this machine takes another
+    row."""
 
     def __init__(self, first: int, last: int) -> None:
         self._rows = range(first, last + 2 - PORTS, PORTS)
         self._lock = threading.Lock()
 
     def take(self) -> Tuple[int, socket.socket]:
-        """Return the first port of a row that is free, and the socket that holds the row. Where none is free, one is waited for."""
+        """Return the first port of a row that is free, and the socket that holds the row. If none is free, wait for one."""
         for _ in range(120):
             with self._lock:
                 for first in self._rows:
@@ -247,7 +248,7 @@ def stat_of(process: int) -> Tuple[int, str]:
 
 
 def descendants(process: int) -> List[int]:
-    """Return the processes that a process started, and that these started, but for those that have ended."""
+    """Return the processes that a process started, and that these started, without those that have ended."""
     parents: Dict[int, int] = {}
     for entry in filter(str.isdecimal, os.listdir("/proc")):
         try:
@@ -279,9 +280,9 @@ def adopt() -> None:
 
 
 def within(limit: float, words: Sequence[str]) -> int:
-    """Run a command as a trial: a process of its own for this, which is the parent of all that the command leaves.
+    """Run a command as a trial: in a process of its own, which is the parent of all processes that the command leaves.
 
-    Returns the command's status. 124 where it takes too long, and 125 where something that it started still runs after it.
+    Returns the command's status; 124 if it takes too long, and 125 if something that it started still runs after it.
     """
     adopt()
     try:
@@ -355,7 +356,7 @@ class Runner:
         return next((why for why in (need() for need in trial.needs) if why), None)
 
     def environment(self, room: str) -> Dict[str, str]:
-        """Return the variables of a trial: each script's names of the programs, and the folder of its temporary files."""
+        """Return the variables of a trial: the names of the programs that each script uses, and the folder of its temporary files."""
         kept = {name: value for name, value in os.environ.items() if not name.startswith("GB_")}
         for name, path in self.programs.items():
             kept[name.upper()] = kept[name.upper()[3:]] = path
@@ -457,7 +458,7 @@ class Runner:
             raise
 
     def end(self) -> None:
-        """End the trials that run, and begin no other."""
+        """End the trials that run, and begin no other one."""
         with self._lock:
             self._is_over = True
             for process in self._running:
@@ -496,7 +497,7 @@ def read_ports(word: str) -> Ports:
 
 
 def read_words(trials: Sequence[Trial]) -> argparse.Namespace:
-    """Return what the command line says."""
+    """Return the words of the command line."""
     names = [trial.name for trial in trials]
     parser = argparse.ArgumentParser(description=__doc__, formatter_class=argparse.RawDescriptionHelpFormatter)
     where = parser.add_mutually_exclusive_group()

@@ -1,5 +1,5 @@
 #!/usr/bin/env python3
-"""Runs the Python of README.md against a gb_serve, as a reader would, and compares what it prints.
+"""Runs the Python of README.md against a gb_serve, as a reader would, and compares its output.
 
     tools/readme.py GB_SERVE [PORT]
 

@@ -9,9 +9,9 @@
 const U16 = 0xffff;
 const U32 = 0xffff_ffff;
 
-/** The bytes of the longest payload of any version of packets. */
+/** The number of bytes of the longest payload of any version of packets. */
 export const LONGEST_PAYLOAD = 4096;
-/** The most entries in the reply to one fetch. */
+/** The greatest number of entries in the reply to one fetch. */
 export const MOST_ENTRIES = 16;
 /** The longest wait of the server, in seconds. */
 export const LONGEST_WAIT = 60;
@@ -26,14 +26,14 @@ const PHASES = Object.freeze(["made", "open", "shut", "dropped"]);
 /**
  * @typedef {Uint8Array | string} Payload a text is sent as UTF-8
  * @typedef {number | { group: number, generation: number }} GroupName a number, or a generation of a room; the number alone is generation 0
- * @typedef {{ kind: string, members: number[], messages: number, totalBytes: number, window: number }} Spec what a group is made with: `messages`
- *   and `totalBytes` are how many messages, and payload bytes, each member may say in all, and `window` how many of them may be unfinished at once
+ * @typedef {{ kind: string, members: number[], messages: number, totalBytes: number, window: number }} Spec the parameters of a group: `messages`
+ *   and `totalBytes` are the numbers of messages and of payload bytes that each member may say in all, and `window` how many messages may be unfinished at once
  * @typedef {{ origin: number, number: number, payload: Uint8Array }} Entry a message in a log: the node that said it, its number among that
  *   member's, from 1, and its payload
- * @typedef {{ entries: Entry[], index: number }} Log entries of a log, and the index of their place among those that a wait named
+ * @typedef {{ entries: Entry[], index: number }} Log entries of a log, and the index of their place among those of a wait
  * @typedef {{ tenant: number, group: number, generation: number, spec: Spec | null, phase: string, log: number }} GroupRow
  * @typedef {{ admin?: () => Promise<string>, tenant?: (tenant: number) => Promise<string>, member?: (tenant: number, group: number) => Promise<string>,
- *   node: number | null }} Secrets where a session takes its tokens from
+ *   node: number | null }} Secrets the source of a session's tokens
  * @typedef {{ url: string } | { host: string, port: number }} Address a door's session, as `ws://127.0.0.1:8080/session`, or a node's port
  */
 
@@ -51,10 +51,10 @@ export class FoqradeshError extends Error {
   }
 }
 
-/** The session was given neither the token that the request needs nor the key that makes it. Nothing was sent. */
+/** The session has neither the token that the request needs nor the key that makes it. Nothing was sent. */
 export class MissingTokenError extends FoqradeshError {}
 
-/** The service refused a request. Nothing has changed by it. `number` and `refusal` are its number and its name. */
+/** The service refused a request. The request changed nothing. `number` and `refusal` are its number and its name. */
 export class RefusedError extends FoqradeshError {
   static number = 0;
   static refusal = "";
@@ -67,33 +67,33 @@ export class RefusedError extends FoqradeshError {
     if (message === undefined) this.message = `refused ${made.number} ${made.refusal}`;
   }
 }
-/** The request has not the token that it needs, or the node has not taken the tenant in. */
+/** The request does not have the token that it needs, or the node has not added the tenant. */
 export class DeniedError extends RefusedError { static number = 1; static refusal = "Denied"; }
 /** The node has made neither the group nor a later generation of its room. */
 export class NoGroupError extends RefusedError { static number = 2; static refusal = "NoGroup"; }
 /** The node has dropped the group, or has made a later generation. At `make`: the node has made it, or a later generation, before. */
 export class SpentError extends RefusedError { static number = 3; static refusal = "Spent"; }
-/** The members are without this node, or beyond the cluster. */
+/** The members do not include this node, or name a node that is not in the cluster. */
 export class BadMembersError extends RefusedError { static number = 4; static refusal = "BadMembers"; }
-/** More is asked than the tenant has or the service gives, or 0 where more is needed. */
+/** The request exceeds the tenant's limits or the service's, or has 0 where more is needed. */
 export class OverReserveError extends RefusedError { static number = 5; static refusal = "OverReserve"; }
 /** A say before `open` or after `shut`, a second `open`, or `shut` of one that is not open. */
 export class WrongPhaseError extends RefusedError { static number = 6; static refusal = "WrongPhase"; }
 /** The payload has more bytes than a message may have. */
 export class TooLongError extends RefusedError { static number = 7; static refusal = "TooLong"; }
-/** The member has said as many messages in the group as the group allows it. */
+/** The member has said all messages in the group that the group allows it. */
 export class BudgetError extends RefusedError { static number = 8; static refusal = "Budget"; }
 /** With this payload the member would have said more bytes than the group allows it. */
 export class BytesError extends RefusedError { static number = 9; static refusal = "Bytes"; }
-/** As many messages of the member are unfinished as the group allows. It may be said later. */
+/** The greatest number of the member's messages that the group allows is unfinished. A later say may succeed. */
 export class WindowError extends RefusedError { static number = 10; static refusal = "Window"; }
 /** At a say: its number is not the member's next. At a fetch: the place is beyond the log. */
 export class BadPlaceError extends RefusedError { static number = 11; static refusal = "BadPlace"; }
 /** The node's tenants would have more than 1,024 rooms in all. At `make`: four generations of the room live at the node. */
 export class NoRoomError extends RefusedError { static number = 12; static refusal = "NoRoom"; }
-/** The node has taken this tenant in before. */
+/** The node has added this tenant before. */
 export class TenantThereError extends RefusedError { static number = 13; static refusal = "TenantThere"; }
-/** The request is none that the server knows. The server ends the connection then. */
+/** The server does not know the request. It ends the connection then. */
 export class MalformedError extends RefusedError { static number = 14; static refusal = "Malformed"; }
 /** The node has stopped. */
 export class StoppedError extends RefusedError { static number = 15; static refusal = "Stopped"; }
@@ -109,9 +109,8 @@ export const REFUSALS = Object.freeze([
 const REFUSAL_TEXTS = new Map(REFUSALS.map((made) => [`refused ${made.number} ${made.refusal}`, made]));
 
 /**
- * A request got no answer that could be read. `isUnknown` is true if it may have been done, and false if it was certainly not sent whole. `said`
- * is the number that a say came with, or null: with it the say may be repeated, and is done once at most. `generation` is the
- * generation in which a `Room` said it.
+ * A request got no reply that could be read. `isUnknown` is true if it may have been done, and false if it was certainly not sent whole. `said` is the number
+ * that a say was sent with, or null: with it the say may be repeated, and is done at most once. `generation` is the generation in which a `Room` said it.
  */
 export class UnansweredError extends FoqradeshError {
   /**
@@ -132,7 +131,7 @@ export class UnansweredError extends FoqradeshError {
 export class ConnectionFailedError extends UnansweredError {}
 /** The time limit passed before the reply. */
 export class TimedOutError extends UnansweredError {}
-/** What came is not the text of a reply to the request. The connection is closed then. */
+/** The bytes that came are no reply to the request. The connection is closed then. */
 export class BadReplyError extends UnansweredError {
   /**
    * @param {string} message
@@ -142,7 +141,7 @@ export class BadReplyError extends UnansweredError {
     super(message, isUnknown);
   }
 }
-/** A request was answered, but the answer and the log do not say whether it was done. `cause` is the refusal, where there was one. */
+/** A request got a reply, but the reply and the log do not show whether it was done. `cause` is the refusal, if there was one. */
 export class UnknownOutcomeError extends UnansweredError {
   /**
    * @param {string} message
@@ -293,7 +292,7 @@ export const memberToken = (key, tenant, group, node) =>
   tokenOf(key, [0x4d, ...high(checkNumber(tenant, U16, "a tenant")), ...high(checkNumber(group, U16, "a group")), checkNumber(node, 31, "a node")]);
 
 /**
- * Keys of 32 bytes, which make tokens for what is asked of one node.
+ * Keys of 32 bytes, which make tokens for the requests to one node.
  * @implements {Secrets}
  */
 export class Keys {
@@ -342,13 +341,13 @@ export class Keys {
 }
 
 /**
- * Tokens that were made before, as by `gb_ctl token`: 64 hexadecimal digits each.
+ * Tokens that were made before, for instance by `gb_ctl token`: 64 hexadecimal digits each.
  * @implements {Secrets}
  */
 export class Tokens {
   /**
    * @param {{ admin?: string, tenant?: string, member?: string, node?: number }} tokens `node` is the number of the node that is asked, if it is
-   *   known: then a say whose answer was lost is looked up in the log
+   *   known: then a say whose reply was lost is looked up in the log
    */
   constructor({ admin, tenant, member, node }) {
     for (const token of [admin, tenant, member]) {
@@ -375,7 +374,7 @@ export class Tokens {
   }
 }
 
-// Replies, read exactly. Each reader returns what the words say, and throws SyntaxError where they are no such reply.
+// Replies, read exactly. Each reader returns the value that the words spell, and throws SyntaxError if they are no such reply.
 
 /**
  * @param {boolean} holds
@@ -498,7 +497,7 @@ const readListing = (start, most) => (words) => {
 };
 
 /**
- * Returns what a reply says. Throws the refusal that it spells, and BadReplyError where it is no reply to the request.
+ * Returns the value of a reply. Throws the refusal that it spells, and BadReplyError if it is no reply to the request.
  * @template T
  * @param {string} text
  * @param {(words: string[]) => T} read
@@ -593,7 +592,7 @@ const connectTo = (address) => ("url" in address ? byWebSocket(address.url) : by
 
 const PAUSES = [0.01, 0.05, 0.1, 0.2, 0.5, 1];
 /**
- * Returns how long to wait before the next connection, in seconds, when some were lost since a reply.
+ * Returns the wait before the next connection, in seconds, after some were lost since a reply.
  * @param {number} losses
  */
 const pauseAfter = (losses) => (losses <= 1 ? 0 : PAUSES[Math.min(losses - 1, PAUSES.length) - 1]);
@@ -604,13 +603,13 @@ const pauseAfter = (losses) => (losses <= 1 ? 0 : PAUSES[Math.min(losses - 1, PA
 const sleep = (seconds) => new Promise((done) => setTimeout(done, seconds * 1000));
 
 /**
- * A request: its text, how its reply is read, whether it may be sent again when its reply was lost, and how long its reply may take, in seconds,
- * once all replies before it are there.
+ * A request: its text, how its reply is read, whether it may be sent again after its reply was lost, and how long its reply may take, in seconds, once all
+ * replies before it are there.
  * @typedef {{ text: string, read: (words: string[]) => any, isRepeatable: boolean, seconds: number }} Step
  * @typedef {Step & { isSent: boolean, wasSent: boolean, done: (answer: { reply: any, wasRepeated: boolean }) => void, fail: (error: Error) => void }} Sent
  */
 
-/** A connection that is opened when it is needed, and opened again when it ended. Replies come in the order of the requests. */
+/** A connection that is opened when it is needed, and opened again after it ended. Replies come in the order of the requests. */
 class Link {
   /**
    * @param {Connect} connect
@@ -707,7 +706,7 @@ class Link {
   }
 
   /**
-   * Closes the connection. What may be sent again waits for the next one, and all else fails.
+   * Closes the connection. Requests that may be sent again wait for the next one, and all others fail.
    * @param {string} why
    */
   #lose(why) {
@@ -717,7 +716,7 @@ class Link {
     if (wasOpen) this.#onConnection(false);
     const waiting = this.#waiting;
     for (const sent of waiting) [sent.wasSent, sent.isSent] = [sent.wasSent || sent.isSent, false];
-    // Without a connection nothing can be sent that never was; behind one that ended, only what changes nothing is sent again.
+    // If there was no connection, requests fail that were never sent. If one ended, only requests that change nothing are sent again.
     const isKept = (/** @type {Sent} */ sent) => (wasOpen ? sent.isRepeatable || !sent.wasSent : sent.wasSent);
     this.#waiting = waiting.filter(isKept);
     this.#watch();
@@ -737,7 +736,7 @@ class Link {
     if (this.#waiting.length === 0) this.#watch();
   }
 
-  /** Begins the time limit of the request in front, where it is another one than before. */
+  /** Begins the time limit of the request in front, if it is another one than before. */
   #watch() {
     const front = this.#waiting[0];
     if (front === this.#watched) return;
@@ -758,8 +757,8 @@ class Link {
 // Sessions.
 
 /**
- * What is believed of the next number of a member's messages in each group. A belief that fails begins a new turn: says that were sent in an
- * older turn change no belief any more.
+ * The expected next number of a member's messages in each group. An expectation that fails begins a new turn: says that were sent in an older turn no longer
+ * change what is expected.
  */
 class Numbers {
   /** @type {Map<string, { number: number, turn: number }>} */
@@ -782,7 +781,7 @@ class Numbers {
   forget = (address) => this.#next.delete(address);
 
   /**
-   * Returns the next number, which is the one above from now on; null if it is not known.
+   * Returns the next number, and expects the one above it from now on. Returns null if it is not known.
    * @param {string} address
    */
   take(address) {
@@ -816,9 +815,9 @@ class Numbers {
 const addressOf = (tenant, group) => `${checkNumber(tenant, U16, "a tenant")} ${groupWord(group)}`;
 
 /**
- * A client of one node. The connection is opened at the first request, and again when it ended: `fetch`, `wait`, `status`, `list` and a say with its
- * number are then sent again, and all else throws ConnectionFailedError, with `isUnknown` true if it may have been done. Requests are sent ahead of the
- * replies where they are not awaited. Each refusal is thrown as the error of its name.
+ * A client of one node. The connection is opened at the first request, and again after it ended: `fetch`, `wait`, `status`, `listGroups` and a say with its number
+ * are then sent again, and all other requests throw ConnectionFailedError, with `isUnknown` true if they may have been done. Requests are sent ahead of the
+ * replies if the replies are not awaited. Each refusal is thrown as the error of its name.
  */
 export class Session {
   /**
@@ -841,7 +840,7 @@ export class Session {
   /** @type {Promise<unknown>} */
   #tokens = Promise.resolve();
   /**
-   * Connections for waits, which hold up what is asked behind them: those that nobody uses now.
+   * Connections for waits, which hold up the requests behind them: those that nobody uses now.
    * @type {Link[]}
    */
   #idle = [];
@@ -868,7 +867,7 @@ export class Session {
   }
 
   /**
-   * Returns a token, in the order of the calls, so that requests are sent in theirs.
+   * Returns a token, in the order of the calls, so that requests are sent in this order.
    * @param {"admin" | "tenant" | "member"} whose
    * @param {number[]} names
    * @returns {Promise<string>}
@@ -892,7 +891,7 @@ export class Session {
   }
 
   /**
-   * Takes a tenant in. Needs the administrator's token.
+   * Adds a tenant. Needs the administrator's token.
    * @param {number} tenant
    * @param {Uint8Array} key
    * @param {{ groups: number, messages: number, totalBytes: number, window: number }} limits
@@ -964,8 +963,9 @@ export class Session {
   }
 
   /**
-   * Says a message, and returns its number. The number is sent with it wherever it is known: after an `open`, after the first say, or if it is given. Then
-   * a say whose reply was lost is sent again, and is done once. Without its number a say whose reply was lost throws ConnectionFailedError, with `isUnknown` true.
+   * Says a message, and returns its number. The number is sent with it whenever it is known: after an `open`, after the first say, or if it is given. Then a
+   * say whose reply was lost is sent again, and is done once. Without its number a say whose reply was lost throws ConnectionFailedError, with `isUnknown`
+   * true.
    * @param {number} tenant
    * @param {GroupName} group
    * @param {Payload} payload
@@ -986,7 +986,7 @@ export class Session {
   }
 
   /**
-   * Says with one number. Returns it, or null if another message has it, so that this one was not said.
+   * Says a message with one number. Returns it, or null if another message has it, so that this one was not said.
    * @param {string} token
    * @param {number} tenant
    * @param {GroupName} group
@@ -1123,8 +1123,8 @@ export class Session {
   }
 
   /**
-   * Yields the entries of a log, each once and in order, from a place on. It waits in the server, and connects again where a connection ended. It goes on
-   * for ever, or until `signal` is aborted.
+   * Yields the entries of a log, each once and in order, from a place on. It waits in the server, and connects again after a connection ended. It continues for
+   * ever, or until `signal` is aborted.
    * @param {number} tenant
    * @param {GroupName} group
    * @param {{ from?: number, signal?: AbortSignal }} options
@@ -1167,14 +1167,14 @@ export class Session {
     return this.#ask(`list ${await this.#token("admin")} ${words}`, readListing(start, Math.min(most, MOST_ROWS)), true);
   }
 
-  /** Has the server end in order. Needs the administrator's token. */
+  /** Asks the server to end in order. Needs the administrator's token. */
   async shutdown() {
     await this.#ask(`stop ${await this.#token("admin")}`, readDone, false);
   }
 }
 
 /**
- * Waits for a promise, or until a signal is aborted, when it returns undefined.
+ * Waits for a promise, or until a signal is aborted; then it returns undefined.
  * @template T
  * @param {Promise<T>} promise
  * @param {AbortSignal} [signal]
@@ -1197,16 +1197,16 @@ async function abortable(promise, signal) {
   }
 }
 
-// Rooms. The first byte of a message in a room says what it is: byte 0 alone is a marker, the last message of its member in the generation, and byte 1
-// stands before a payload. A message that begins otherwise was said by a client that knows no rooms: it is counted, and not shown.
+// Rooms. The first byte of a message in a room is its type: byte 0 alone is a marker, the last message of its member in the generation, and byte 1 is followed
+// by a payload. A message that begins with another byte was said by a client that knows no rooms: it is counted, and not shown.
 
 const MARKER = Uint8Array.of(0);
 const LAST_GENERATION = U32;
-const LIVING = 4; // generations that live at a node at most
-const LOOKED_AT = 16; // generations at a node, down from the greatest, that are asked for
-const TRIES = [0.01, 0.02, 0.05, 0.1, 0.2]; // seconds between tries of one thing; the last one also before all further ones
-const AGAIN = 1; // seconds after which it is tried again, at the earliest, to go on before a generation is full
-const SLOWER = 10; // how many times as long as a failed try what is less urgent waits, at least
+const LIVING = 4; // the greatest number of generations that live at a node
+const LOOKED_AT = 16; // the number of generations at a node, down from the greatest, that are asked for
+const TRIES = [0.01, 0.02, 0.05, 0.1, 0.2]; // seconds between tries of one request; the last is also used before all further tries
+const AGAIN = 1; // the least number of seconds after which going on before a generation is full is tried again
+const SLOWER = 10; // the least factor by which a less urgent try waits longer than a failed try took
 const MOST_LOST = 4; // how often one say may find that the generation in which it speaks is gone
 
 /**
@@ -1221,14 +1221,14 @@ const now = () => performance.now() / 1000;
  */
 const isOne = (error, ...kinds) => kinds.some((kind) => error instanceof kind);
 
-/** Returns how long to wait before each further try, in seconds. */
+/** Returns a function that returns the seconds to wait before each further try. */
 function tries() {
   let count = 0;
   return () => TRIES[Math.min(count++, TRIES.length - 1)];
 }
 
 /**
- * Tries until it succeeds, or fails by what does not pass, or the time is over.
+ * Tries until it succeeds, or fails with a fault that does not pass, or the time is over.
  * @template T
  * @param {() => Promise<T>} act
  * @param {number} end
@@ -1248,11 +1248,11 @@ async function persist(act, end) {
 }
 
 /**
- * @typedef {{ generation: number, number: number }} RoomNumber which message of a member it is: its generation, and its number there, from 1
+ * @typedef {{ generation: number, number: number }} RoomNumber the identity of a member's message: its generation, and its number there, from 1
  * @typedef {{ origin: number, generation: number, number: number, payload: Uint8Array }} RoomEntry a message of a room
  */
 
-/** The nodes of a room's members, and what is asked of them. */
+/** The nodes of a room's members, and the requests that are made at them. */
 class Nodes {
   /**
    * @param {Map<number, Session>} sessions
@@ -1288,7 +1288,7 @@ class Nodes {
   others = () => this.running().filter((member) => member !== this.node && this.sessions.has(member));
 
   /**
-   * Returns true if a generation lives at a node, false if it can be made there no more, and null if it may be made still.
+   * Returns true if a generation lives at a node, false if it can no longer be made there, and null if it may still be made.
    * @param {number} node
    * @param {number} generation
    */
@@ -1304,8 +1304,8 @@ class Nodes {
   }
 
   /**
-   * Returns the greatest generation that was made at a node; `known` if none above it was. It is found by doubling and halving: all up to it were made or
-   * can be made no more, and none above it was made. `looks` gets which of those that were asked for live.
+   * Returns the greatest generation that was made at a node; `known` if none above it was. It is found by doubling and halving: all up to it were made or can
+   * no longer be made, and none above it was made. `looks` gets the results: which of the generations that were asked for live.
    * @param {number} node
    * @param {number} [known]
    * @param {Map<number, boolean>} [looks]
@@ -1323,7 +1323,7 @@ class Nodes {
     }
   }
 
-  /** Returns the greatest generation that was made at this member's node, or -1, and those that live there, rising. */
+  /** Returns the greatest generation that was made at this member's node, or -1, and those that live there, in rising order. */
   async found() {
     /** @type {Map<number, boolean>} */
     const looks = new Map();
@@ -1337,8 +1337,8 @@ class Nodes {
   }
 
   /**
-   * Returns the generation to be in, where `known` is the greatest that this node has made. It is the greatest that any node has made; the next one, if something
-   * was said in that and this node has missed it. A node that cannot be asked is passed over.
+   * Returns the generation to be in, where `known` is the greatest that this node has made. It is the greatest that any node has made. It is the next one after
+   * that if something was said in the greatest and this node has missed it. A node that cannot be asked is skipped.
    * @param {number} known
    */
   async newest(known) {
@@ -1356,7 +1356,7 @@ class Nodes {
   }
 
   /**
-   * Returns true if a message stands in a generation's log at a node, or it was dropped.
+   * Returns true if a generation's log at a node has a message, or if it was dropped.
    * @param {number} node
    * @param {number} generation
    */
@@ -1371,8 +1371,8 @@ class Nodes {
   }
 
   /**
-   * Makes a generation at each node, and opens it when each has answered. Where it is there already, another client was first. Where it can be made no more, its
-   * members do without it. What may pass is tried again until the time is over. A guest waits until another client has made it.
+   * Makes a generation at each node, and opens it when each has answered. If it is there already, another client was first. If a node can no longer make it,
+   * its member does without it. A request with a fault that may pass is tried again until the time is over. A guest waits until another client has made it.
    * @param {number} generation
    * @param {number} end
    */
@@ -1413,7 +1413,7 @@ class Nodes {
   }
 
   /**
-   * Says this member's marker in a generation, if none is known to stand there. A second one does no harm.
+   * Says this member's marker in a generation, unless it is known to have one. A second one does no harm.
    * @param {number} generation
    * @param {number} end
    */
@@ -1440,8 +1440,8 @@ class Nodes {
 }
 
 /**
- * What is known of the messages of this member in a generation. All of them below `next` are known: none is a marker, and they have `used` bytes. `place` is
- * how much of the log was looked through for others, and `ahead` has those that are not next.
+ * The messages of this member in a generation, as far as they are known. All of them below `next` are known: none is a marker, and they have `used` bytes.
+ * `place` is the index up to which the log was searched for others, and `ahead` has those that are not next.
  */
 class Speech {
   /** @param {number} generation */
@@ -1475,7 +1475,7 @@ class Speech {
   }
 
   /**
-   * Returns true if a message has room, and a marker behind it.
+   * Returns true if there is room for a message, and for a marker behind it.
    * @param {number} length
    * @param {Spec} spec
    */
@@ -1492,7 +1492,7 @@ class Speech {
   }
 }
 
-/** What a member says, and in which generation. */
+/** A member that says messages, and the generation in which it does. */
 class Speaker {
   /**
    * @param {Nodes} nodes
@@ -1504,9 +1504,9 @@ class Speaker {
     this.patience = patience;
     /** @type {Speech | null} */
     this.speech = null;
-    /** The generation of the last say, and until when its log may have to say whether that was done. */
+    /** The generation of the last say, and the time until which its log may have to show whether that say was done. */
     this.doubt = { generation: -1, until: -Infinity };
-    /** When to try again to go on before the generation is full. */
+    /** The time at which to try again to go on before the generation is full. */
     this.tryAt = -Infinity;
   }
 
@@ -1515,7 +1515,7 @@ class Speaker {
   isInDoubt = (generation) => this.doubt.generation === generation && now() < this.doubt.until;
 
   /**
-   * Speaks in the newest generation from now on. It is started if it is at this member's node no more, or at none.
+   * Speaks in the newest generation from now on. It is started if it is no longer at this member's node, or at none.
    * @param {number} end
    */
   async join(end) {
@@ -1548,7 +1548,7 @@ class Speaker {
   }
 
   /**
-   * Speaks behind this generation from now on, in which the member's marker stands.
+   * Speaks behind this generation from now on, which has the member's marker.
    * @param {number} generation
    */
   leave(generation) {
@@ -1572,7 +1572,7 @@ class Speaker {
   }
 
   /**
-   * Goes on if nothing has to be waited for. Returns false if something has.
+   * Goes on if that need not wait. Returns false if it must.
    * @param {Speech} speech
    */
   async #goesOnEarly(speech) {
@@ -1645,7 +1645,7 @@ class Speaker {
   }
 
   /**
-   * Says a message with a number, and keeps in mind that it is in doubt until it is answered, and after a failure until the patience is over or the next say.
+   * Says a message with a number, and remembers that it is in doubt until its reply, and after a failure until the patience is over or the next say.
    * @param {Uint8Array} message
    * @param {RoomNumber} named
    * @param {boolean} isRepeated
@@ -1668,7 +1668,7 @@ class Speaker {
   }
 
   /**
-   * Looks at the member's message with the next number, which another client has said. It stands in the log when it is delivered.
+   * Looks at the member's message with the next number, which another client has said. It is in the log when it is delivered.
    * @param {Speech} speech
    * @param {number} end
    */
@@ -1692,7 +1692,7 @@ class Speaker {
   }
 
   /**
-   * Says a message again whose answer was lost. Returns false if it certainly was not said.
+   * Says a message again whose reply was lost. Returns false if it certainly was not said.
    * @param {Uint8Array} message
    * @param {RoomNumber} repeat
    * @param {number} end
@@ -1714,7 +1714,10 @@ class Speaker {
   }
 }
 
-/** What was read of a member's messages in a generation. All numbers up to `front` were read, and those of `ahead`. `end` is the number of its last message, the marker. */
+/**
+ * The messages of a member in a generation that were read. All numbers up to `front` were read, and those of `ahead`. `end` is the number of its last message,
+ * the marker.
+ */
 class Heard {
   front = 0;
   /** @type {Set<number>} */
@@ -1725,7 +1728,7 @@ class Heard {
   count = 0;
 
   /**
-   * Notes a message. Returns true if it is not behind the last one. A member that has said all that it may has ended, also without a marker.
+   * Notes a message. Returns true if it is not behind the last one. A member that has said all that it may has ended, also if it said no marker.
    * @param {Entry} entry
    * @param {Spec} spec
    */
@@ -1741,7 +1744,7 @@ class Heard {
   isWhole = () => this.end !== null && this.front >= this.end;
 }
 
-/** What was read of a generation's log at this member's node. */
+/** The entries of a generation's log that were read at this member's node. */
 class ReadLog {
   /**
    * @param {number} generation
@@ -1755,7 +1758,7 @@ class ReadLog {
     /** @type {Map<number, Heard>} */
     this.heard = new Map(members.map((node) => [node, new Heard()]));
     /**
-     * What was read and is not shown, as something before it is not read yet.
+     * Entries that were read and are not shown, because an earlier one is not read yet.
      * @type {Map<number, RoomEntry[]>}
      */
     this.held = new Map(members.map((node) => [node, []]));
@@ -1767,7 +1770,7 @@ class ReadLog {
   isLeft = () => this.isGone || [...this.heard.values()].some((heard) => heard.end !== null);
 
   /**
-   * Notes an entry that was read. What is to be shown of it is held.
+   * Notes an entry that was read. If it is to be shown, it is held.
    * @param {Entry} entry
    * @param {Spec} spec
    */
@@ -1777,7 +1780,7 @@ class ReadLog {
   }
 }
 
-/** What is read at a member's node. */
+/** How a room is read at a member's node. */
 class Reader {
   /**
    * @param {Nodes} nodes
@@ -1787,7 +1790,7 @@ class Reader {
     this.nodes = nodes;
     this.speaker = speaker;
     /**
-     * What is to be shown, in order.
+     * The entries to show, in order.
      * @type {RoomEntry[]}
      */
     this.ready = [];
@@ -1804,7 +1807,7 @@ class Reader {
     this.ended = [];
     /** A marker could not be said yet. */
     this.owes = false;
-    /** Whether the last read took something, though it may not be shown yet. */
+    /** Whether the last read took entries, though they may not be shown yet. */
     this.hasTaken = false;
   }
 
@@ -1815,7 +1818,7 @@ class Reader {
   }
 
   /**
-   * Takes what is there to read. If there is nothing it waits, at most these seconds.
+   * Takes the entries that are there. If there is none, it waits at most these seconds.
    * @param {number} seconds
    * @param {AbortSignal} [signal]
    */
@@ -1856,7 +1859,7 @@ class Reader {
     }
   }
 
-  /** Finds the generations that are read next, behind the last one that was. */
+  /** Finds the generations that are read next, behind the last one that was read. */
   async #enter() {
     const { nodes } = this;
     const after = this.last + 1;
@@ -1898,7 +1901,7 @@ class Reader {
   }
 
   /**
-   * Returns true if nothing more of a member is to be shown from a generation. Of a member that crashed what comes until the others have ended is shown.
+   * Returns true if no more messages of a member are to be shown from a generation. Messages of a member that crashed are shown until the others have ended.
    * @param {ReadLog} log
    * @param {number} origin
    */
@@ -1909,7 +1912,7 @@ class Reader {
   }
 
   /**
-   * Shows what may be shown of a member's messages.
+   * Shows the messages of a member that may be shown.
    * @param {number} origin
    */
   #show(origin) {
@@ -1919,7 +1922,7 @@ class Reader {
     }
   }
 
-  /** Shows what may be shown, and ends the generations that were read to their ends. */
+  /** Shows the messages that may be shown, and ends the generations that were read to their ends. */
   release() {
     const { nodes } = this;
     nodes.spec.members.forEach((origin) => this.#show(origin));
@@ -1932,7 +1935,7 @@ class Reader {
   }
 
   /**
-   * Returns how many entries each other running node's log has in the end. In a best-effort group that leaves out what a member said that crashed.
+   * Returns the number of entries that each other running node's log has in the end. In a best-effort group this leaves out messages of a member that crashed.
    * @param {ReadLog} log
    */
   #needed(log) {
@@ -1940,7 +1943,7 @@ class Reader {
     return this.nodes.running().reduce((sum, node) => sum + log.of(node).count, 0);
   }
 
-  /** Says this member's marker where another one has gone on. */
+  /** Says this member's marker if another member has gone on. */
   async keepUp() {
     const { nodes } = this;
     this.owes = false;
@@ -1962,7 +1965,7 @@ class Reader {
   #isShown = (generation) => this.ready.every((entry) => entry.generation !== generation);
 
   /**
-   * Drops generations that were read to their ends, where nobody needs them any more.
+   * Drops the generations that were read to their ends and that nobody needs any more.
    * @param {boolean} drops
    */
   async settle(drops) {
@@ -1981,8 +1984,8 @@ class Reader {
   }
 
   /**
-   * Drops a generation at this member's node if each other node has the whole log: what waits in a dropped group is given up, so a node that lacks messages
-   * might never get them. Where this client may not ask a node, it waits for the end of the next generation.
+   * Drops a generation at this member's node if each other node has the whole log: the messages that wait in a dropped group are discarded, so a node that
+   * lacks some might never get them. If this client may not ask a node, it waits for the end of the next generation.
    * @param {{ generation: number, needed: number, have: Set<number> }} ended
    */
   async #isDropped(ended) {
@@ -2007,12 +2010,12 @@ class Reader {
 }
 
 /**
- * A room at its members' nodes, for one member: what it says, and what it reads.
+ * A room at its members' nodes, for one member that says and reads messages.
  *
- * A group takes as many messages as it was made with. A room goes on: its groups are its generations, made one after the other with the same spec, and
- * at most four of them live at a node. Each member's clients make, open, mark and drop them by themselves (docs/CLIENTS.md, "Rooms").
+ * A group takes as many messages as its spec says. A room goes on: its groups are its generations, made one after the other with the same spec, and at most
+ * four of them live at a node. Each member's clients make, open, mark and drop them by themselves (docs/CLIENTS.md, "Rooms").
  *
- * A guest has a session of its own node alone and the member's token, as a page in a browser has. It makes and drops nothing: it goes on once another client
+ * A guest has only a session of its own node and the member's token, as a page in a browser does. It makes and drops nothing: it goes on once another client
  * has made and opened the next generation.
  */
 export class Room {
@@ -2020,9 +2023,9 @@ export class Room {
    * @param {Record<number, Session> | Map<number, Session>} sessions a session of each member's node, by the node's number; of a guest its own alone
    * @param {number} tenant
    * @param {number} number
-   * @param {Spec} spec what each generation is made with, so all members give the same; its `messages` and `totalBytes` are at least 2
+   * @param {Spec} spec the spec of each generation, so all members give the same; its `messages` and `totalBytes` are at least 2
    * @param {{ node: number, patience?: number, isGuest?: boolean }} options `node` is the member that speaks and reads here; `patience` is how long a say waits
-   *   for what may pass, in seconds
+   *   for faults that may pass, in seconds
    */
   constructor(sessions, tenant, number, spec, { node, patience = 30, isGuest = false }) {
     const held = sessions instanceof Map ? sessions : new Map(Object.entries(sessions).map(([name, session]) => [Number(name), session]));
@@ -2043,7 +2046,7 @@ export class Room {
   }
 
   /**
-   * Does something once all that was begun before is over.
+   * Does something once all that was begun before it is over.
    * @template T
    * @param {() => Promise<T>} act
    * @returns {Promise<T>}
@@ -2055,7 +2058,7 @@ export class Room {
   }
 
   /**
-   * Finds the generation in which the member speaks, which the first `say` does by itself. Where there is none, the first one is made and opened.
+   * Finds the generation in which the member speaks, which the first `say` does by itself. If there is none, the first one is made and opened.
    * @returns {Promise<void>}
    */
   join() {
@@ -2068,10 +2071,11 @@ export class Room {
    * Says a message, and returns its generation and its number there. A payload has 0 to 4,095 bytes. Says are done one after the other.
    *
    * When the member has used three quarters of a generation's messages or bytes, the room goes on: the next one is made at each member's node, opened at each
-   * when all have answered, and spoken in after a marker. What may pass is tried again for as long as the patience.
+   * when all have answered, and spoken in after a marker. A request with a fault that may pass is tried again for as long as the patience.
    *
-   * What is returned stands, once. Where a refusal is thrown the message was not said. An `UnansweredError` with a `generation`: it may or may not be said, once at
-   * most; a say of the same payload with `repeat` as `{ generation: error.generation, number: error.said }` goes on where it ended.
+   * The number that is returned is final, and the message is said once. If a refusal is thrown, the message was not said. If an `UnansweredError` with a
+   * `generation` is thrown, the message may or may not be said, at most once; a say of the same payload with `repeat` as `{ generation: error.generation,
+   * number: error.said }` continues where it ended.
    * @param {Payload} payload
    * @param {{ repeat?: RoomNumber }} options
    * @returns {Promise<RoomNumber>}
@@ -2085,7 +2089,7 @@ export class Room {
    *
    * It begins with the oldest generation that lives at the node, of the 16 up to the newest. Each member's messages come in the order of their generations.
    * Within a generation they have the order in which the node delivered them. A generation that was read to its end is dropped at this node, once each other
-   * running member's node has its whole log; with `drops` false, and by a guest, nothing is dropped. It connects again where a connection ended.
+   * running member's node has its whole log; with `drops` false, and by a guest, nothing is dropped. It connects again after a connection ended.
    * @param {{ idle?: number, drops?: boolean, signal?: AbortSignal }} options
    * @returns {AsyncGenerator<RoomEntry, void, void>}
    */
@@ -2112,7 +2116,7 @@ export class Room {
   }
 
   /**
-   * Goes on without the member of a node that has crashed, and does not come back. Each room of each other member has to be given this.
+   * Goes on without the member of a node that has crashed, and does not come back. Call this for each room of each other member.
    * @param {number} node
    */
   without(node) {

@@ -1,8 +1,7 @@
 #!/usr/bin/env python3
-"""Tries the chat page in headless Chromium: a gb_serve of three nodes, a gb_web before each, and three pages in one first-in first-out
-all-ack room. It joins them with the keyboard alone, types in each until the first generation is full, makes the next one, and looks that
-all three show the same; then it stops a door and starts it again. Status 0: all was as it should be; 1: something was not; 2: a program
-is not there.
+"""Tests the chat page in headless Chromium: a gb_serve of three nodes, a gb_web before each, and three pages in one first-in first-out
+all-ack room. It joins them with the keyboard alone, types in each until the first generation is full, makes the next one, and checks that
+all three show the same; then it stops a door and starts it again. Status 0: all tests passed; 1: one failed; 2: a program is not there.
 
     python3 examples/chat/test_chat.py [--port P] [--picture FILE]
 
@@ -30,11 +29,11 @@ CLUSTER_KEY, ADMIN_KEY, TENANT_KEY = (bytes([byte] * 32) for byte in (0x11, 0x22
 TENANT, GROUP, NODES = 7, 1, 3
 SPEC = Spec("fallack", (0, 1, 2), messages=8, total_bytes=4096, window=8)  # Ada fills it: she joins, greets, and says five more
 NAMES = ("Ada", "Grace", "Edsger")
-TIME = 20  # seconds in which something has to be seen
+TIME = 20  # the seconds within which a page has to show something
 
 
 def program(variable, path):
-    """The path of a program: what the variable names, or else this one."""
+    """Returns the path of a program: the variable's, or else this one."""
     found = os.environ.get(variable) or path
     found = shutil.which(found) or found
     if not os.access(found, os.X_OK):
@@ -64,7 +63,7 @@ class Socket:
         self.stream.sendall(head + mask + bytes(byte ^ mask[place % 4] for place, byte in enumerate(data)))
 
     def receive(self):
-        """The next text; frames that are no text are passed over."""
+        """Returns the next text; frames that are no text are skipped."""
         whole = b""
         while True:
             first, second = self.file.read(2)
@@ -130,7 +129,7 @@ class Page:
                 return answer["result"]
 
     def value(self, script):
-        """What a script comes to."""
+        """Returns the value of a script."""
         result = self.call("Runtime.evaluate", expression=script, returnByValue=True)
         if "exceptionDetails" in result:
             raise RuntimeError(f"{script}: {result['exceptionDetails']['text']}")
@@ -165,7 +164,7 @@ def wait(what, test):
 
 
 def is_loaded(page):
-    """Whether a page is there; before it a tab has an empty one, whose scripts may end in the middle."""
+    """Returns whether a page is there; before it a tab has an empty one, whose scripts may end in the middle."""
     try:
         return page.value("document.readyState === 'complete' && document.getElementById('said') !== null")
     except RuntimeError:
@@ -173,7 +172,7 @@ def is_loaded(page):
 
 
 def lines(page):
-    """What a page shows of the log: who, and what."""
+    """Returns what a page shows of the log: who spoke, and what."""
     return page.value("Array.from(document.querySelectorAll('#said li'), (line) => line.querySelector('.who').textContent + line.querySelector('.what, .note').textContent)")
 
 
@@ -224,7 +223,7 @@ def start_door(stack, path, port, node, folder):
 
 
 def take_in(stack, port):
-    """Takes the tenant in at each node, and returns a client of each."""
+    """Adds the tenant at each node, and returns a client of each."""
     clients = {}
     for node in range(NODES):
         clients[node] = stack.enter_context(Client(node_address(port, node), Keys(node, admin=ADMIN_KEY, tenants={TENANT: TENANT_KEY})))
@@ -237,21 +236,22 @@ def make_generation(clients, generation):
 
 
 def address(port, node):
-    """The address of the page of a node's member, which has the room."""
+    """Returns the address of the page of a node's member, which has the room."""
     members = ",".join(map(str, SPEC.members))
     room = f"tenant={TENANT}&room={GROUP}&node={node}&kind={SPEC.kind}&members={members}&messages={SPEC.messages}&bytes={SPEC.total_bytes}&window={SPEC.window}"
     return f"http://127.0.0.1:{port + 80 + node}/#{room}"
 
 
 def check_labels(page):
-    """Each field has a label, and what comes is told to a screen reader."""
+    """Checks that each field has a label, and that new messages are announced to a screen reader."""
     bare = page.value("Array.from(document.querySelectorAll('input')).filter((field) => !field.labels.length).map((field) => field.id)")
     assert bare == [], f"fields without a label: {bare}"
     assert page.value("document.getElementById('said').getAttribute('role') + document.getElementById('said').getAttribute('aria-live')") == "logpolite"
 
 
 def talk(pages, clients):
-    """Each member says something, and each sees all of it, in the order of each member, also behind the end of a generation."""
+    """Lets each member say something, and checks that each sees all of it, in the order of each member, also behind the end of a
+    generation."""
     said = [f"{name}: hello from {name}" for name in NAMES]
     for page, name in zip(pages, NAMES):
         page.type(f"hello from {name}")
