@@ -1,6 +1,7 @@
+#!/usr/bin/env python3
 """Prints which functions of a crate's check are dear, in processor seconds, as the checker ends with each.
 
-    python3 bench/functions.py CRATE [--test] [HOW MANY]
+    tools/functions.py CRATE [--test] [HOW MANY]
 
 The crates below must stand built under crates/*/out, as `rt ci` and `rt check` leave them. The crate is checked from nothing, by one
 process. What is loaded first is counted with the function that needs it first, so the first lines hold 10 to 30 seconds of that."""

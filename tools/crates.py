@@ -13,7 +13,7 @@ USE = re.compile(r"^ *(?:pub(?:\([a-z]+\))? )?use (gb_[a-z_]+)::([a-z_0-9]+)::(\
 EXPORT = re.compile(r"^pub use ([a-z_0-9]+)::(\{[^}]*\}|[A-Za-z_0-9]+);", re.M)
 BEGIN = """# The crates
 
-`bench/crates.py --write` makes this page from crates.txt and from the first sentence of each crate's own page. Lower floors come
+`tools/crates.py --write` makes this page from crates.txt and from the first sentence of each crate's own page. Lower floors come
 first. docs/ARCHITECTURE.md has a picture of the floors, and says where to change what.
 """
 
@@ -93,7 +93,7 @@ def main():
         with open(PAGE, "w") as file:
             file.write(page())
     elif not os.path.exists(PAGE) or read(PAGE) != page():
-        faults.append("crates/README.md is not as crates.txt and the crates' pages say: run bench/crates.py --write")
+        faults.append("crates/README.md is not as crates.txt and the crates' pages say: run tools/crates.py --write")
     faults += doors(crates)
     for fault in faults:
         print(fault)

@@ -1,6 +1,7 @@
+#!/usr/bin/env python3
 """Counts what a reader has to believe of public laws: the definitions that their statements reach, their lines and their files.
 
-    python3 bench/believed.py [LAW[:CLAUSE] ..] [--list | --mark | --compare]
+    python3 tools/believed.py [LAW[:CLAUSE] ..] [--list | --mark | --compare]
 
 A LAW is `crate::file::function`, a public function whose contract is the law. Without any, those of docs/THEOREM.md count (SENTENCE below). Of
 several laws the union counts. With `:CLAUSE` behind it only the `ensures` of that name counts, with every `requires`.
@@ -24,7 +25,7 @@ CRATES = f"{ROOT}/crates"
 SENTENCE = ["gb_trace::run::run:seen", "gb_alone::laws::integrity", "gb_alone::laws::order"]
 MARKS = f"{ROOT}/.gitattributes"
 THEOREM = f"{ROOT}/docs/THEOREM.md"
-HEADING = "# What has to be believed to know what is proved. bench/believed.py --mark writes this list; the gate compares it.\n"
+HEADING = "# What has to be believed to know what is proved. tools/believed.py --mark writes this list; the gate compares it.\n"
 NAME = re.compile(r"[^\s(){}\[\],;.:λ]+")
 PROJECTION = re.compile(r"(?<=[\w)'])\.[a-z_0-9]\w*")
 HEAD = re.compile(r"(?:abbrev |unfoldable )?(?:pub )?(?:(record|data) )?([^\s:({]+)\s*(.*)$")
@@ -269,7 +270,7 @@ def row_of(file, mine):
 def compare(files, wanted):
     """Ends with status 1 if the marks or the page are not of these files."""
     if read(MARKS) != marks(files):
-        sys.exit(".gitattributes marks other files than are to be believed: run bench/believed.py --mark")
+        sys.exit(".gitattributes marks other files than are to be believed: run tools/believed.py --mark")
     page = " ".join(read(THEOREM).split()) + " "
     missing = [row for row in wanted if re.search(re.escape(row) + r"\W", page) is None]
     if missing:
@@ -305,8 +306,8 @@ def figures(walk, files):
 def of_other_laws():
     """Returns what docs/THEOREM.md has to say behind each command that counts other laws."""
     page = " ".join(read(THEOREM).split())
-    commands = re.findall(r"`python3 bench/believed\.py ((?:gb_\S+ ?)+)`", page)
-    return [f"`python3 bench/believed.py {laws}`: {sum_of(*walked(laws.split()))}" for laws in commands]
+    commands = re.findall(r"`python3 tools/believed\.py ((?:gb_\S+ ?)+)`", page)
+    return [f"`python3 tools/believed.py {laws}`: {sum_of(*walked(laws.split()))}" for laws in commands]
 
 
 def main():

@@ -2,7 +2,7 @@
 """Tries the wrong bodies that the gate leaves out (crates/NAME/wrong-bodies/*.edit), as `rt must-fail` tries those of must-fail: the prover must
 refuse each. For each such crate this costs one more check of the whole crate, which is why they do not stand in the gate.
 
-    bench/wrong_bodies.py [CRATE..]
+    tools/wrong_bodies.py [CRATE..]
 
 All crates that have some, if none is named. Crates below are built first, where they have changed. A line tells of each; status 1: one was not
 refused. RT names another `rt`."""

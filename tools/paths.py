@@ -1,7 +1,7 @@
 #!/usr/bin/env python3
 """Counts the files that `rt ci` reads to sum its libraries.
 
-    bench/paths.py [HOW MANY]
+    tools/paths.py [HOW MANY]
 
 For each library rt ci sums all files of the crate and of the crates below it, before and after its proof. A crate that is reached on several
 paths is read once for each. A file takes some 70 microseconds, and one thread does it for all checks. Prints the number of files that a gate

@@ -3,7 +3,7 @@
 trait's impl is reached where its name occurs in reached text, as any function is. A name is looked for in the crate itself and in those
 below it, so a function counts as reached too easily rather than too rarely.
 
-    bench/unreached.py [--functions]
+    tools/unreached.py [--functions]
 
 Prints the lines of code (contracts and comments left out) by crate, with those of functions that no program reaches, and a sum. Crates of
 tests, functions of tests, and laws (functions with an empty body, or whose docstring says that their contract is a law) do not count.

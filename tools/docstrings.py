@@ -1,7 +1,7 @@
 #!/usr/bin/env python3
 """Draws public functions by a seed and prints each with its docstring and its signature alone, for a reader who has to say what it returns.
 
-    bench/docstrings.py [--seed N] [--count N] [--clauses]
+    tools/docstrings.py [--seed N] [--count N] [--clauses]
 
 With --clauses the contract is printed too. Without a docstring a function shows an empty line.
 """

@@ -1,5 +1,8 @@
-"""Runs `rt ci` with the words that it is given, such as `--anew`, and prints the processor minutes and the wall time of each
-crate's checks, read from /proc once a second.
+#!/usr/bin/env python3
+"""Runs the gate, `rt ci`, as .ci/run does, with the words that it is given, such as `--anew`, and prints the processor minutes and the wall
+time of each crate's checks, read from /proc once a second.
+
+    tools/gate.py [WORD ..]
 
 A crate's work has three parts: its proof, the proof of its tests (which proves the crate once more), and its wrong bodies
 (`crates/NAME/must-fail`), which are tried on copies of the crate. A crate's wall time is that in which some check of it ran.
@@ -12,6 +15,7 @@ import subprocess
 import sys
 import time
 
+TOP = os.path.dirname(os.path.dirname(os.path.abspath(__file__)))
 TICKS = os.sysconf("SC_CLK_TCK")
 PARTS = ("proof", "tests", "wrong bodies")
 
@@ -35,7 +39,8 @@ def checks():
 
 def main():
     start, spent, wall = time.time(), {}, {}
-    gate = subprocess.Popen(["rt", "ci", *sys.argv[1:]])
+    jobs = {"RT_JOBS": os.environ.get("RT_JOBS") or str(len(os.sched_getaffinity(0)))}
+    gate = subprocess.Popen(["rt", "ci", *sys.argv[1:]], cwd=TOP, env={**os.environ, **jobs})
     for number in (signal.SIGINT, signal.SIGTERM):
         signal.signal(number, lambda number, _: gate.send_signal(number))
     while gate.poll() is None:
