@@ -3,7 +3,7 @@
 be, clients that are slow, silent or wrong beside one that is right, other origins, and a node that goes away. Status 0: all was as it
 should be; 1: something was not; 2: a program is not there. GB_SERVE and GB_WEB name other programs than bin/gb_serve and bin/gb_web.
 
-    python3 bench/doors.py [--port P]
+    python3 tests/doors.py [--port P]
 """
 import argparse
 import base64

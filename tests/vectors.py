@@ -170,7 +170,7 @@ def check():
     stored = bullets([line for line in sections["Vectors"].split("\n") if line.startswith(("- ", "  "))])
     short, long = lists()
     computed = bullets(short + long)
-    for line in difflib.unified_diff(stored, computed, "docs/FORMATS.md", "bench/vectors.py", lineterm="", n=0):
+    for line in difflib.unified_diff(stored, computed, "docs/FORMATS.md", "tests/vectors.py", lineterm="", n=0):
         print(line)
     parts = re.findall(r"^\| `([0-9a-f ]+)` \|", sections["An example"], flags=re.M)
     example = "".join(parts).replace(" ", "") == written(SHORT[0][1]).hex()

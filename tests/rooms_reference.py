@@ -5,7 +5,7 @@
 
 Everything that a schedule can say is answered: rooms with their generations, all ten kinds of broadcast, links, notices, noise and bad lines.
 At each call a broadcast looks at all that the group was told, and asks its module's two questions of each message. The faults of noise are
-those that bench/vectors.py finds.
+those that tests/vectors.py finds.
 
 Left out are tokens and keys, since each line but a forge comes with the token that it needs; want of memory, which is never answered here; how
 answers are gathered before they are written; and frame numbers near 2^64, which no schedule reaches.

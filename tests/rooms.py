@@ -1,12 +1,12 @@
 #!/usr/bin/env python3
-"""Random schedules of rooms, answered by gb_sim and by bench/rooms_reference.py and compared line by line: rooms.py [SCHEDULES [SEED]]
+"""Random schedules of rooms, answered by gb_sim and by tests/rooms_reference.py and compared line by line: rooms.py [SCHEDULES [SEED]]
 
 There are 300 schedules from seed 1 on, if not given otherwise, one for each seed: few tenants and groups, generations 0 to 6 and now and then
 large ones, versions 1, 2 and 3 mixed, small budgets, drops, items that come late, packets with little room, crash notices, noise, bad lines.
 Behind most arrivals the logs there are fetched, so that a packing with other items than the reference's shows.
 
 SIM names a built gb_sim. Without it `rt try` builds one in crates/gb_sim, unproved, for all schedules at once. Printed are how many schedules
-and lines were alike, and what they had in them. Where one is not alike it is shortened to as few lines as still differ and kept in bench/out/rooms,
+and lines were alike, and what they had in them. Where one is not alike it is shortened to as few lines as still differ and kept in tests/out/rooms,
 and the status is 1.
 """
 import collections
@@ -20,7 +20,7 @@ import tempfile
 from rooms_reference import GENERATIONS, KINDS, Address, Reference, text_of
 
 TOP = os.path.dirname(os.path.dirname(os.path.abspath(__file__)))
-KEPT = os.path.join(TOP, 'bench', 'out', 'rooms')
+KEPT = os.path.join(TOP, 'tests', 'out', 'rooms')
 
 LAST = 2 ** 32 - 1
 LARGE = [7, 255, 256, 65_535, 65_536, 2 ** 31 - 1, 2 ** 31, LAST - 1, LAST]

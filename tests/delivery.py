@@ -1,7 +1,7 @@
 #!/usr/bin/env python3
 """Random runs of clusters, and the laws of delivery in each of them: delivery.py [RUNS [SEED]]
 
-There are 200 runs from seed 1 on, if not given otherwise. bench/rooms_reference.py answers each event. A run has 2 to 5 nodes and some tenants whose
+There are 200 runs from seed 1 on, if not given otherwise. tests/rooms_reference.py answers each event. A run has 2 to 5 nodes and some tenants whose
 groups send to each other; packets are lost, repeated and late; nodes stop. Then come round trips of the links between the running members of one group,
 while other tenants flood, the group itself goes on talking, and packets of all sorts still come. In each run is seen that
 
