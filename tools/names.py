@@ -1,6 +1,6 @@
 #!/usr/bin/env python3
 """Compares the names of code in pages with the code: each word in backquotes of PAGES that is spelt as a name is one of a file in
-crates/, bench/, clients/, tests/ or tools/, or the name of a file there. Prints each name that is not, and ends with status 1.
+crates/, bench/, clients/, lab/, tests/ or tools/, or the name of a file there. Prints each name that is not, and ends with status 1.
 
     tools/names.py
 
@@ -18,7 +18,7 @@ NAME = re.compile(r"[A-Za-z_]\w*(?:(?:::|\.)[A-Za-z_]\w*)*(?:\(\))?")
 def words_of_code():
     """Returns all words of the code, and the names of its files with and without their endings."""
     words = set()
-    for top in ("crates", "bench", "clients", "tests", "tools"):
+    for top in ("crates", "bench", "clients", "lab", "tests", "tools"):
         for folder, inner, files in os.walk(os.path.join(ROOT, top)):
             inner[:] = [name for name in inner if name not in ("out", "__pycache__")]
             words.update(inner, files, (name.split(".")[0] for name in files))

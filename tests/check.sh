@@ -1,10 +1,10 @@
 #!/usr/bin/env bash
-# Runs gb_sim on each schedule of this folder and compares what it writes and its status with the stored
+# Runs gb_sim on each schedule of examples/ and compares what it writes and its status with the stored
 # answers and status 0. Then runs it so that it ends with each other status: 2 for a bad line, 1 for a
 # failed write and for a failed read, 3 for want of memory.
 set -euo pipefail
-here=$(cd "$(dirname "$0")" && pwd)
-program=$(realpath "${1:-$here/../bin/gb_sim}")
+top=$(cd "$(dirname "$0")/.." && pwd)
+program=$(realpath "${1:-$top/bin/gb_sim}")
 work=$(mktemp -d)
 trap 'rm -rf "$work"' EXIT
 
@@ -16,7 +16,7 @@ is() {
     echo "$1 ends with status $2"
 }
 
-for schedule in "$here"/*.schedule; do
+for schedule in "$top"/examples/*.schedule; do
     status=0
     "$program" <"$schedule" >"$work/out" 2>"$work/told" || status=$?
     [ "$status" = 0 ] || { echo "$(basename "$schedule"): status $status in place of 0"; exit 1; }

@@ -1,7 +1,7 @@
 #!/usr/bin/env python3
 """Runs the Python of README.md against a gb_serve, as a reader would, and compares what it prints.
 
-    tools/readme.py GB_SERVE [PORT]
+    tests/readme.py GB_SERVE [PORT]
 
 Status 0: it printed the message of Ann, and the server ended in order."""
 import os

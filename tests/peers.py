@@ -3,7 +3,7 @@
 
     peers.sh [PORT [SECONDS [PASS]]]
 
-Every packet goes through a relay (relay.py) that can lose, repeat, reorder, part, capture and replay. Node 3 is the spare: it serves
+Every packet goes through a relay (lab/relay.py) that can lose, repeat, reorder, part, capture and replay. Node 3 is the spare: it serves
 from the start, and is in no group until a node dies. The walk has two passes, `whole` and `lossy`, the second with a network that loses,
 repeats and reorders 5 percent each; PASS is one of them, both if not given. In each pass a run of the cluster goes through all that can
 happen to it, and the next run begins from nothing. After each stage all logs are fetched and compared: each message stands once, as it
@@ -29,13 +29,11 @@ import time
 import urllib.request
 from typing import Callable, Dict, List, Mapping, Optional, Sequence, Set, Tuple
 
-HERE = os.path.dirname(os.path.abspath(__file__))
-TOP = os.path.dirname(HERE)
-sys.path.insert(0, os.path.join(TOP, "clients", "python"))
-sys.path.insert(0, HERE)
+TOP = os.path.dirname(os.path.dirname(os.path.abspath(__file__)))
+sys.path.insert(0, TOP)
 
+from lab.relay import Relay  # noqa: E402
 from foqradesh import Client, Entry, FoqradeshError, Keys  # noqa: E402
-from relay import Relay  # noqa: E402
 
 NODES = (0, 1, 2, 3)
 TENANT = 7

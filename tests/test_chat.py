@@ -4,7 +4,7 @@ all-ack room. It joins them with the keyboard alone, types in each until the fir
 all three show the same; then it stops a door and starts it again. Status 0: all was as it should be; 1: something was not; 2: a program
 is not there.
 
-    python3 examples/chat/test_chat.py [--port P] [--picture FILE]
+    python3 tests/test_chat.py [--port P] [--picture FILE]
 
 GB_SERVE, GB_WEB and CHROMIUM name other programs than bin/gb_serve, bin/gb_web and chromium.
 """
@@ -22,7 +22,7 @@ import tempfile
 import time
 import urllib.request
 
-TOP = os.path.dirname(os.path.dirname(os.path.dirname(os.path.abspath(__file__))))
+TOP = os.path.dirname(os.path.dirname(os.path.abspath(__file__)))
 sys.path.insert(0, os.path.join(TOP, "clients", "python"))
 from foqradesh import Client, Generation, Group, Keys, Spec, member_token, node_address
 

@@ -1,7 +1,7 @@
 #!/usr/bin/env python3
 """A relay between the nodes of a cluster. It carries their packets, and does to them on command what a bad network does.
 
-    relay.py --nodes ADDRESS,ADDRESS.. --base-port P [--seed S]
+    lab/relay.py --nodes ADDRESS,ADDRESS.. --base-port P [--seed S]
 
 ADDRESS is where a node binds its packets, node 0 first, as 127.0.0.1:24000. Each ordered pair of N nodes has a UDP port of its own on
 127.0.0.1: what node I sends to port P + N * I + J goes on to node J, and comes to it from the port that node J sends to for node I. So
@@ -21,7 +21,7 @@ Commands are lines on standard input. Each is answered by a line on standard out
     quit               ends the relay, as the end of standard input does
 
 A capture has a line for each datagram: milliseconds since the capture began, the sending node, the receiving node, and the bytes in
-hexadecimal. It needs Python 3.9 and nothing else. examples/peers.py runs it in a thread of its own.
+hexadecimal. It needs Python 3.9 and nothing else. tests/peers.py runs it in a thread of its own.
 """
 
 from __future__ import annotations

@@ -1,5 +1,5 @@
 #!/usr/bin/env python3
-"""Tests of relay.py, with plain UDP sockets in the place of nodes: `python3 examples/test_relay.py`."""
+"""Tests of lab/relay.py, with plain UDP sockets in the place of nodes: `python3 tests/test_relay.py`."""
 
 from __future__ import annotations
 
@@ -12,9 +12,10 @@ import time
 import unittest
 from typing import List
 
-sys.path.insert(0, os.path.dirname(os.path.abspath(__file__)))
+TOP = os.path.dirname(os.path.dirname(os.path.abspath(__file__)))
+sys.path.insert(0, TOP)
 
-from relay import Relay, read_address  # noqa: E402
+from lab.relay import Relay, read_address  # noqa: E402
 
 NUMBERS = list(range(400))
 """What is sent in the tests of shares: each number once, two bytes each."""
@@ -212,7 +213,7 @@ class ProgramTest(unittest.TestCase):
     """The relay as a program, with commands on standard input."""
 
     def test_commands_are_lines(self) -> None:
-        path = os.path.join(os.path.dirname(os.path.abspath(__file__)), "relay.py")
+        path = os.path.join(TOP, "lab", "relay.py")
         with socket.socket(socket.AF_INET, socket.SOCK_DGRAM) as one, socket.socket(socket.AF_INET, socket.SOCK_DGRAM) as two:
             for node in (one, two):
                 node.bind(("127.0.0.1", 0))
