@@ -10,7 +10,7 @@ import sys
 import tempfile
 import time
 
-from serve import ADMIN_KEY, CLUSTER_KEY, PAYLOAD, PORT, message, prepare
+from serve import PAYLOAD, PORT, message, prepare, told
 
 MEMBERS = (0, 1, 2)
 GROUPS = 64
@@ -38,7 +38,7 @@ def record(serve, play, folder, fetches):
     """Returns the names of the records of a run, and the run's number."""
     words = [serve, "--nodes", "3", "--base-port", str(PORT), "--dir", folder, "--record"]
     with subprocess.Popen(words, stdin=subprocess.PIPE, stdout=subprocess.PIPE, text=True) as server:
-        server.stdin.write(f"{CLUSTER_KEY.hex()}\n{ADMIN_KEY.hex()}\n")
+        server.stdin.write(told())
         server.stdin.flush()
         assert server.stdout.readline().startswith("serving")
         prepare(MEMBERS, GROUPS, "eager")
@@ -51,10 +51,9 @@ def record(serve, play, folder, fetches):
 
 def audit(program, run, names, words):
     """Prints what an audit with these words takes."""
-    text = f"{CLUSTER_KEY.hex()}\n{ADMIN_KEY.hex()}\n"
     begun = time.monotonic()
     process = subprocess.Popen([program, "--run", run, *words, *names], stdin=subprocess.PIPE, stdout=subprocess.PIPE, text=True)
-    out, _ = process.communicate(text)
+    out, _ = process.communicate(told())
     took = time.monotonic() - begun
     assert process.returncode == 0, out
     merged = int(out.split("merged ")[1].split()[0])

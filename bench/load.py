@@ -8,10 +8,11 @@ import tempfile
 import time
 from dataclasses import dataclass
 
-sys.path.insert(0, os.path.join(os.path.dirname(os.path.abspath(__file__)), "..", "clients", "python"))
-from foqradesh import BadPlaceError, Client, Keys, Spec, member_token, node_address
+sys.path.insert(0, os.path.dirname(os.path.dirname(os.path.abspath(__file__))))
+from lab.keys import ADMIN_KEY, TENANT_KEY, member_token, told  # noqa: E402
+from lab.sessions import framed  # noqa: E402
+from foqradesh import BadPlaceError, Client, Keys, Spec, node_address  # noqa: E402
 
-CLUSTER_KEY, ADMIN_KEY, TENANT_KEY = (bytes([byte] * 32) for byte in (0x11, 0x22, 0x33))
 PORT = int(os.environ.get("SCALE_PORT", "30000"))
 GROUPS_OF_A_TENANT = 250
 BEHIND = 64  # how many steps a fetch is behind the say of the message that it fetches
@@ -84,7 +85,7 @@ class Server:
         commands = [program.split() + it + ["--quiet", "--stop-at-end"] for it in words]
         self.processes = [subprocess.Popen(it, stdin=subprocess.PIPE, stdout=subprocess.PIPE, text=True, env=environment) for it in commands]
         for process in self.processes:
-            process.stdin.write(CLUSTER_KEY.hex() + "\n" + ADMIN_KEY.hex() + "\n")
+            process.stdin.write(told())
             process.stdin.flush()
         for process in self.processes:
             line = process.stdout.readline()
@@ -173,11 +174,8 @@ def write_messages(load, node, path):
     heads = []
     for group in range(load.groups):
         tenant, number = address(group)
-        heads.append(f"{member_token(TENANT_KEY, tenant, number, node)} {tenant} {number}")
+        heads.append(f"{member_token(tenant, number, node)} {tenant} {number}")
     payload = ("%02x" % (0x41 + node)) * load.payload
-
-    def framed(text):
-        return len(text).to_bytes(4, "big") + text.encode("ascii")
 
     says = [framed(f"say {head} {payload}") for head in heads]
     with open(path, "wb") as file:

@@ -16,7 +16,7 @@ import sys
 import tempfile
 import time
 
-from serve import ADMIN_KEY, CLUSTER_KEY, PAYLOAD, TENANT_KEY, Client, Server, Spec, keys, message, node_address
+from serve import PAYLOAD, TENANT_KEY, Client, Server, Spec, keys, message, node_address, told
 from watched import seconds
 
 PORTS = (23000, 23200, 23400, 23600)
@@ -103,9 +103,8 @@ class Bench:
             sizes = [len(line) for line in file if line.split(b" ")[2:3] == [word]]
         print(f"a {word.decode()} of {len(PAYLOAD)} bytes takes {statistics.mean(sizes):.0f} bytes in a record", flush=True)
         run = os.path.basename(name).split("-")[1]
-        text = f"{CLUSTER_KEY.hex()}\n{ADMIN_KEY.hex()}\n"
         before, begun = os.times(), time.monotonic()
-        done = subprocess.run([self.audit, "--run", run, name], input=text, capture_output=True, text=True)
+        done = subprocess.run([self.audit, "--run", run, name], input=told(), capture_output=True, text=True)
         took, after = time.monotonic() - begun, os.times()
         spent = max(0.01, after.children_user + after.children_system - before.children_user - before.children_system)
         merged = int(done.stdout.split("merged ")[1].split()[0])

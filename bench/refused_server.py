@@ -19,7 +19,9 @@ import tempfile
 import threading
 import time
 
-import session
+sys.path.insert(0, os.path.dirname(os.path.dirname(os.path.abspath(__file__))))
+from lab import keys  # noqa: E402
+from lab.sessions import Link  # noqa: E402
 
 NODES, KINDS = 3, ('beb', 'lazy', 'eager', 'allack', 'majority', 'fbeb', 'flazy', 'feager', 'fallack', 'fmajority')
 TENANT, ROUNDS, SPARE = 7, 3, 15  # the group SPARE is made and dropped
@@ -64,7 +66,7 @@ class Server:
                  '--tick', '20', '--silence', '1000', *words]
         self.process = subprocess.Popen(words, stdin=subprocess.PIPE, stdout=subprocess.PIPE, stderr=subprocess.DEVNULL, env=said)
         try:
-            self.process.stdin.write((session.CLUSTER_KEY.hex() + '\n' + session.ADMIN_KEY.hex() + '\n').encode())
+            self.process.stdin.write(keys.told().encode())
             self.process.stdin.close()
         except BrokenPipeError:
             pass
@@ -107,6 +109,13 @@ class Server:
         self.process.stdout.close()
 
 
+def token_for(command, node, group):
+    """The token that a command needs at a node."""
+    if command == 'tenant':
+        return keys.ADMIN_TOKEN
+    return keys.member_token(TENANT, group, node) if command in ('say', 'fetch', 'await') else keys.tenant_token(TENANT)
+
+
 class Asker:
     """A client at one node that asks again what was refused for memory, on a new connection where its own was closed."""
 
@@ -117,11 +126,11 @@ class Asker:
         """Sends a command on a connection of its own; whether this could be done."""
         try:
             if self.session is None:
-                self.session = session.Session(self.port, self.node, SECONDS)
-            secret = session.token_for(command, self.node, TENANT, int(words[1]) if len(words) > 1 else 0)
+                self.session = Link(self.port + 64 + self.node, SECONDS)
+            secret = token_for(command, self.node, int(words[1]) if len(words) > 1 else 0)
             words = [*map(str, words)]
             if command == 'tenant':
-                words.insert(1, session.TENANT_KEY.hex())
+                words.insert(1, keys.TENANT_KEY.hex())
             self.session.send(' '.join([command, secret, *words]))
             return True
         except ConnectionRefusedError:
@@ -139,7 +148,7 @@ class Asker:
     def receive(self):
         """The reply; None where the connection was closed."""
         try:
-            return self.session.receive()
+            return self.session.reply()
         except ConnectionError:
             self.lose()
             return None
@@ -456,16 +465,16 @@ def not_served(bench, words, keys, expected):
 
 
 def print_not_served(bench):
-    keys = (session.CLUSTER_KEY.hex() + '\n' + session.ADMIN_KEY.hex() + '\n').encode()
+    text = keys.told().encode()
     good = ['--nodes', str(NODES), '--base-port', str(bench.port)]
     asked = subprocess.run([bench.serve, '--help'], capture_output=True, timeout=SECONDS, check=True).stdout
     helped = Ended(asked.decode('latin-1').splitlines(), 0)
     head('It does not serve', 'Requests', '`host fault 5`', 'as if none')
     for what, words, given, expected in (
-            ('refused words', ['--nodes', 'x'], keys, Ended(['refused words'], 2)),
-            ('17 nodes with version 1', ['--nodes', '17', '--version', '1', *good[2:]], keys, Ended(['refused words'], 2)),
-            ('help', ['--help'], keys, helped),
-            ('bad keys', good, keys[1:], Ended(['bad keys'], 1))):
+            ('refused words', ['--nodes', 'x'], text, Ended(['refused words'], 2)),
+            ('17 nodes with version 1', ['--nodes', '17', '--version', '1', *good[2:]], text, Ended(['refused words'], 2)),
+            ('help', ['--help'], text, helped),
+            ('bad keys', good, text[1:], Ended(['bad keys'], 1))):
         most, found = not_served(bench, words, given, expected)
         row(what, most, found['host fault 5'], found[expected.lines[0]])
 

@@ -3,23 +3,19 @@ Words: gb_serve, that program, the library that loses datagrams (bench/serve/los
 and how many rounds. Of rates the best of the rounds is told at the end, of times the round with the least median."""
 import os
 import shutil
-import struct
 import subprocess
 import sys
 import tempfile
 import time
 
-sys.path.insert(0, os.path.join(os.path.dirname(os.path.abspath(__file__)), "..", "clients", "python"))
-from foqradesh import Client, Keys, Spec, node_address
+sys.path.insert(0, os.path.dirname(os.path.dirname(os.path.abspath(__file__))))
+from lab.keys import ADMIN_KEY, TENANT_KEY, member_token, told  # noqa: E402
+from lab.sessions import framed  # noqa: E402
+from foqradesh import Client, Keys, Spec, node_address  # noqa: E402
 
-CLUSTER_KEY, ADMIN_KEY, TENANT_KEY = (bytes([byte] * 32) for byte in (0x11, 0x22, 0x33))
 PORT = 23000
 PAYLOAD = b"0123456789abcdef"
 CASES = ((1, 1), (1, 32), (64, 1), (64, 32))  # connections, and requests ahead on each
-
-
-def framed(body):
-    return struct.pack(">I", len(body)) + body
 
 
 def keys(node):
@@ -28,7 +24,7 @@ def keys(node):
 
 def message(command, node, tenant, group, words):
     """A message of the member of a group at a node."""
-    return framed(f"{command} {keys(node).member(tenant, group)} {tenant} {group} {words}".encode("ascii"))
+    return framed(f"{command} {member_token(tenant, group, node)} {tenant} {group} {words}")
 
 
 def prepare(members, groups, kind="beb"):
@@ -48,7 +44,7 @@ class Server:
         environment = dict(os.environ, LD_PRELOAD=lossy, LOSSY="50") if lossy else None
         self.process = subprocess.Popen(words, stdin=subprocess.PIPE, stdout=subprocess.PIPE, text=True, env=environment)
         if keys:
-            self.process.stdin.write(CLUSTER_KEY.hex() + "\n" + ADMIN_KEY.hex() + "\n")
+            self.process.stdin.write(told())
             self.process.stdin.close()
             assert self.process.stdout.readline().startswith("serving")
         else:
@@ -111,7 +107,7 @@ class Bench:
     def rates(self):
         says = self.written("says", (message("say", 0, 1, group, PAYLOAD.hex()) for group in range(256)))
         fetches = self.written("fetches", [message("fetch", 0, 1, 0, "0 1")])
-        publishes = self.written("publishes", [framed(b"*3\r\n$7\r\nPUBLISH\r\n$4\r\nchat\r\n$%d\r\n%s\r\n" % (len(PAYLOAD), PAYLOAD))])
+        publishes = self.written("publishes", [framed(f"*3\r\n$7\r\nPUBLISH\r\n$4\r\nchat\r\n${len(PAYLOAD)}\r\n{PAYLOAD.decode('ascii')}\r\n")])
         for connections, ahead in CASES:
             for name, path in (("say", says), ("fetch", fetches)):
                 with self.serve(1) as server:

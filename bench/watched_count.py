@@ -9,7 +9,7 @@ import subprocess
 import sys
 import tempfile
 
-from serve import ADMIN_KEY, CLUSTER_KEY, message
+from serve import message, told
 from watched import PORTS, STATUS, Reader, prepare
 
 
@@ -29,7 +29,7 @@ def run(program, play, path, count, is_watched):
                  program, "--nodes", "1", "--base-port", str(PORTS[0])]
         words += ["--status", f"127.0.0.1:{STATUS}"] if is_watched else []
         server = subprocess.Popen(words, stdin=subprocess.PIPE, stdout=subprocess.PIPE, stderr=subprocess.DEVNULL, text=True)
-        server.stdin.write(CLUSTER_KEY.hex() + "\n" + ADMIN_KEY.hex() + "\n")
+        server.stdin.write(told())
         server.stdin.flush()
         assert server.stdout.readline().startswith("serving")
         prepare(PORTS[0])

@@ -10,8 +10,6 @@ It needs nothing beside Python. Where the machine itself is slow, a client may w
 """
 import argparse
 import contextlib
-import hashlib
-import hmac
 import os
 import resource
 import selectors
@@ -26,32 +24,15 @@ import time
 import urllib.error
 import urllib.request
 
-CLUSTER, ADMIN, TENANT = (bytes([byte]) * 32 for byte in (0x11, 0x22, 0x33))
+sys.path.insert(0, os.path.dirname(os.path.dirname(os.path.abspath(__file__))))
+from lab import keys, sessions  # noqa: E402
+from lab.keys import ADMIN_TOKEN, TENANT_KEY, member_token, tenant_token  # noqa: E402
+from lab.sessions import framed  # noqa: E402
+
 NOBODY = "0" * 64  # a token that is not valid
 LONGEST = 0.1  # seconds that another client may wait
 SLOWER = 3  # how many times as long as a client of an echo it may wait
 SESSIONS, STATUS, RELAYED = 64, 140, 200  # how far above a server's first port its other ports are
-
-
-def token(key, text):
-    return hmac.new(key, text, hashlib.sha256).hexdigest()
-
-
-ADMIN_TOKEN = token(ADMIN, b"A")
-
-
-def tenant_token(tenant):
-    return token(TENANT, b"T" + struct.pack(">H", tenant))
-
-
-def member_token(tenant, group, node=0):
-    return token(TENANT, b"M" + struct.pack(">HHB", tenant, group, node))
-
-
-def framed(text):
-    return struct.pack(">I", len(text)) + text.encode("ascii")
-
-
 DENIED = [framed(f"open {NOBODY} 7 {group}") for group in (1, 2)]
 
 
@@ -64,37 +45,13 @@ def expect(is_so, text):
         raise Failed(text)
 
 
-class Link:
+class Link(sessions.Link):
     """A connection to a node's sessions."""
-
-    def __init__(self, port, timeout=10):
-        self.socket = socket.create_connection(("127.0.0.1", port), timeout)
-        self.socket.setsockopt(socket.IPPROTO_TCP, socket.TCP_NODELAY, 1)
-
-    def read(self, count):
-        text = b""
-        while len(text) < count:
-            piece = self.socket.recv(count - len(text))
-            if not piece:
-                raise ConnectionError("closed")
-            text += piece
-        return text
-
-    def told(self):
-        (size,) = struct.unpack(">I", self.read(4))
-        return self.read(size).decode("ascii")
-
-    def ask(self, text):
-        self.socket.sendall(framed(text))
-        return self.told()
 
     def figures(self):
         text = self.ask(f"status {ADMIN_TOKEN}")
         expect(text.startswith("status "), f"an administrator is answered {text[:40]!r}")
         return {word.split("=")[0]: int(word.split("=")[1]) for word in text.split()[1:]}
-
-    def close(self):
-        self.socket.close()
 
 
 class Process:
@@ -102,7 +59,7 @@ class Process:
 
     def __init__(self, words, log):
         self.process = subprocess.Popen(words, stdin=subprocess.PIPE, stdout=subprocess.PIPE, stderr=log)
-        self.process.stdin.write(f"{CLUSTER.hex()}\n{ADMIN.hex()}\n".encode("ascii"))
+        self.process.stdin.write(keys.told().encode("ascii"))
         self.process.stdin.flush()
         line = self.process.stdout.readline()
         if not line.startswith(b"serving"):
@@ -171,7 +128,7 @@ class Attacks:
 def prepare(port, node=0, members="0", kind="beb", groups=(1, 2)):
     """Makes the groups of a tenant at a node, as far as they are not there."""
     link = Link(port)
-    expect(link.ask(f"tenant {ADMIN_TOKEN} 7 {TENANT.hex()} 8 1000 65536 1000") == "ok", "a tenant is not taken in")
+    expect(link.ask(f"tenant {ADMIN_TOKEN} 7 {TENANT_KEY.hex()} 8 1000 65536 1000") == "ok", "a tenant is not taken in")
     for group in groups:
         text = link.ask(f"make {tenant_token(7)} 7 {group} {kind} {members} 1000 60000 1000")
         expect(text == "ok", f"a group is not made: {text}")

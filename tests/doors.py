@@ -17,10 +17,11 @@ import threading
 import time
 
 TOP = os.path.dirname(os.path.dirname(os.path.abspath(__file__)))
-sys.path.insert(0, os.path.join(TOP, "clients", "python"))
-from foqradesh import Client, Group, Keys, Spec, member_token, node_address
+sys.path.insert(0, TOP)
+from lab import keys  # noqa: E402
+from lab.keys import ADMIN_KEY, TENANT_KEY, member_token  # noqa: E402
+from foqradesh import Client, Group, Keys, Spec, node_address  # noqa: E402
 
-CLUSTER_KEY, ADMIN_KEY, TENANT_KEY = (bytes([byte] * 32) for byte in (0x11, 0x22, 0x33))
 HEAD = "7 1"
 MOST = 120  # connections that a door serves at once here
 TIME = 15  # seconds that anything may take
@@ -105,8 +106,7 @@ def start(stack, words, text=""):
 
 
 def prepare(port):
-    keys = Keys(0, admin=ADMIN_KEY, tenants={7: TENANT_KEY})
-    with Client(node_address(port, 0), keys) as client:
+    with Client(node_address(port, 0), Keys(0, admin=ADMIN_KEY, tenants={7: TENANT_KEY})) as client:
         client.add_tenant(7, TENANT_KEY, groups=4, messages=1000, total_bytes=65536, window=1000)
         Group({0: client}, 7, 1, Spec("fbeb", (0,), messages=1000, total_bytes=65536, window=1000)).start()
 
@@ -205,9 +205,9 @@ def main():
     parser.add_argument("--port", type=int, default=25700, metavar="P", help="the base port of the node; the door is at P + 80")
     words = parser.parse_args()
     serve, web = program("GB_SERVE", "gb_serve"), program("GB_WEB", "gb_web")
-    door, token = words.port + 80, member_token(TENANT_KEY, 7, 1, 0)
+    door, token = words.port + 80, member_token(7, 1)
     with contextlib.ExitStack() as stack:
-        node = start(stack, [serve, "--nodes", "1", "--base-port", str(words.port), "--quiet"], CLUSTER_KEY.hex() + "\n" + ADMIN_KEY.hex() + "\n")
+        node = start(stack, [serve, "--nodes", "1", "--base-port", str(words.port), "--quiet"], keys.told())
         prepare(words.port)
         start(stack, [web, "--listen", f"127.0.0.1:{door}", "--node", f"127.0.0.1:{words.port + 64}", "--connections", str(MOST)])
         talks(door, token)

@@ -22,11 +22,12 @@ import threading
 import time
 
 TOP = os.path.dirname(os.path.dirname(os.path.abspath(__file__)))
-sys.path.insert(0, os.path.join(TOP, "clients", "python"))
+sys.path.insert(0, TOP)
 
+from lab import keys  # noqa: E402
+from lab.keys import ADMIN_KEY, CLUSTER_KEY, TENANT_KEY  # noqa: E402
 from foqradesh import Client, FoqradeshError, Group, Keys, Spec, node_address  # noqa: E402
 
-CLUSTER, ADMIN, TENANT = (bytes([byte]) * 32 for byte in (0x11, 0x22, 0x33))
 SENDERS = 6
 NODES = 3
 
@@ -53,11 +54,11 @@ def expect(is_so, text):
 class Process:
     """A program that serves, told its keys. It ends when its standard input does."""
 
-    def __init__(self, folder, name, words, cluster=CLUSTER):
+    def __init__(self, folder, name, words, cluster_key=CLUSTER_KEY):
         self.log = os.path.join(folder, name)
         with open(self.log, "wb") as log:
             self.process = subprocess.Popen(words, stdin=subprocess.PIPE, stdout=subprocess.PIPE, stderr=log)
-        self.process.stdin.write(f"{cluster.hex()}\n{ADMIN.hex()}\n".encode("ascii"))
+        self.process.stdin.write(keys.told(cluster_key).encode("ascii"))
         self.process.stdin.flush()
         line = self.process.stdout.readline()
         if not line.startswith(b"serving"):
@@ -116,12 +117,12 @@ def percentile(values, share):
 
 
 def clients_of(base):
-    return {node: Client(node_address(base, node), Keys(node, admin=ADMIN, tenants={7: TENANT})) for node in range(NODES)}
+    return {node: Client(node_address(base, node), Keys(node, admin=ADMIN_KEY, tenants={7: TENANT_KEY})) for node in range(NODES)}
 
 
 def begin_groups(clients, kinds):
     for client in clients.values():
-        client.add_tenant(7, TENANT, groups=8, messages=1000, total_bytes=60000, window=1000)
+        client.add_tenant(7, TENANT_KEY, groups=8, messages=1000, total_bytes=60000, window=1000)
     for number, kind in enumerate(kinds, 1):
         spec = Spec(kind, tuple(clients), messages=1000, total_bytes=60000, window=1000)
         Group(clients, 7, number, spec).start()
@@ -243,7 +244,7 @@ class Floods:
             with open(file, "w", encoding="ascii") as cluster:
                 cluster.write(f"run = {int(time.time())}\ntick = 64\n{tables}")
             nodes = []
-            for node, key in enumerate((CLUSTER, bytes(32))):
+            for node, key in enumerate((CLUSTER_KEY, bytes(32))):
                 words = [self.peer, "--cluster", file, "--node", str(node), "--dir",
                          os.path.join(self.folder.name, f"dir-{node}"), "--stop-at-end"]
                 nodes.append(Process(self.folder.name, f"peer-{node}", words, key))

@@ -16,7 +16,10 @@ import textwrap
 from typing import Sequence
 
 TOP = os.path.dirname(os.path.dirname(os.path.abspath(__file__)))
-KEYS = "11" * 32 + "\n" + "22" * 32 + "\n"
+sys.path.insert(0, TOP)
+
+from lab import keys  # noqa: E402
+
 NODES, RUN = 3, 4
 
 
@@ -67,7 +70,7 @@ def serves(peer: str, file: str) -> None:
         with subprocess.Popen(words, stdin=subprocess.PIPE, stdout=subprocess.PIPE, text=True) as process:
             assert process.stdin is not None and process.stdout is not None
             try:
-                process.stdin.write(KEYS)
+                process.stdin.write(keys.told())
                 process.stdin.flush()
                 line = process.stdout.readline()
                 if line != f"serving node 0 of {NODES} in run {RUN}\n":

@@ -32,6 +32,7 @@ from typing import Callable, Dict, List, Mapping, Optional, Sequence, Set, Tuple
 TOP = os.path.dirname(os.path.dirname(os.path.abspath(__file__)))
 sys.path.insert(0, TOP)
 
+from lab import keys  # noqa: E402
 from lab.relay import Relay  # noqa: E402
 from foqradesh import Client, Entry, FoqradeshError, Keys  # noqa: E402
 
@@ -114,7 +115,7 @@ class Node:
         words += ["--status", f"127.0.0.1:{self.cluster.status_port(self.number)}", "--stop-at-end"]
         with open(self._path("printed"), "wb") as printed, open(self._path("log"), "wb") as log:
             self.process = subprocess.Popen(words, stdin=subprocess.PIPE, stdout=printed, stderr=log)
-        self._write(f"{self.cluster.cluster_key.hex()}\n{self.cluster.admin_key.hex()}\n")
+        self._write(keys.told(self.cluster.cluster_key, self.cluster.admin_key))
 
     def _write(self, text: str) -> None:
         assert self.process is not None and self.process.stdin is not None

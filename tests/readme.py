@@ -10,8 +10,10 @@ import subprocess
 import sys
 
 TOP = os.path.dirname(os.path.dirname(os.path.abspath(__file__)))
+sys.path.insert(0, TOP)
+from lab import keys  # noqa: E402
+
 PRINTED = "b'hello'\n"
-KEYS = "11" * 32 + "\n" + "22" * 32 + "\n"
 
 
 def code(port):
@@ -26,7 +28,7 @@ def main(words):
     program, port = words[0], int(words[1]) if len(words) > 1 else 42000
     server = subprocess.Popen([program, "--nodes", "3", "--base-port", str(port)], stdin=subprocess.PIPE, stdout=subprocess.PIPE, text=True)
     try:
-        server.stdin.write(KEYS)
+        server.stdin.write(keys.told())
         server.stdin.flush()
         server.stdout.readline()
         path = {**os.environ, "PYTHONPATH": os.path.join(TOP, "clients", "python")}

@@ -25,10 +25,10 @@ import threading
 import time
 from typing import Callable, Dict, List, Optional, Sequence, Tuple
 
-HERE = os.path.dirname(os.path.abspath(__file__))
-TOP = os.path.dirname(HERE)
-sys.path.insert(0, os.path.join(TOP, "clients", "python"))
+TOP = os.path.dirname(os.path.dirname(os.path.abspath(__file__)))
+sys.path.insert(0, TOP)
 
+from lab import keys  # noqa: E402
 from foqradesh import Client, FoqradeshError, Keys  # noqa: E402
 
 NODES = (0, 1, 2)
@@ -69,7 +69,7 @@ class Cluster:
         self.secrets = os.path.join(folder, "secrets")
         with open(self.secrets, "w", encoding="ascii") as file:
             file.write(f"admin {self.admin_key.hex()}\ntenant {self.tenant_key.hex()}\n")
-        self.keys = f"{self.cluster_key.hex()}\n{self.admin_key.hex()}\n".encode("ascii")
+        self.keys = keys.told(self.cluster_key, self.admin_key).encode("ascii")
         self.processes: Dict[int, subprocess.Popen[bytes]] = {}
 
     def start(self, run: int, node: int, most: Optional[int] = None) -> None:
@@ -113,8 +113,8 @@ class Cluster:
 
     def client(self, node: int) -> Client:
         """Return a client of a node."""
-        keys = Keys(node, admin=self.admin_key, tenants={TENANT: self.tenant_key})
-        return Client(("127.0.0.1", self.port + 64 + node), keys, time_limit=30.0)
+        own = Keys(node, admin=self.admin_key, tenants={TENANT: self.tenant_key})
+        return Client(("127.0.0.1", self.port + 64 + node), own, time_limit=30.0)
 
     def noticed(self, node: int) -> int:
         """Return how many nodes a node has noticed."""

@@ -23,10 +23,11 @@ import time
 import urllib.request
 
 TOP = os.path.dirname(os.path.dirname(os.path.abspath(__file__)))
-sys.path.insert(0, os.path.join(TOP, "clients", "python"))
-from foqradesh import Client, Generation, Group, Keys, Spec, member_token, node_address
+sys.path.insert(0, TOP)
+from lab import keys  # noqa: E402
+from lab.keys import ADMIN_KEY, TENANT_KEY, member_token  # noqa: E402
+from foqradesh import Client, Generation, Group, Keys, Spec, node_address  # noqa: E402
 
-CLUSTER_KEY, ADMIN_KEY, TENANT_KEY = (bytes([byte] * 32) for byte in (0x11, 0x22, 0x33))
 TENANT, GROUP, NODES = 7, 1, 3
 SPEC = Spec("fallack", (0, 1, 2), messages=8, total_bytes=4096, window=8)  # Ada fills it: she joins, greets, and says five more
 NAMES = ("Ada", "Grace", "Edsger")
@@ -184,7 +185,7 @@ def focused(page):
 def join(page, name, node):
     """Fills the form in, by the keyboard alone."""
     page.value("document.body.focus()")
-    for field, text in (("name", name), ("token", member_token(TENANT_KEY, TENANT, GROUP, node))):
+    for field, text in (("name", name), ("token", member_token(TENANT, GROUP, node))):
         page.tab()
         if focused(page) != field:
             raise AssertionError(f"Tab leads to {focused(page)} and not to {field}")
@@ -198,7 +199,7 @@ def start_server(stack, path, port):
     process = subprocess.Popen(words, stdin=subprocess.PIPE, stdout=subprocess.PIPE, text=True)
     stack.callback(process.wait)
     stack.callback(process.kill)
-    process.stdin.write(CLUSTER_KEY.hex() + "\n" + ADMIN_KEY.hex() + "\n")
+    process.stdin.write(keys.told())
     process.stdin.flush()
     if not process.stdout.readline().startswith("serving"):
         raise RuntimeError("gb_serve does not serve")
