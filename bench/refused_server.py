@@ -20,7 +20,7 @@ import threading
 import time
 
 sys.path.insert(0, os.path.dirname(os.path.dirname(os.path.abspath(__file__))))
-from lab import keys  # noqa: E402
+from lab import keys, ports  # noqa: E402
 from lab.sessions import Link  # noqa: E402
 
 NODES, KINDS = 3, ('beb', 'lazy', 'eager', 'allack', 'majority', 'fbeb', 'flazy', 'feager', 'fallack', 'fmajority')
@@ -126,7 +126,7 @@ class Asker:
         """Sends a command on a connection of its own; whether this could be done."""
         try:
             if self.session is None:
-                self.session = Link(self.port + 64 + self.node, SECONDS)
+                self.session = Link(self.port + ports.SESSIONS + self.node, SECONDS)
             secret = token_for(command, self.node, int(words[1]) if len(words) > 1 else 0)
             words = [*map(str, words)]
             if command == 'tenant':
@@ -267,16 +267,7 @@ def finish(server, seconds=SECONDS):
 
 def are_free(port):
     """Whether all ports of a server can be bound."""
-    for node in range(NODES):
-        for kind, number in ((socket.SOCK_DGRAM, port + node), (socket.SOCK_STREAM, port + 64 + node)):
-            with socket.socket(socket.AF_INET, kind) as bound:
-                if kind == socket.SOCK_STREAM:
-                    bound.setsockopt(socket.SOL_SOCKET, socket.SO_REUSEADDR, 1)
-                try:
-                    bound.bind(('127.0.0.1', number))
-                except OSError:
-                    return False
-    return True
+    return all(ports.is_free(port + node, [ports.PACKETS]) and ports.is_free(port + ports.SESSIONS + node, [ports.STREAMS]) for node in range(NODES))
 
 
 def heal(server, first):

@@ -27,12 +27,13 @@ import urllib.request
 sys.path.insert(0, os.path.dirname(os.path.dirname(os.path.abspath(__file__))))
 from lab import keys, sessions  # noqa: E402
 from lab.keys import ADMIN_TOKEN, TENANT_KEY, member_token, tenant_token  # noqa: E402
+from lab.ports import SESSIONS  # noqa: E402
 from lab.sessions import framed  # noqa: E402
 
 NOBODY = "0" * 64  # a token that is not valid
 LONGEST = 0.1  # seconds that another client may wait
 SLOWER = 3  # how many times as long as a client of an echo it may wait
-SESSIONS, STATUS, RELAYED = 64, 140, 200  # how far above a server's first port its other ports are
+STATUS, RELAYED = 140, 200  # how far above a server's first port its other ports are
 DENIED = [framed(f"open {NOBODY} 7 {group}") for group in (1, 2)]
 
 

@@ -15,27 +15,11 @@ from typing import List
 TOP = os.path.dirname(os.path.dirname(os.path.abspath(__file__)))
 sys.path.insert(0, TOP)
 
+from lab.ports import free_row  # noqa: E402
 from lab.relay import Relay, read_address  # noqa: E402
 
 NUMBERS = list(range(400))
 """What is sent in the tests of shares: each number once, two bytes each."""
-
-
-def free_ports(count: int) -> int:
-    """Return the first of a row of UDP ports that are free now."""
-    for base in range(25_000, 32_000, count):
-        sockets = []
-        try:
-            for port in range(base, base + count):
-                sockets.append(socket.socket(socket.AF_INET, socket.SOCK_DGRAM))
-                sockets[-1].bind(("127.0.0.1", port))
-            return base
-        except OSError:
-            continue
-        finally:
-            for each in sockets:
-                each.close()
-    raise AssertionError("no free ports")
 
 
 class RelayTest(unittest.TestCase):
@@ -47,7 +31,7 @@ class RelayTest(unittest.TestCase):
             node.bind(("127.0.0.1", 0))
             node.settimeout(5)
             self.addCleanup(node.close)
-        self.relay = Relay([node.getsockname() for node in self.nodes], free_ports(9))
+        self.relay = Relay([node.getsockname() for node in self.nodes], free_row(9))
         self.addCleanup(self.relay.close)
         self.relay.start()
 
@@ -201,7 +185,7 @@ class RelayTest(unittest.TestCase):
         self.assertEqual(self.carry_numbers(), NUMBERS)
 
     def test_a_taken_port_is_told_and_none_is_kept(self) -> None:
-        base = free_ports(9)
+        base = free_row(9)
         with socket.socket(socket.AF_INET, socket.SOCK_DGRAM) as other:
             other.bind(("127.0.0.1", base + 7))
             with self.assertRaises(OSError):
@@ -218,7 +202,7 @@ class ProgramTest(unittest.TestCase):
             for node in (one, two):
                 node.bind(("127.0.0.1", 0))
                 node.settimeout(5)
-            base = free_ports(4)
+            base = free_row(4)
             nodes = ",".join(f"127.0.0.1:{node.getsockname()[1]}" for node in (one, two))
             with subprocess.Popen([sys.executable, path, "--nodes", nodes, "--base-port", str(base)], text=True,
                                   stdin=subprocess.PIPE, stdout=subprocess.PIPE) as program:

@@ -41,6 +41,10 @@ import time
 from typing import Callable, Dict, Iterator, List, Optional, Sequence, Tuple
 
 TOP = os.path.dirname(os.path.dirname(os.path.abspath(__file__)))
+sys.path.insert(0, TOP)
+
+from lab.ports import is_free  # noqa: E402
+
 PROGRAMS = ("gb_serve", "gb_peer", "gb_ctl", "gb_web", "gb_sim", "gb_audit")
 
 PORTS = 256
@@ -224,19 +228,6 @@ class Ports:
                     guard.close()
             time.sleep(1)
         raise RuntimeError(f"no {PORTS} ports in a row are free: --ports names others")
-
-
-def is_free(port: int) -> bool:
-    """Return True if a port can be bound, for packets and for connections."""
-    for kind in (socket.SOCK_DGRAM, socket.SOCK_STREAM):
-        with socket.socket(socket.AF_INET, kind) as probe:
-            if kind == socket.SOCK_STREAM:
-                probe.setsockopt(socket.SOL_SOCKET, socket.SO_REUSEADDR, 1)
-            try:
-                probe.bind(("127.0.0.1", port))
-            except OSError:
-                return False
-    return True
 
 
 def stat_of(process: int) -> Tuple[int, str]:
