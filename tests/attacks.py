@@ -25,9 +25,10 @@ import urllib.error
 import urllib.request
 
 sys.path.insert(0, os.path.dirname(os.path.dirname(os.path.abspath(__file__))))
-from lab import keys, sessions  # noqa: E402
+from lab import sessions  # noqa: E402
 from lab.keys import ADMIN_TOKEN, TENANT_KEY, member_token, tenant_token  # noqa: E402
 from lab.ports import SESSIONS  # noqa: E402
+from lab.serving import STOPS, NotServing, Serving, all_serving, peer_words, serve_words, write_cluster_file  # noqa: E402
 from lab.sessions import framed  # noqa: E402
 
 NOBODY = "0" * 64  # a token that is not valid
@@ -55,32 +56,6 @@ class Link(sessions.Link):
         return {word.split("=")[0]: int(word.split("=")[1]) for word in text.split()[1:]}
 
 
-class Process:
-    """A program that serves. It ends when its standard input does."""
-
-    def __init__(self, words, log):
-        self.process = subprocess.Popen(words, stdin=subprocess.PIPE, stdout=subprocess.PIPE, stderr=log)
-        self.process.stdin.write(keys.told().encode("ascii"))
-        self.process.stdin.flush()
-        line = self.process.stdout.readline()
-        if not line.startswith(b"serving"):
-            self.end()
-            raise Failed(f"{words[0]} does not serve: {line!r}")
-
-    @property
-    def pid(self):
-        return self.process.pid
-
-    def end(self):
-        with contextlib.suppress(OSError):
-            self.process.stdin.close()
-        try:
-            self.process.wait(20)
-        except subprocess.TimeoutExpired:
-            self.process.kill()
-            self.process.wait()
-
-
 class Attacks:
     def __init__(self, serve, peer, port):
         self.serve, self.peer, self.port = serve, peer, port
@@ -95,35 +70,25 @@ class Attacks:
     @contextlib.contextmanager
     def served(self, *words, nodes=1):
         base = self.next_ports()
-        server = Process([self.serve, "--nodes", str(nodes), "--base-port", str(base), "--stop-at-end", *words], self.log)
-        server.port = base
-        server.sessions = base + SESSIONS
-        try:
+        with Serving(serve_words(self.serve, base, nodes, STOPS, *words), log=self.log) as server:
+            server.port, server.sessions = base, base + SESSIONS
             yield server
-        finally:
-            server.end()
 
     @contextlib.contextmanager
     def peers(self, silence, seen, folder):
         """Two nodes, each a gb_peer. `seen` has for each node the ports at which it finds the packets of the two, and its own last."""
-        started = []
-        try:
-            for node, (ports, status) in enumerate(seen):
-                path = os.path.join(folder, f"cluster{node}.toml")
-                with open(path, "w", encoding="ascii") as file:
-                    file.write(f"run = 1\ntick = 20\nsilence = {silence}\n")
-                    for at, port in enumerate(ports):
-                        file.write(f'[[node]]\npackets = "127.0.0.1:{port}"\nsessions = "127.0.0.1:{self.port + SESSIONS + at}"\n')
-                words = ["--cluster", path, "--node", str(node), "--dir", folder, "--wait", "0", "--stop-at-end"]
-                words += ["--status", f"127.0.0.1:{status}"]
-                started.append(Process([self.peer, *words], self.log))
-            yield started
-        finally:
-            for process in started:
-                with contextlib.suppress(ProcessLookupError):
-                    os.kill(process.pid, signal.SIGCONT)
-            for process in started:
-                process.end()
+        rows = []
+        for node, (ports, status) in enumerate(seen):
+            path = os.path.join(folder, f"cluster{node}.toml")
+            write_cluster_file(path, [(port, self.port + SESSIONS + at) for at, port in enumerate(ports)], run=1, tick=20, silence=silence)
+            rows.append(peer_words(self.peer, path, node, folder, "--wait", "0", "--status", f"127.0.0.1:{status}"))
+        with all_serving(rows, log=self.log) as nodes:
+            try:
+                yield nodes
+            finally:
+                for node in nodes:
+                    with contextlib.suppress(ProcessLookupError):
+                        os.kill(node.pid, signal.SIGCONT)
 
 
 def prepare(port, node=0, members="0", kind="beb", groups=(1, 2)):
@@ -623,7 +588,7 @@ def main():
         name = attack.__name__.replace("_", " ")
         try:
             seen = attack(attacks)
-        except (Failed, OSError, subprocess.SubprocessError) as fault:
+        except (Failed, NotServing, OSError, subprocess.SubprocessError) as fault:
             failed += 1
             print(f"{name}: FAILED: {fault}", flush=True)
         else:

@@ -7,13 +7,14 @@ slowest kind takes more than a tenth more than the quickest.
 """
 import os
 import statistics
-import subprocess
 import sys
 import time
 
 TOP = os.path.dirname(os.path.dirname(os.path.abspath(__file__)))
 sys.path.insert(0, TOP)
 from lab import keys  # noqa: E402
+from lab.ports import SESSIONS  # noqa: E402
+from lab.serving import Serving, serve_words  # noqa: E402
 from lab.sessions import Link, framed  # noqa: E402
 
 PORT, REQUESTS, BURSTS = 28600, 500, 60
@@ -51,23 +52,16 @@ def prepare(link):
 
 def main():
     serve = sys.argv[1] if len(sys.argv) > 1 else os.path.join(TOP, "bin", "gb_serve")
-    words = [serve, "--nodes=1", f"--base-port={PORT}"]
-    server = subprocess.Popen(words, stdin=subprocess.PIPE, stdout=subprocess.PIPE)
-    try:
-        server.stdin.write(keys.told().encode("ascii"))
-        server.stdin.flush()
-        server.stdout.readline()
-        link = Link(PORT + 64, None)
-        prepare(link)
-        times = {kind: [] for kind in KINDS}
-        for _ in range(BURSTS):
-            for kind, text in KINDS.items():
-                times[kind].append(burst(link, text))
-    except ConnectionError as fault:
-        raise SystemExit(f"denied.py: {fault}") from None
-    finally:
-        server.kill()
-        server.wait()
+    times = {kind: [] for kind in KINDS}
+    with Serving(serve_words(serve, PORT, 1)):
+        try:
+            link = Link(PORT + SESSIONS, None)
+            prepare(link)
+            for _ in range(BURSTS):
+                for kind, text in KINDS.items():
+                    times[kind].append(burst(link, text))
+        except ConnectionError as fault:
+            raise SystemExit(f"denied.py: {fault}") from None
     medians = {kind: statistics.median(found) for kind, found in times.items()}
     for kind, median in medians.items():
         print(f"{kind:20} {median:7.2f}")

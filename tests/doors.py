@@ -11,15 +11,15 @@ import contextlib
 import os
 import socket
 import struct
-import subprocess
 import sys
 import threading
 import time
 
 TOP = os.path.dirname(os.path.dirname(os.path.abspath(__file__)))
 sys.path.insert(0, TOP)
-from lab import keys  # noqa: E402
 from lab.keys import ADMIN_KEY, TENANT_KEY, member_token  # noqa: E402
+from lab.ports import SESSIONS  # noqa: E402
+from lab.serving import Serving, serve_words  # noqa: E402
 from foqradesh import Client, Group, Keys, Spec, node_address  # noqa: E402
 
 HEAD = "7 1"
@@ -90,19 +90,6 @@ def program(variable, name):
         print(f"doors: {path} is not there", file=sys.stderr)
         sys.exit(2)
     return path
-
-
-def start(stack, words, text=""):
-    """Starts a program, gives it a text, and returns it when it has told that it serves."""
-    process = subprocess.Popen(words, stdin=subprocess.PIPE, stdout=subprocess.PIPE, text=True)
-    stack.callback(process.wait)
-    stack.callback(process.kill)
-    process.stdin.write(text)
-    process.stdin.flush()
-    line = process.stdout.readline()
-    if not line.startswith("serving"):
-        raise RuntimeError(f"{words[0]} does not serve: {line!r}")
-    return process
 
 
 def prepare(port):
@@ -207,16 +194,15 @@ def main():
     serve, web = program("GB_SERVE", "gb_serve"), program("GB_WEB", "gb_web")
     door, token = words.port + 80, member_token(7, 1)
     with contextlib.ExitStack() as stack:
-        node = start(stack, [serve, "--nodes", "1", "--base-port", str(words.port), "--quiet"], keys.told())
+        node = stack.enter_context(Serving(serve_words(serve, words.port, 1, "--quiet")))
         prepare(words.port)
-        start(stack, [web, "--listen", f"127.0.0.1:{door}", "--node", f"127.0.0.1:{words.port + 64}", "--connections", str(MOST)])
+        stack.enter_context(Serving([web, "--listen", f"127.0.0.1:{door}", "--node", f"127.0.0.1:{words.port + SESSIONS}", "--connections", str(MOST)], ""))
         talks(door, token)
         disturbed(door, token)
         crowd(door, token)
         talker = Talker(door)
         check("a text is answered before the node goes", talker.ask(f"fetch {token} {HEAD} 51 16").startswith("log 1 "))
-        node.kill()
-        node.wait()
+        node.end()
         talker.send(f"fetch {token} {HEAD} 51 16")
         try:
             talker.text()

@@ -33,7 +33,9 @@ TOP = os.path.dirname(os.path.dirname(os.path.abspath(__file__)))
 sys.path.insert(0, TOP)
 
 from lab import keys  # noqa: E402
+from lab.ports import SESSIONS  # noqa: E402
 from lab.relay import Relay  # noqa: E402
+from lab.serving import cluster_file, peer_words  # noqa: E402
 from foqradesh import Client, Entry, FoqradeshError, Keys  # noqa: E402
 
 NODES = (0, 1, 2, 3)
@@ -111,8 +113,8 @@ class Node:
         path = self._path("toml")
         with open(path, "w", encoding="ascii") as file:
             file.write(self.cluster.file_of(self.number, run))
-        words = [self.cluster.peer, "--cluster", path, "--node", str(self.number), "--dir", self.folder]
-        words += ["--status", f"127.0.0.1:{self.cluster.status_port(self.number)}", "--stop-at-end"]
+        status = f"127.0.0.1:{self.cluster.status_port(self.number)}"
+        words = peer_words(self.cluster.peer, path, self.number, self.folder, "--status", status)
         with open(self._path("printed"), "wb") as printed, open(self._path("log"), "wb") as log:
             self.process = subprocess.Popen(words, stdin=subprocess.PIPE, stdout=printed, stderr=log)
         self._write(keys.told(self.cluster.cluster_key, self.cluster.admin_key))
@@ -206,7 +208,7 @@ class Cluster:
 
     def session_port(self, node: int) -> int:
         """Return the port of a node's sessions, which is where `gb_ctl --port` finds it."""
-        return self.port + 64 + node
+        return self.port + SESSIONS + node
 
     def status_port(self, node: int) -> int:
         """Return the port of a node's status."""
@@ -218,12 +220,8 @@ class Cluster:
 
     def file_of(self, node: int, run: int) -> str:
         """Return the cluster file of a node. The files of all nodes differ in addresses alone."""
-        lines = [f"run = {run}", f"tick = {TICK}", f"silence = {self.silence * 1000 // TICK}", "version = 3"]
-        for other in NODES:
-            packets = self.port + node if other == node else self.relay.port(node, other)
-            lines += ["", "[[node]]", f'packets = "127.0.0.1:{packets}"']
-            lines += [f'sessions = "127.0.0.1:{self.session_port(other)}"']
-        return "\n".join(lines) + "\n"
+        ports = [(self.port + node if other == node else self.relay.port(node, other), self.session_port(other)) for other in NODES]
+        return cluster_file(ports, run=run, tick=TICK, silence=self.silence * 1000 // TICK, version=3)
 
     def order(self, line: str) -> str:
         """Give the relay a command, and return its answer."""
@@ -611,7 +609,7 @@ class Stages:
             self.tell(f"a tunnel by {name} is left out: {why}")
             return
         node = self.cluster.nodes[0]
-        direct, node.client = node.client, Client(("127.0.0.1", self.cluster.tunnel_port() + 64), node.keys)
+        direct, node.client = node.client, Client(("127.0.0.1", self.cluster.tunnel_port() + SESSIONS), node.keys)
         try:
             total = self.speak((1, 2, 3, 4), (0,), NODES, 5)
             self.cluster.ask(0, "status", port=self.cluster.tunnel_port())

@@ -11,7 +11,7 @@ import sys
 
 TOP = os.path.dirname(os.path.dirname(os.path.abspath(__file__)))
 sys.path.insert(0, TOP)
-from lab import keys  # noqa: E402
+from lab.serving import Serving, serve_words  # noqa: E402
 
 PRINTED = "b'hello'\n"
 
@@ -26,17 +26,11 @@ def code(port):
 
 def main(words):
     program, port = words[0], int(words[1]) if len(words) > 1 else 42000
-    server = subprocess.Popen([program, "--nodes", "3", "--base-port", str(port)], stdin=subprocess.PIPE, stdout=subprocess.PIPE, text=True)
-    try:
-        server.stdin.write(keys.told())
-        server.stdin.flush()
-        server.stdout.readline()
+    with Serving(serve_words(program, port, 3)) as server:
         path = {**os.environ, "PYTHONPATH": os.path.join(TOP, "clients", "python")}
         run = subprocess.run([sys.executable, "-c", code(port)], capture_output=True, text=True, env=path, timeout=60, check=False)
         print(run.stdout + run.stderr, end="")
-        return 0 if run.stdout == PRINTED and server.wait(timeout=60) == 0 else 1
-    finally:
-        server.kill()
+        return 0 if run.stdout == PRINTED and server.process.wait(timeout=60) == 0 else 1
 
 
 if __name__ == "__main__":

@@ -29,6 +29,8 @@ TOP = os.path.dirname(os.path.dirname(os.path.abspath(__file__)))
 sys.path.insert(0, TOP)
 
 from lab import keys  # noqa: E402
+from lab.ports import SESSIONS  # noqa: E402
+from lab.serving import in_a_row, peer_words, write_cluster_file  # noqa: E402
 from foqradesh import Client, FoqradeshError, Keys  # noqa: E402
 
 NODES = (0, 1, 2)
@@ -75,18 +77,14 @@ class Cluster:
     def start(self, run: int, node: int, most: Optional[int] = None) -> None:
         """Start a node, of whose files none may have more bytes than these."""
         path = os.path.join(self.folder, f"run-{run}.toml")
-        lines = [f"run = {run}", "tick = 20", "silence = 250", "version = 3"]
-        for other in NODES:
-            lines += ["", "[[node]]", f'packets = "127.0.0.1:{self.port + other}"', f'sessions = "127.0.0.1:{self.port + 64 + other}"']
-        with open(path, "w", encoding="ascii") as file:
-            file.write("\n".join(lines) + "\n")
+        write_cluster_file(path, in_a_row(self.port, len(NODES)), run=run, tick=20, silence=250, version=3)
 
         def limit() -> None:
             if most is not None:
                 signal.signal(signal.SIGXFSZ, signal.SIG_IGN)
                 resource.setrlimit(resource.RLIMIT_FSIZE, (most, most))
 
-        words = [self.peer, "--cluster", path, "--node", str(node), "--dir", self.folder, "--record", "--stop-at-end"]
+        words = peer_words(self.peer, path, node, self.folder, "--record")
         with open(self.path(run, node, "printed"), "wb") as printed, open(self.path(run, node, "log"), "wb") as log:
             process = subprocess.Popen(words, stdin=subprocess.PIPE, stdout=printed, stderr=log, preexec_fn=limit)
         self.processes[node] = process
@@ -114,7 +112,7 @@ class Cluster:
     def client(self, node: int) -> Client:
         """Return a client of a node."""
         own = Keys(node, admin=self.admin_key, tenants={TENANT: self.tenant_key})
-        return Client(("127.0.0.1", self.port + 64 + node), own, time_limit=30.0)
+        return Client(("127.0.0.1", self.port + SESSIONS + node), own, time_limit=30.0)
 
     def noticed(self, node: int) -> int:
         """Return how many nodes a node has noticed."""

@@ -24,8 +24,9 @@ import urllib.request
 
 TOP = os.path.dirname(os.path.dirname(os.path.abspath(__file__)))
 sys.path.insert(0, TOP)
-from lab import keys  # noqa: E402
 from lab.keys import ADMIN_KEY, TENANT_KEY, member_token  # noqa: E402
+from lab.ports import SESSIONS  # noqa: E402
+from lab.serving import NotServing, Serving, serve_words  # noqa: E402
 from foqradesh import Client, Generation, Group, Keys, Spec, node_address  # noqa: E402
 
 TENANT, GROUP, NODES = 7, 1, 3
@@ -195,14 +196,7 @@ def join(page, name, node):
 
 
 def start_server(stack, path, port):
-    words = [path, "--nodes", str(NODES), "--version", "3", "--base-port", str(port), "--quiet"]
-    process = subprocess.Popen(words, stdin=subprocess.PIPE, stdout=subprocess.PIPE, text=True)
-    stack.callback(process.wait)
-    stack.callback(process.kill)
-    process.stdin.write(keys.told())
-    process.stdin.flush()
-    if not process.stdout.readline().startswith("serving"):
-        raise RuntimeError("gb_serve does not serve")
+    stack.enter_context(Serving(serve_words(path, port, NODES, "--version", "3", "--quiet")))
 
 
 def page_folder(stack):
@@ -214,14 +208,11 @@ def page_folder(stack):
 
 
 def start_door(stack, path, port, node, folder):
-    words = [path, "--listen", f"127.0.0.1:{port + 80 + node}", "--node", f"127.0.0.1:{port + 64 + node}", "--page", folder]
-    process = subprocess.Popen(words, stdout=subprocess.PIPE, text=True)
-    stack.callback(process.wait)
-    stack.callback(process.kill)
-    line = process.stdout.readline()
-    if not line.startswith("serving http://"):
-        raise RuntimeError(f"gb_web does not serve: {line!r}")
-    return process
+    words = [path, "--listen", f"127.0.0.1:{port + 80 + node}", "--node", f"127.0.0.1:{port + SESSIONS + node}", "--page", folder]
+    door = stack.enter_context(Serving(words, ""))
+    if not door.line.startswith("serving http://"):
+        raise NotServing(path, door.line)
+    return door
 
 
 def take_in(stack, port):
@@ -298,8 +289,7 @@ def main():
             check_labels(page)
             join(page, name, node)
         talk(pages, clients)
-        doors[1].kill()
-        doors[1].wait()
+        doors[1].end()
         wait("a page without its door says so", lambda: "No connection" in pages[1].value("document.getElementById('state').textContent"))
         pages[1].type("said meanwhile")
         pages[1].enter()
