@@ -14,7 +14,8 @@ Commands are lines on standard input. Each is answered by a line on standard out
     reorder PERCENT    so much is held back for up to 20 milliseconds, so that later datagrams pass it
     delay MS           everything is held back for MS milliseconds
     part I [J]         nothing is carried between node I and the others, or node J, either way
-    join [I [J]]       it is carried again; without a node between all
+    cut I J            nothing is carried from node I to node J; the other way it is
+    join [I [J]]       it is carried again, both ways; without a node between all
     capture FILE       each datagram that is carried is written into FILE from now on; `capture off` ends it
     replay FILE        each datagram of such a file is sent once more to the node that it was for, by the rules above; answers `sent K`
     counts             answers `came A carried B lost C parted D repeated E reordered F`
@@ -35,7 +36,7 @@ import socket
 import sys
 import threading
 import time
-from typing import Callable, Dict, FrozenSet, List, Optional, Sequence, Set, TextIO, Tuple
+from typing import Callable, Dict, List, Optional, Sequence, Set, TextIO, Tuple
 
 Address = Tuple[str, int]
 Pair = Tuple[int, int]
@@ -61,7 +62,7 @@ class Relay:
         self.counts = dict.fromkeys(("came", "carried", "lost", "parted", "repeated", "reordered"), 0)
         self._percent = {"lose": 0.0, "repeat": 0.0, "reorder": 0.0}
         self._delay = 0.0
-        self._parted: Set[FrozenSet[int]] = set()
+        self._parted: Set[Pair] = set()
         self._capture: Optional[TextIO] = None
         self._captured_from = 0.0
         self._held: List[Tuple[float, int, Pair, bytes]] = []
@@ -107,13 +108,14 @@ class Relay:
             "reorder": lambda percent: self._set("reorder", percent),
             "delay": self._set_delay,
             "part": self._part,
+            "cut": self._cut,
             "join": self._join,
             "capture": self._start_capture,
             "replay": self._replay,
             "counts": self._tell_counts,
         }
-        most = {"part": 2, "join": 2, "counts": 0}
-        least = {"join": 0, "counts": 0}
+        most = {"part": 2, "cut": 2, "join": 2, "counts": 0}
+        least = {"cut": 2, "join": 0, "counts": 0}
         if not words or words[0] not in commands:
             return f"bad command: it is none of {', '.join(commands)}, quit"
         name, *rest = words
@@ -144,19 +146,25 @@ class Relay:
             self._delay = value / 1000
         return "ok"
 
-    def _pairs(self, words: Sequence[str]) -> Set[FrozenSet[int]]:
-        """Return the pairs of a node with all others, or with one."""
+    def _pairs(self, words: Sequence[str]) -> Set[Pair]:
+        """Return the pairs of a node with all others, or with one, both ways."""
         named = [int(word) for word in words]
         every = range(len(self.nodes))
         if any(node not in every for node in named) or len(set(named)) < len(named):
             raise ValueError(f"nodes are 0 to {len(self.nodes) - 1}, and two of a pair differ")
         others = named[1:] or [node for node in every if node != named[0]]
-        return {frozenset((named[0], other)) for other in others}
+        return {pair for other in others for pair in ((named[0], other), (other, named[0]))}
 
     def _part(self, *words: str) -> str:
         pairs = self._pairs(words)
         with self._lock:
             self._parted |= pairs
+        return "ok"
+
+    def _cut(self, sender: str, receiver: str) -> str:
+        self._pairs([sender, receiver])
+        with self._lock:
+            self._parted.add((int(sender), int(receiver)))
         return "ok"
 
     def _join(self, *words: str) -> str:
@@ -226,7 +234,7 @@ class Relay:
     def _take(self, pair: Pair, data: bytes) -> None:
         """Lose a datagram, or carry it once or twice, now or later."""
         self.counts["came"] += 1
-        if frozenset(pair) in self._parted:
+        if pair in self._parted:
             self.counts["parted"] += 1
             return
         if self._falls("lose"):

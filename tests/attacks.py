@@ -12,7 +12,6 @@ import argparse
 import contextlib
 import os
 import resource
-import selectors
 import signal
 import socket
 import struct
@@ -28,6 +27,7 @@ sys.path.insert(0, os.path.dirname(os.path.dirname(os.path.abspath(__file__))))
 from lab import sessions  # noqa: E402
 from lab.keys import ADMIN_TOKEN, TENANT_KEY, member_token, tenant_token  # noqa: E402
 from lab.ports import SESSIONS  # noqa: E402
+from lab.relay import Relay  # noqa: E402
 from lab.serving import STOPS, NotServing, Serving, all_serving, peer_words, serve_words, write_cluster_file  # noqa: E402
 from lab.sessions import framed  # noqa: E402
 
@@ -373,52 +373,23 @@ def parted(base):
     return "each noticed the other, is not well, and goes on"
 
 
-class Relay(threading.Thread):
-    """Carries datagrams between two nodes, by a socket for each. It may lose those of the first node."""
-
-    def __init__(self, nodes, ports):
-        super().__init__(daemon=True)
-        self.nodes, self.loses, self.is_over = nodes, False, False
-        self.sockets = []
-        for port in ports:
-            mine = socket.socket(socket.AF_INET, socket.SOCK_DGRAM)
-            mine.bind(("127.0.0.1", port))
-            self.sockets.append(mine)
-
-    def run(self):
-        select = selectors.DefaultSelector()
-        for at, mine in enumerate(self.sockets):
-            select.register(mine, selectors.EVENT_READ, at)
-        while not self.is_over:
-            for key, _ in select.select(0.05):
-                text = key.fileobj.recv(65_536)
-                at = key.data
-                # What comes to the place of node `at` was sent by the other one; it goes on from the other one's place.
-                if not (self.loses and at == 1):
-                    with contextlib.suppress(OSError):
-                        self.sockets[1 - at].sendto(text, ("127.0.0.1", self.nodes[at]))
-
-
 def lost_packets(attacks):
     """Packets from node 0 to node 1 are lost for longer than the silence, those of node 1 are not."""
     base = attacks.next_ports()
-    relay = Relay((base, base + 1), (base + RELAYED, base + RELAYED + 1))
+    relay = Relay([("127.0.0.1", base), ("127.0.0.1", base + 1)], base + RELAYED)
     relay.start()
     try:
         with tempfile.TemporaryDirectory() as folder:
-            seen = [((base, base + RELAYED + 1), base + STATUS), ((base + RELAYED, base + 1), base + STATUS + 1)]
+            seen = [((base, relay.port(0, 1)), base + STATUS), ((relay.port(1, 0), base + 1), base + STATUS + 1)]
             with attacks.peers(100, seen, folder):
                 for node in range(2):
                     prepare(base + SESSIONS + node, node, "0,1", "allack")
-                relay.loses = True
+                relay.command("cut 0 1")
                 time.sleep(4)
-                relay.loses = False
+                relay.command("join")
                 return parted(base)
     finally:
-        relay.is_over = True
-        relay.join()
-        for mine in relay.sockets:
-            mine.close()
+        relay.close()
 
 
 def known_tenants(attacks):

@@ -145,6 +145,12 @@ class RelayTest(unittest.TestCase):
         self.ask("join")
         self.assertEqual(self.send_all_ways(), [[b"1", b"2"], [b"0", b"2"], [b"0", b"1"]])
 
+    def test_it_cuts_one_way_and_joins_it(self) -> None:
+        self.ask("cut 0 1")
+        self.assertEqual(self.send_all_ways(), [[b"1", b"2"], [b"2"], [b"0", b"1"]])
+        self.ask("join 1 0")
+        self.assertEqual(self.send_all_ways(), [[b"1", b"2"], [b"0", b"2"], [b"0", b"1"]])
+
     def test_it_captures_and_replays(self) -> None:
         with tempfile.TemporaryDirectory() as folder:
             path = os.path.join(folder, "captured")
@@ -178,7 +184,7 @@ class RelayTest(unittest.TestCase):
         self.assertEqual(self.came(1), [b"hello"])
 
     def test_bad_commands(self) -> None:
-        for line in ("", "drop 3", "lose", "lose 1 2", "lose -1", "lose 101", "lose all", "part", "part 3", "part 1 1",
+        for line in ("", "drop 3", "lose", "lose 1 2", "lose -1", "lose 101", "lose all", "part", "part 3", "part 1 1", "cut", "cut 0", "cut 1 1",
                      "join 0 1 2", "delay -1", "delay 60001", "capture", "replay /nothing/is/here", "counts now"):
             with self.subTest(line):
                 self.assertTrue(self.relay.command(line).startswith("bad command: "))
