@@ -22,6 +22,7 @@ import time
 sys.path.insert(0, os.path.dirname(os.path.dirname(os.path.abspath(__file__))))
 from lab import keys, ports  # noqa: E402
 from lab.sessions import Link  # noqa: E402
+from lab.steps import Wrong  # noqa: E402
 
 NODES, KINDS = 3, ('beb', 'lazy', 'eager', 'allack', 'majority', 'fbeb', 'flazy', 'feager', 'fallack', 'fmajority')
 TENANT, ROUNDS, SPARE = 7, 3, 15  # the group SPARE is made and dropped
@@ -34,10 +35,6 @@ LAST = 2**64 - 1
 NUMBERS = ('requests', 'refused', 'from', 'many', 'chance', 'seed')
 
 Ended = collections.namedtuple('Ended', 'lines status')
-
-
-class Wrong(Exception):
-    """A run that is not as it is to be."""
 
 
 class Numbers:

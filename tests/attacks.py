@@ -30,21 +30,13 @@ from lab.ports import SESSIONS  # noqa: E402
 from lab.relay import Relay  # noqa: E402
 from lab.serving import STOPS, NotServing, Serving, all_serving, peer_words, serve_words, write_cluster_file  # noqa: E402
 from lab.sessions import framed  # noqa: E402
+from lab.steps import Wrong, expect  # noqa: E402
 
 NOBODY = "0" * 64  # a token that is not valid
 LONGEST = 0.1  # seconds that another client may wait
 SLOWER = 3  # how many times as long as a client of an echo it may wait
 STATUS, RELAYED = 140, 200  # how far above a server's first port its other ports are
 DENIED = [framed(f"open {NOBODY} 7 {group}") for group in (1, 2)]
-
-
-class Failed(Exception):
-    """What an attack did that it may not do."""
-
-
-def expect(is_so, text):
-    if not is_so:
-        raise Failed(text)
 
 
 class Link(sessions.Link):
@@ -204,7 +196,7 @@ def bytes_of(folder):
     return sum(os.path.getsize(os.path.join(folder, name)) for name in os.listdir(folder) if name.endswith(".record"))
 
 
-# The attacks. Each returns a line that says what was seen, or raises Failed.
+# The attacks. Each returns a line that says what was seen, or raises Wrong.
 
 
 def wake_storm(attacks):
@@ -559,7 +551,7 @@ def main():
         name = attack.__name__.replace("_", " ")
         try:
             seen = attack(attacks)
-        except (Failed, NotServing, OSError, subprocess.SubprocessError) as fault:
+        except (Wrong, NotServing, OSError, subprocess.SubprocessError) as fault:
             failed += 1
             print(f"{name}: FAILED: {fault}", flush=True)
         else:

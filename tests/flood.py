@@ -26,6 +26,7 @@ sys.path.insert(0, TOP)
 from lab import keys  # noqa: E402
 from lab.keys import ADMIN_KEY, CLUSTER_KEY, TENANT_KEY  # noqa: E402
 from lab.serving import STOPS, NotServing, Serving, in_a_row, peer_words, serve_words, write_cluster_file  # noqa: E402
+from lab.steps import Wrong, expect  # noqa: E402
 from foqradesh import Client, FoqradeshError, Group, Keys, Spec, node_address  # noqa: E402
 
 SENDERS = 6
@@ -42,15 +43,6 @@ LAST_PLACE = 900
 """How long a message is waited for, in seconds, and how many are said at most."""
 
 
-class Failed(Exception):
-    """What may not be."""
-
-
-def expect(is_so, text):
-    if not is_so:
-        raise Failed(text)
-
-
 class Process(Serving):
     """A program that serves, whose standard error goes into a log."""
 
@@ -60,7 +52,7 @@ class Process(Serving):
             with open(self.log, "wb") as log:
                 super().__init__(words, keys.told(cluster_key), log)
         except NotServing as fault:
-            raise Failed(f"{fault} {self.text()!r}") from None
+            raise Wrong(f"{fault} {self.text()!r}") from None
 
     def text(self):
         with open(self.log, encoding="utf-8", errors="replace") as log:
@@ -218,7 +210,7 @@ class Floods:
                     except OSError as error:
                         expect(error.errno == errno.EADDRINUSE, str(error))
                     else:
-                        raise Failed(f"another socket is bound at a node's address, with option {option}")
+                        raise Wrong(f"another socket is bound at a node's address, with option {option}")
 
     def a_node_under_another_key_is_named(self):
         base = self.next_base()
@@ -242,7 +234,7 @@ class Floods:
             name = trial.__name__.replace("_", " ")
             try:
                 trial()
-            except (Failed, FoqradeshError, OSError, queue.Empty) as error:
+            except (Wrong, FoqradeshError, OSError, queue.Empty) as error:
                 failed += 1
                 print(f"FAILED {name}: {error}", flush=True)
             else:

@@ -20,7 +20,6 @@ from __future__ import annotations
 
 import os
 import shutil
-import signal
 import socket
 import subprocess
 import sys
@@ -36,13 +35,12 @@ from lab import keys  # noqa: E402
 from lab.ports import SESSIONS  # noqa: E402
 from lab.relay import Relay  # noqa: E402
 from lab.serving import cluster_file, peer_words  # noqa: E402
+from lab.steps import LIMIT, Wrong, end_by_signals, tell, wait_for  # noqa: E402
 from foqradesh import Client, Entry, FoqradeshError, Keys  # noqa: E402
 
 NODES = (0, 1, 2, 3)
 TENANT = 7
 TICK = 50  # milliseconds
-LIMIT = 90.0
-"""How long a stage may take, in seconds."""
 
 KINDS = ("fallack", "flazy", "eager", "fmajority")
 """The kinds of the groups that each stage speaks in; the first is the all-ack one."""
@@ -52,25 +50,6 @@ PASSES = {"whole": (7, 0), "lossy": (9, 5)}
 
 Message = Tuple[int, int]
 """The node that said it, and its number."""
-
-
-class Wrong(Exception):
-    """Something is not as it should be. The text says what."""
-
-
-def tell(text: str) -> None:
-    """Print the line of a step."""
-    print(text, flush=True)
-
-
-def wait_for(what: str, holds: Callable[[], bool], seconds: float = LIMIT) -> float:
-    """Wait until something holds, and return how long that took. Wrong if it does not in time."""
-    begun = time.monotonic()
-    while not holds():
-        if time.monotonic() - begun > seconds:
-            raise Wrong(f"{what}: not within {seconds:g} seconds")
-        time.sleep(0.05)
-    return time.monotonic() - begun
 
 
 def names(nodes: Sequence[int]) -> str:
@@ -698,11 +677,6 @@ def walk(cluster: Cluster, first_run: int, percent: int) -> None:
     following.end()
 
 
-def end_by_signal(number: int, _: object) -> None:
-    """End as by an error, so that all processes end too."""
-    raise SystemExit(128 + number)
-
-
 def main(words: Sequence[str]) -> int:
     """Return the status: 0, 1 at the first thing that is not so, or 2 for wrong words or a missing program."""
     port, silence, only = (*words, *("24000", "3", "")[len(words) :])[:3]
@@ -716,8 +690,7 @@ def main(words: Sequence[str]) -> int:
             print(f"peers.sh: there is no program {program}: run ./install at the top of the checkout first", file=sys.stderr)
             return 2
         programs.append(os.path.abspath(program))
-    for number in (signal.SIGTERM, signal.SIGHUP):
-        signal.signal(number, end_by_signal)
+    end_by_signals()
     with tempfile.TemporaryDirectory(prefix="peers-") as folder:
         try:
             cluster = Cluster(folder, int(port), int(silence), *programs)

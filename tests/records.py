@@ -23,7 +23,7 @@ import sys
 import tempfile
 import threading
 import time
-from typing import Callable, Dict, List, Optional, Sequence, Tuple
+from typing import Dict, List, Optional, Sequence, Tuple
 
 TOP = os.path.dirname(os.path.dirname(os.path.abspath(__file__)))
 sys.path.insert(0, TOP)
@@ -31,33 +31,13 @@ sys.path.insert(0, TOP)
 from lab import keys  # noqa: E402
 from lab.ports import SESSIONS  # noqa: E402
 from lab.serving import in_a_row, peer_words, write_cluster_file  # noqa: E402
+from lab.steps import Wrong, tell, wait_for  # noqa: E402
 from foqradesh import Client, FoqradeshError, Keys  # noqa: E402
 
 NODES = (0, 1, 2)
 KILLED = 2
 TENANT = 7
 KINDS = ("fallack", "eager")
-LIMIT = 90.0
-
-
-class Wrong(Exception):
-    """Something is not as it should be. The text says what."""
-
-
-def tell(text: str) -> None:
-    """Print the line of a step."""
-    print(text, flush=True)
-    if os.environ.get("TIMES"):
-        print(f"  {time.monotonic():.1f}", flush=True)
-
-
-def wait_for(what: str, holds: Callable[[], bool]) -> None:
-    """Wait until something holds. Wrong if it does not in time."""
-    begun = time.monotonic()
-    while not holds():
-        if time.monotonic() - begun > LIMIT:
-            raise Wrong(f"{what}: not within {LIMIT:g} seconds")
-        time.sleep(0.05)
 
 
 class Cluster:

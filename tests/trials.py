@@ -44,6 +44,7 @@ TOP = os.path.dirname(os.path.dirname(os.path.abspath(__file__)))
 sys.path.insert(0, TOP)
 
 from lab.ports import is_free  # noqa: E402
+from lab.steps import end_by_signals  # noqa: E402
 
 PROGRAMS = ("gb_serve", "gb_peer", "gb_ctl", "gb_web", "gb_sim", "gb_audit")
 
@@ -473,11 +474,6 @@ def paths_of(is_built: bool, folder: Optional[str]) -> Dict[str, str]:
     return {name: os.path.join(os.path.abspath(folder or os.path.join(TOP, "bin")), name) for name in PROGRAMS}
 
 
-def end_by_signal(number: int, _: object) -> None:
-    """End as by an error, so that all processes end too."""
-    raise SystemExit(128 + number)
-
-
 def read_ports(word: str) -> Ports:
     """Return the ports that a word FIRST-LAST names."""
     first, _, last = word.partition("-")
@@ -503,8 +499,7 @@ def read_words(trials: Sequence[Trial]) -> argparse.Namespace:
 
 def main(trials: Sequence[Trial] = TRIALS) -> int:
     """Return the status."""
-    for number in (signal.SIGTERM, signal.SIGHUP):
-        signal.signal(number, end_by_signal)
+    end_by_signals()
     if sys.argv[1:2] == ["--within"]:
         return within(float(sys.argv[2]), sys.argv[3:])
     words = read_words(trials)
