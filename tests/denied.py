@@ -10,10 +10,10 @@ import statistics
 import sys
 import time
 
-TOP = os.path.dirname(os.path.dirname(os.path.abspath(__file__)))
-sys.path.insert(0, TOP)
+sys.path.insert(0, os.path.dirname(os.path.dirname(os.path.abspath(__file__))))
 from lab import keys  # noqa: E402
 from lab.ports import SESSIONS  # noqa: E402
+from lab.programs import program  # noqa: E402
 from lab.serving import Serving, serve_words  # noqa: E402
 from lab.sessions import Link, framed  # noqa: E402
 
@@ -51,7 +51,7 @@ def prepare(link):
 
 
 def main():
-    serve = sys.argv[1] if len(sys.argv) > 1 else os.path.join(TOP, "bin", "gb_serve")
+    serve = sys.argv[1] if len(sys.argv) > 1 else program("gb_serve")
     times = {kind: [] for kind in KINDS}
     with Serving(serve_words(serve, PORT, 1)):
         try:

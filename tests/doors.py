@@ -19,6 +19,7 @@ TOP = os.path.dirname(os.path.dirname(os.path.abspath(__file__)))
 sys.path.insert(0, TOP)
 from lab.keys import ADMIN_KEY, TENANT_KEY, member_token  # noqa: E402
 from lab.ports import SESSIONS  # noqa: E402
+from lab.programs import is_there, program  # noqa: E402
 from lab.serving import Serving, serve_words  # noqa: E402
 from foqradesh import Client, Group, Keys, Spec, node_address  # noqa: E402
 
@@ -84,9 +85,9 @@ def check(what, holds):
     print(f"seen: {what}", flush=True)
 
 
-def program(variable, name):
-    path = os.environ.get(variable) or os.path.join(TOP, "bin", name)
-    if not os.access(path, os.X_OK):
+def needed(name):
+    path = program(name)
+    if not is_there(path):
         print(f"doors: {path} is not there", file=sys.stderr)
         sys.exit(2)
     return path
@@ -191,7 +192,7 @@ def main():
     parser = argparse.ArgumentParser(description=__doc__, formatter_class=argparse.RawDescriptionHelpFormatter)
     parser.add_argument("--port", type=int, default=25700, metavar="P", help="the base port of the node; the door is at P + 80")
     words = parser.parse_args()
-    serve, web = program("GB_SERVE", "gb_serve"), program("GB_WEB", "gb_web")
+    serve, web = needed("gb_serve"), needed("gb_web")
     door, token = words.port + 80, member_token(7, 1)
     with contextlib.ExitStack() as stack:
         node = stack.enter_context(Serving(serve_words(serve, words.port, 1, "--quiet")))

@@ -33,6 +33,7 @@ sys.path.insert(0, TOP)
 
 from lab import keys  # noqa: E402
 from lab.ports import SESSIONS  # noqa: E402
+from lab.programs import is_there, program  # noqa: E402
 from lab.relay import Relay  # noqa: E402
 from lab.serving import cluster_file, peer_words  # noqa: E402
 from lab.steps import LIMIT, Wrong, end_by_signals, tell, wait_for  # noqa: E402
@@ -683,13 +684,11 @@ def main(words: Sequence[str]) -> int:
     if len(words) > 3 or not (port + silence).isdecimal() or not (1024 <= int(port) <= 65_000 and 2 <= int(silence) <= 20) or only not in ("", *PASSES):
         print(__doc__)
         return 2
-    programs = []
-    for variable, name in (("PEER", "gb_peer"), ("CTL", "gb_ctl")):
-        program = os.environ.get(variable) or os.path.join(TOP, "bin", name)
-        if not os.access(program, os.X_OK) or not os.path.isfile(program):
-            print(f"peers.sh: there is no program {program}: run ./install at the top of the checkout first", file=sys.stderr)
+    programs = [program(name) for name in ("gb_peer", "gb_ctl")]
+    for path in programs:
+        if not is_there(path):
+            print(f"peers.sh: there is no program {path}: run ./install at the top of the checkout first", file=sys.stderr)
             return 2
-        programs.append(os.path.abspath(program))
     end_by_signals()
     with tempfile.TemporaryDirectory(prefix="peers-") as folder:
         try:

@@ -30,6 +30,7 @@ sys.path.insert(0, TOP)
 
 from lab import keys  # noqa: E402
 from lab.ports import SESSIONS  # noqa: E402
+from lab.programs import is_there, program  # noqa: E402
 from lab.serving import in_a_row, peer_words, write_cluster_file  # noqa: E402
 from lab.steps import Wrong, tell, wait_for  # noqa: E402
 from foqradesh import Client, FoqradeshError, Keys  # noqa: E402
@@ -313,10 +314,10 @@ def walk(cluster: Cluster) -> None:
 def main(words: Sequence[str]) -> int:
     """Return the status."""
     port = int(words[0]) if words else 26000
-    programs = [os.environ.get(name.upper()[3:], os.path.join(TOP, "bin", name)) for name in ("gb_peer", "gb_ctl", "gb_audit")]
-    for program in programs:
-        if not os.access(program, os.X_OK):
-            print(f"records.sh: there is no program {program}: run ./install at the top of the checkout first", file=sys.stderr)
+    programs = [program(name) for name in ("gb_peer", "gb_ctl", "gb_audit")]
+    for path in programs:
+        if not is_there(path):
+            print(f"records.sh: there is no program {path}: run ./install at the top of the checkout first", file=sys.stderr)
             return 2
     with tempfile.TemporaryDirectory() as folder:
         cluster = Cluster(folder, port, programs)

@@ -26,6 +26,7 @@ TOP = os.path.dirname(os.path.dirname(os.path.abspath(__file__)))
 sys.path.insert(0, TOP)
 from lab.keys import ADMIN_KEY, TENANT_KEY, member_token  # noqa: E402
 from lab.ports import SESSIONS  # noqa: E402
+from lab.programs import is_there, program  # noqa: E402
 from lab.serving import NotServing, Serving, serve_words  # noqa: E402
 from foqradesh import Client, Generation, Group, Keys, Spec, node_address  # noqa: E402
 
@@ -35,11 +36,10 @@ NAMES = ("Ada", "Grace", "Edsger")
 TIME = 20  # seconds in which something has to be seen
 
 
-def program(variable, path):
-    """The path of a program: what the variable names, or else this one."""
-    found = os.environ.get(variable) or path
-    found = shutil.which(found) or found
-    if not os.access(found, os.X_OK):
+def needed(path):
+    """The path of a program, which has to be there."""
+    found = shutil.which(path) or path
+    if not is_there(found):
         print(f"test_chat: {found} is not there", file=sys.stderr)
         sys.exit(2)
     return found
@@ -269,9 +269,7 @@ def main():
     parser.add_argument("--port", type=int, default=25600, metavar="P", help="the base port of the nodes; the doors are at P + 80 and above")
     parser.add_argument("--picture", metavar="FILE", help="write a picture of a page there")
     words = parser.parse_args()
-    serve = program("GB_SERVE", os.path.join(TOP, "bin", "gb_serve"))
-    web = program("GB_WEB", os.path.join(TOP, "bin", "gb_web"))
-    chromium = program("CHROMIUM", "chromium")
+    serve, web, chromium = needed(program("gb_serve")), needed(program("gb_web")), needed(os.environ.get("CHROMIUM") or "chromium")
     with contextlib.ExitStack() as stack:
         start_server(stack, serve, words.port)
         clients = take_in(stack, words.port)
