@@ -1,5 +1,5 @@
 """Measures a gb_serve under paced loads: scale.py SERVE PLAY sizes|figures [ROUNDS] [WORDS]. `figures` prints what the sheet of
-bench/capacity.py is made from, the medians of the rounds, and writes them into bench/figures.txt. `sizes` plays loads of three sizes and prints what they cost beside what that sheet says;
+tools/capacity.py is made from, the medians of the rounds, and writes them into bench/figures.txt. `sizes` plays loads of three sizes and prints what they cost beside what that sheet says;
 it ends with status 1 where the median of a ratio is not within 30 percent."""
 import os
 import statistics
@@ -8,11 +8,12 @@ import sys
 import time
 from dataclasses import replace
 
-import capacity
 import load
 from load import Load
 
-KINDS = ("beb", "lazy", "eager", "allack", "majority", "fbeb", "flazy", "feager", "fallack", "fmajority")
+from lab import KINDS  # noqa: E402
+from tools import capacity  # noqa: E402
+
 MANY = capacity.MANY
 SECONDS = 2
 
@@ -34,9 +35,8 @@ def commit():
 
 
 def write_figures(figures):
-    path = os.path.join(os.path.dirname(os.path.abspath(__file__)), "figures.txt")
-    with open(path, "w", encoding="ascii") as file:
-        file.write("# What bench/scale.sh figures measured: name, value, date, commit, part, what it is. Written by it, read by bench/capacity.py.\n")
+    with open(capacity.PATH, "w", encoding="ascii") as file:
+        file.write("# What bench/scale.sh figures measured: name, value, date, commit, part, what it is. Written by it, read by tools/capacity.py.\n")
         for name, it in figures.items():
             file.write("\t".join((name, str(it.value), it.date, it.commit, it.part, it.what)) + "\n")
 

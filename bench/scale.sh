@@ -1,5 +1,5 @@
 #!/usr/bin/env bash
-# Compares the sheet of bench/capacity.py with a gb_serve: plays loads of three sizes, 10, 100 and 1,000 groups, at rates that take about
+# Compares the sheet of tools/capacity.py with a gb_serve: plays loads of three sizes, 10, 100 and 1,000 groups, at rates that take about
 # 10, 30 and 60 percent of a core, and prints measured processor time, resident memory and packets beside the computed ones. Status 1: a median
 # of processor time or memory is not within 30 percent. bench/serve/play.rs asks, which plain rustc compiles into bench/out; gb_serve is that of bin/,
 # where ./install puts it, unless SERVE names another.

@@ -9,3 +9,6 @@ import sys
 
 TOP = os.path.dirname(os.path.dirname(os.path.abspath(__file__)))
 sys.path.insert(0, os.path.join(TOP, "clients", "python"))
+
+KINDS = ("beb", "lazy", "eager", "allack", "majority", "fbeb", "flazy", "feager", "fallack", "fmajority")
+"""The kinds of groups."""

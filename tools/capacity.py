@@ -11,7 +11,12 @@ import os
 import sys
 from dataclasses import dataclass
 
-KINDS = ("beb", "lazy", "eager", "allack", "majority", "fbeb", "flazy", "feager", "fallack", "fmajority")
+TOP = os.path.dirname(os.path.dirname(os.path.abspath(__file__)))
+sys.path.insert(0, TOP)
+from lab import KINDS  # noqa: E402
+from lab.tables import row  # noqa: E402
+
+PATH = os.path.join(TOP, "bench", "figures.txt")
 PLACES = 1024  # groups at a node, by the GROUPS of its tenants
 MOST_GROUPS, MOST_MESSAGES, MOST_BYTES, MOST_NODES = 256, 1024, 65536, 32
 MANY = 32  # how many requests came together where a figure is of many
@@ -31,7 +36,7 @@ class Figure:
 def read_figures():
     """The figures of bench/figures.txt by name: a line for each, its fields parted by tabs, in the order of Figure behind the name."""
     figures = {}
-    with open(os.path.join(os.path.dirname(os.path.abspath(__file__)), "figures.txt"), encoding="ascii") as lines:
+    with open(PATH, encoding="ascii") as lines:
         for line in lines:
             if not line.startswith("#"):
                 name, value, *fields = line.rstrip("\n").split("\t")
@@ -275,10 +280,10 @@ def say_figures():
 
 
 def say_table(heads, rows):
-    print("| " + " | ".join(heads) + " |")
+    row(*heads)
     print("|---" + "|---:" * (len(heads) - 1) + "|")
-    for row in rows:
-        print("| " + " | ".join(it if isinstance(it, str) else f"{it:,.0f}" if it >= 100 else f"{it:,.1f}" for it in row) + " |")
+    for cells in rows:
+        row(*(it if isinstance(it, str) else f"{it:,.0f}" if it >= 100 else f"{it:,.1f}" for it in cells))
     print()
 
 
