@@ -4,18 +4,16 @@ import contextlib
 import math
 import os
 import subprocess
-import sys
 import tempfile
 import time
 from dataclasses import dataclass
 
-sys.path.insert(0, os.path.dirname(os.path.dirname(os.path.abspath(__file__))))
-from lab import system  # noqa: E402
-from lab.keys import ADMIN_KEY, TENANT_KEY, member_token  # noqa: E402
-from lab.ports import SESSIONS  # noqa: E402
-from lab.serving import STOPS, NotServing, all_serving, in_a_row, peer_words, serve_words, write_cluster_file  # noqa: E402
-from lab.sessions import framed  # noqa: E402
-from foqradesh import BadPlaceError, Client, Keys, Spec, node_address  # noqa: E402
+from lab import system
+from lab.keys import ADMIN_KEY, TENANT_KEY, member_token
+from lab.ports import SESSIONS
+from lab.serving import STOPS, NotServing, all_serving, in_a_row, peer_words, serve_words, write_cluster_file
+from lab.sessions import framed
+from foqradesh import BadPlaceError, Client, Keys, Spec, node_address
 
 PORT = int(os.environ.get("SCALE_PORT", "30000"))
 GROUPS_OF_A_TENANT = 250

@@ -13,7 +13,8 @@ import subprocess
 import sys
 import tempfile
 
-import schedule as long_schedule
+sys.path.insert(0, os.path.dirname(os.path.dirname(os.path.abspath(__file__))))
+from lab import schedule as long_schedule  # noqa: E402
 
 REFUSED = 'refused 16 OutOfMemory'
 NO_MEMORY = 'no memory'  # the player's line where the cluster itself had no memory, so that nothing was answered

@@ -2,6 +2,7 @@
 
 from __future__ import annotations
 
+import contextlib
 import os
 
 
@@ -11,7 +12,8 @@ def processor(process: int) -> float:
     total = 0
     folder = f"/proc/{process}/task"
     for thread in os.listdir(folder):
-        with open(f"{folder}/{thread}/schedstat", encoding="ascii") as file:
+        # One may end meanwhile.
+        with contextlib.suppress(FileNotFoundError, ProcessLookupError), open(f"{folder}/{thread}/schedstat", encoding="ascii") as file:
             total += int(file.read().split()[0])
     return total / 1e9
 

@@ -25,6 +25,7 @@ sys.path.insert(0, TOP)
 
 from lab import keys  # noqa: E402
 from lab.keys import ADMIN_KEY, CLUSTER_KEY, TENANT_KEY  # noqa: E402
+from lab.medians import percentile  # noqa: E402
 from lab.serving import STOPS, NotServing, Serving, in_a_row, peer_words, serve_words, write_cluster_file  # noqa: E402
 from lab.steps import Wrong, expect  # noqa: E402
 from foqradesh import Client, FoqradeshError, Group, Keys, Spec, node_address  # noqa: E402
@@ -89,11 +90,6 @@ def flooded(port, seconds, size=100):
             sender.join(seconds + 20)
             if sender.is_alive():
                 sender.kill()
-
-
-def percentile(values, share):
-    ordered = sorted(values)
-    return ordered[min(len(ordered) - 1, int(len(ordered) * share))]
 
 
 def clients_of(base):

@@ -24,7 +24,7 @@ MANY = 32  # how many requests came together where a figure is of many
 
 @dataclass(frozen=True)
 class Figure:
-    """What was measured: of time microseconds of processor time of all nodes, of memory bytes. It is measured by `bench/scale.sh figures 3 PART`."""
+    """What was measured: of time microseconds of processor time of all nodes, of memory bytes. It is measured by `bench/run.py scale figures 3 PART`."""
 
     value: float
     date: str
@@ -251,7 +251,7 @@ def say_life(words):
 def say_plan(words):
     """Prints the plan. The exit status."""
     cost = counted(message_cost, words.kind, words.members, words.payload, words.fetches, words.together)
-    said = f"{cost:.1f} microseconds of processor time in the cluster" if cost else "processor time not counted, since it is not measured yet (bench/scale.sh figures)"
+    said = f"{cost:.1f} microseconds of processor time in the cluster" if cost else "processor time not counted, since it is not measured yet (bench/run.py scale figures)"
     print(f"a message: {said}, {packets(words.kind, words.members, words.together):.1f} packets")
     print(f"a group at a node: {group_memory(words.kind, words.members, words.limit, words.bytes) / 1024:,.1f} KiB")
     most, what = tenants_of_a_cluster(words)
@@ -275,7 +275,7 @@ def say_plan(words):
 
 def say_figures():
     for name, it in FIGURES.items():
-        print(f"{name:24} {it.value:>12,} {it.what} ({it.date}, {it.commit}, bench/scale.sh figures 3 {it.part})")
+        print(f"{name:24} {it.value:>12,} {it.what} ({it.date}, {it.commit}, bench/run.py scale figures 3 {it.part})")
     return 0
 
 
@@ -321,4 +321,4 @@ if __name__ == "__main__":
     try:
         sys.exit(say_figures() if read.figures else say_sheet() if read.sheet else say_plan(read))
     except Missing as name:
-        sys.exit(f"bench/figures.txt has no figure {name}: bench/scale.sh figures measures it")
+        sys.exit(f"bench/figures.txt has no figure {name}: bench/run.py scale figures measures it")
