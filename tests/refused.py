@@ -1,9 +1,17 @@
 #!/usr/bin/env python3
-"""Each request for memory of a program refused in turn: refused.py PRELOAD GB_SIM PLAYER HOST MAKERS
+"""Refuses requests for memory: refused.py [PLACES [SEED]]
 
-PRELOAD is bench/refused/refuse_malloc.c as a shared library, GB_SIM a built gb_sim, PLAYER, HOST and MAKERS the built programs of bench/refused. The
-answers of the named schedules, and of the host's day, stand below, and no program is asked for them. Every run is judged; status 1 where one
-is wrong. What is counted is printed as the tables of docs/reference/MEMORY.md.
+Each in turn, and under limits of all memory, of gb_sim, of programs that play the same schedules on a cluster and a day on a host with tapes
+and give a refused event again, and of public functions that make a value; and chosen ones of gb_serve, before it serves, while it serves and
+at its end (refused_server.py). PLACES, 200 if not given, is how many requests of gb_serve are drawn while it serves, and SEED, 1 if not given,
+that of the drawing.
+
+The answers of the named schedules, and of the host's day, stand below, and no program is asked for them. Every run is judged; status 1 where
+one is wrong. What is counted is printed as the tables of docs/reference/MEMORY.md.
+
+`rt` builds the programs, gb_sim, gb_serve and those of bench/refused, in foqradesh-bench/ of the user's cache folder (lab/rattle.py), unless
+PROGRAMS names a folder that has them: gb_sim, gb_serve, refused, refused_host and refused_makers. The C compiler builds
+bench/refused/refuse_malloc.c, which refuses the requests, in tests/out.
 """
 import collections
 import os
@@ -13,8 +21,14 @@ import subprocess
 import sys
 import tempfile
 
-sys.path.insert(0, os.path.dirname(os.path.dirname(os.path.abspath(__file__))))
+TOP = os.path.dirname(os.path.dirname(os.path.abspath(__file__)))
+sys.path.insert(0, TOP)
+from lab import rattle  # noqa: E402
 from lab import schedule as long_schedule  # noqa: E402
+from lab.tables import head, row  # noqa: E402
+from lab.words import WrongWords, numbers  # noqa: E402
+
+import refused_server  # noqa: E402
 
 REFUSED = 'refused 16 OutOfMemory'
 NO_MEMORY = 'no memory'  # the player's line where the cluster itself had no memory, so that nothing was answered
@@ -406,16 +420,6 @@ def pack_in_turn(bench):
     return requests, seen
 
 
-def row(*cells):
-    print('| ' + ' | '.join(map(str, cells)) + ' |')
-
-
-def head(*cells):
-    print()
-    row(*cells)
-    row(*['---'] * len(cells))
-
-
 def print_sim(bench):
     for many, title in ((1, 'gb_sim, one request refused'), ('all', 'gb_sim, that request and all later ones refused')):
         head(title, 'Requests', *HEADS)
@@ -457,15 +461,43 @@ def print_makers(bench):
     row('all', sum(made.values()), sum(seen.values()), sum(made.values()) - sum(seen.values()))
 
 
-def main():
-    bench = Bench(*sys.argv[1:6])
+def compiled():
+    """The library that refuses requests, which the C compiler builds."""
+    folder = os.path.join(TOP, 'tests', 'out', 'refused')
+    os.makedirs(folder, exist_ok=True)
+    path = os.path.join(folder, 'refuse_malloc.so')
+    words = [os.environ.get('CC') or 'cc', '-O2', '-Wall', '-Wextra', '-shared', '-fPIC', '-o', path]
+    subprocess.run([*words, os.path.join(TOP, 'bench', 'refused', 'refuse_malloc.c')], check=True)
+    return path
+
+
+def built(names):
+    """The paths of programs."""
+    folder = os.environ.get('PROGRAMS')
+    return [os.path.join(folder, name) for name in names] if folder else rattle.build(names)
+
+
+def print_all(preload, *paths):
+    bench = Bench(preload, *paths)
     for part in (print_makers, print_host, print_sim, print_limits, print_plays):
         part(bench)
-    print(f'\n{bench.runs} runs, {len(bench.wrong)} wrong')
+    print(f'\n{bench.runs} runs, {len(bench.wrong)} wrong', flush=True)
     for what in bench.wrong[:20]:
-        print(what)
+        print(what, flush=True)
     return 1 if bench.wrong else 0
 
 
+def main(words):
+    try:
+        places, seed = numbers(words, 200, 1)
+    except WrongWords:
+        print(__doc__)
+        return 2
+    serve, *paths = built(['gb_serve', 'gb_sim', *rattle.REFUSED])
+    preload = compiled()
+    status = print_all(preload, *paths)
+    return refused_server.main(preload, serve, places, seed) or status
+
+
 if __name__ == '__main__':
-    sys.exit(main())
+    sys.exit(main(sys.argv[1:]))

@@ -1,9 +1,8 @@
-#!/usr/bin/env python3
-"""Requests for memory of gb_serve refused: refused_server.py PRELOAD GB_SERVE [PLACES [SEED]]
+"""Requests for memory of gb_serve refused. refused.py runs this.
 
-PRELOAD is bench/refused/refuse_malloc.c as a shared library. A server of three nodes is asked a fixed list of things, in groups of all ten kinds;
-before it serves, while it serves and at its end chosen requests for memory are refused. Every run is judged; status 1 where one is wrong. The
-requests of all threads are counted in one row, so a run cannot be repeated to the request. What is counted is printed as the tables of docs/reference/MEMORY.md.
+A server of three nodes is asked a fixed list of things, in groups of all ten kinds; before it serves, while it serves and at its end chosen
+requests for memory are refused. Every run is judged. The requests of all threads are counted in one row, so a run cannot be repeated to the
+request. What is counted is printed as the tables of docs/reference/MEMORY.md.
 """
 import collections
 import mmap
@@ -19,12 +18,13 @@ import tempfile
 import threading
 import time
 
-sys.path.insert(0, os.path.dirname(os.path.dirname(os.path.abspath(__file__))))
-from lab import keys, ports  # noqa: E402
-from lab.sessions import Link  # noqa: E402
-from lab.steps import Wrong  # noqa: E402
+from lab import KINDS, keys, ports
+from lab.serving import serve_words
+from lab.sessions import Link
+from lab.steps import Wrong
+from lab.tables import head, row
 
-NODES, KINDS = 3, ('beb', 'lazy', 'eager', 'allack', 'majority', 'fbeb', 'flazy', 'feager', 'fallack', 'fmajority')
+NODES = 3
 TENANT, ROUNDS, SPARE = 7, 3, 15  # the group SPARE is made and dropped
 REFUSED, BAD_PLACE = 'refused 16 OutOfMemory', 'refused 11 BadPlace'
 SECONDS = 5  # no single thing that is asked takes longer
@@ -59,8 +59,7 @@ class Server:
     def __init__(self, bench, start=0, sessions=SESSIONS, words=()):
         self.numbers, self.port = Numbers(), bench.port
         said = {'LD_PRELOAD': bench.preload, 'REFUSE_SHARED': self.numbers.file.name, 'REFUSE_FROM': str(start)}
-        words = [bench.serve, '--nodes', str(NODES), '--base-port', str(bench.port), '--sessions', str(sessions),
-                 '--tick', '20', '--silence', '1000', *words]
+        words = serve_words(bench.serve, bench.port, NODES, '--sessions', str(sessions), '--tick', '20', '--silence', '1000', *words)
         self.process = subprocess.Popen(words, stdin=subprocess.PIPE, stdout=subprocess.PIPE, stderr=subprocess.DEVNULL, env=said)
         try:
             self.process.stdin.write(keys.told().encode())
@@ -256,7 +255,7 @@ def finish(server, seconds=SECONDS):
     for node in range(NODES):
         for _ in range(SESSIONS):
             try:
-                socket.create_connection(('127.0.0.1', server.port + 64 + node), timeout=0.1).close()
+                socket.create_connection(('127.0.0.1', server.port + ports.SESSIONS + node), timeout=0.1).close()
             except OSError:
                 break  # it accepts no more
     return server.ended(seconds)
@@ -418,16 +417,6 @@ def kind_of(seen, refused):
     return next((what for what in ('refused', 'closed') if seen[what]), 'as if none')
 
 
-def row(*cells):
-    print('| ' + ' | '.join(map(str, cells)) + ' |', flush=True)
-
-
-def head(*cells):
-    print()
-    row(*cells)
-    row(*['---'] * len(cells))
-
-
 def print_before(bench):
     kinds = ('host fault 5', 'refused', 'closed', 'as if none')
     head('Until all nodes serve', 'Requests', '`host fault 5`', f'serves, `{REFUSED}`', 'serves, a connection is closed', 'serves as if none')
@@ -454,7 +443,7 @@ def not_served(bench, words, keys, expected):
 
 def print_not_served(bench):
     text = keys.told().encode()
-    good = ['--nodes', str(NODES), '--base-port', str(bench.port)]
+    good = serve_words(bench.serve, bench.port, NODES)[1:]
     asked = subprocess.run([bench.serve, '--help'], capture_output=True, timeout=SECONDS, check=True).stdout
     helped = Ended(asked.decode('latin-1').splitlines(), 0)
     head('It does not serve', 'Requests', '`host fault 5`', 'as if none')
@@ -512,10 +501,9 @@ def print_end(bench):
         row(' '.join(words) or 'no tapes', runs, *[found[what] for what in kinds])
 
 
-def main():
-    bench = Bench(sys.argv[1], sys.argv[2], int(os.environ.get('REFUSED_PORT', '17400')))
-    places = int(sys.argv[3]) if len(sys.argv) > 3 else 200
-    seed = int(sys.argv[4]) if len(sys.argv) > 4 else 1
+def main(preload, serve, places, seed):
+    """Returns the status: 1 where a run is wrong."""
+    bench = Bench(preload, serve, int(os.environ.get('REFUSED_PORT', '17400')))
     print_not_served(bench)
     print_before(bench)
     print_serving(bench, places, seed)
@@ -524,7 +512,3 @@ def main():
     print_end(bench)
     print(f'\n{bench.runs} runs, {len(bench.wrong)} wrong')
     return 1 if bench.wrong else 0
-
-
-if __name__ == '__main__':
-    sys.exit(main())
