@@ -4,8 +4,9 @@
     tests/trials.py [--built | --programs DIR] [--only NAME..] [--list] [--jobs N] [--ports FIRST-LAST] [--keep DIR]
 
 The programs are those of bin/, where ./install puts them; with `--programs` those of another folder, and with `--built` those that `rt ci`
-leaves in crates/NAME/out/NAME. `--only` runs the trials of these names, and `--list` prints all names with what each trial tries. As many
-run side by side as there are processors, or N, and the longest begin first. Those that measure times run last, one by one.
+leaves in crates/NAME/out/NAME. `--only` runs the trials of these names; `clients` stands for all those of the clients and of the door before
+them. `--list` prints all names with what each trial tries. As many run side by side as there are processors, or N, and the longest begin
+first. Those that measure times run last, one by one.
 
 Each trial has a folder and ports of its own, no standard input and a time limit. When it ends, what it started must have ended too. Its
 output is kept in a folder of `--keep`, or of a new temporary folder, and is printed whole where the trial fails. Each trial is one line:
@@ -203,6 +204,10 @@ TRIALS = (
           needs=[has_environments], seconds=20),
     Trial("trials", "this runner", ("{python}", "{top}/tests/test_trials.py", "-v"), seconds=10, limit=120),
 )
+
+CLIENTS = ("python", "python-served", "python-rooms", "python-asyncio", "python-types", "package", "client", "notifications", "replicated-map",
+           "doors", "page")
+"""The trials that `--only clients` runs."""
 
 
 class Ports:
@@ -482,14 +487,19 @@ def read_ports(word: str) -> Ports:
     return Ports(int(first), int(last))
 
 
+def names_of(trials: Sequence[Trial]) -> List[str]:
+    """Return the names of trials."""
+    return [trial.name for trial in trials]
+
+
 def read_words(trials: Sequence[Trial]) -> argparse.Namespace:
     """Return what the command line says."""
-    names = [trial.name for trial in trials]
+    names = names_of(trials)
     parser = argparse.ArgumentParser(description=__doc__, formatter_class=argparse.RawDescriptionHelpFormatter)
     where = parser.add_mutually_exclusive_group()
     where.add_argument("--programs", metavar="DIR", help="the folder of the programs")
     where.add_argument("--built", action="store_true", help="the programs that `rt ci` built")
-    parser.add_argument("--only", nargs="+", metavar="NAME", choices=names, help="the trials to run")
+    parser.add_argument("--only", nargs="+", metavar="NAME", choices=[*names, "clients"], help="the trials to run")
     parser.add_argument("--list", action="store_true", help="print the trials")
     parser.add_argument("--jobs", type=int, default=len(os.sched_getaffinity(0)), metavar="N", help="how many trials run side by side")
     parser.add_argument("--ports", type=read_ports, default=Ports(12_000, 19_999), metavar="FIRST-LAST", help="12000-19999 if not given")
@@ -512,7 +522,8 @@ def main(trials: Sequence[Trial] = TRIALS) -> int:
     os.makedirs(keep, exist_ok=True)
     print(f"outputs are kept in {keep}", flush=True)
     runner = Runner(paths_of(words.built, words.programs), words.ports, keep)
-    runner.run_all([trial for trial in trials if not words.only or trial.name in words.only], max(1, words.jobs))
+    only = {name for word in words.only or names_of(trials) for name in (CLIENTS if word == "clients" else [word])}
+    runner.run_all([trial for trial in trials if trial.name in only], max(1, words.jobs))
     return runner.summary()
 
 
