@@ -203,6 +203,7 @@ TRIALS = (
     Trial("package", "the Python package installed by pip in an environment of its own, without an index", ("sh", "-ec", INSTALLED),
           needs=[has_environments], seconds=20),
     Trial("trials", "this runner", ("{python}", "{top}/tests/test_trials.py", "-v"), seconds=10, limit=120),
+    Trial("lab", "what the scripts share, and the list of measures", ("{python}", "{top}/tests/test_lab.py", "-v"), seconds=3, limit=120),
 )
 
 CLIENTS = ("python", "python-served", "python-rooms", "python-asyncio", "python-types", "package", "client", "notifications", "replicated-map",
