@@ -6,11 +6,9 @@ should be; 1: something was not; 2: a program is not there. GB_SERVE and GB_WEB 
     python3 tests/doors.py [--port P]
 """
 import argparse
-import base64
 import contextlib
 import os
 import socket
-import struct
 import sys
 import threading
 import time
@@ -21,6 +19,7 @@ from lab.keys import ADMIN_KEY, TENANT_KEY, member_token  # noqa: E402
 from lab.ports import SESSIONS  # noqa: E402
 from lab.programs import is_there, program  # noqa: E402
 from lab.serving import Serving, serve_words  # noqa: E402
+from lab.websocket import Ended, WebSocket  # noqa: E402
 from foqradesh import Client, Group, Keys, Spec, node_address  # noqa: E402
 
 HEAD = "7 1"
@@ -28,55 +27,15 @@ MOST = 120  # connections that a door serves at once here
 TIME = 15  # seconds that anything may take
 
 
-class Ended(Exception):
-    """The connection ended."""
-
-
-class Talker:
-    """A WebSocket client that may be wrong."""
+class Talker(WebSocket):
+    """A client of a door."""
 
     def __init__(self, port, origin=None):
-        self.stream = socket.create_connection(("127.0.0.1", port), TIME)
-        key = base64.b64encode(os.urandom(16)).decode("ascii")
-        lines = ["GET /session HTTP/1.1", f"Host: 127.0.0.1:{port}", "Upgrade: websocket", "Connection: Upgrade", f"Sec-WebSocket-Key: {key}", "Sec-WebSocket-Version: 13"]
-        lines += [f"Origin: {origin}"] if origin else []
-        self.stream.sendall("".join(line + "\r\n" for line in lines + [""]).encode("ascii"))
-        self.file = self.stream.makefile("rb")
-        self.status = self.file.readline().split(b" ")[1].decode("ascii")
-        while self.file.readline().strip():
-            pass
-
-    def send(self, text, kind=1):
-        data, mask = text.encode("utf-8") if isinstance(text, str) else text, os.urandom(4)
-        length = len(data)
-        head = bytes([0x80 | kind]) + (bytes([0x80 | length]) if length < 126 else b"\xfe" + struct.pack(">H", length))
-        self.stream.sendall(head + mask + bytes(byte ^ mask[place % 4] for place, byte in enumerate(data)))
-
-    def frame(self):
-        head = self.file.read(2)
-        if len(head) < 2:
-            raise Ended
-        length = head[1] & 127
-        if length > 125:
-            length = int.from_bytes(self.file.read(2 if length == 126 else 8), "big")
-        return head[0] & 15, self.file.read(length)
-
-    def text(self):
-        """The next text; pings are passed over."""
-        while True:
-            kind, data = self.frame()
-            if kind == 1:
-                return data.decode("utf-8")
-            if kind == 8:
-                raise Ended(data[2:].decode("utf-8"))
+        super().__init__(("127.0.0.1", port), "/session", origin, TIME)
 
     def ask(self, text):
         self.send(text)
         return self.text()
-
-    def close(self):
-        self.file.close()
-        self.stream.close()
 
 
 def check(what, holds):

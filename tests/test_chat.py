@@ -14,8 +14,6 @@ import contextlib
 import json
 import os
 import shutil
-import socket
-import struct
 import subprocess
 import sys
 import tempfile
@@ -28,6 +26,7 @@ from lab.keys import ADMIN_KEY, TENANT_KEY, member_token  # noqa: E402
 from lab.ports import SESSIONS  # noqa: E402
 from lab.programs import is_there, program  # noqa: E402
 from lab.serving import NotServing, Serving, serve_words  # noqa: E402
+from lab.websocket import WebSocket  # noqa: E402
 from foqradesh import Client, Generation, Group, Keys, Spec, node_address  # noqa: E402
 
 TENANT, GROUP, NODES = 7, 1, 3
@@ -43,44 +42,6 @@ def needed(path):
         print(f"test_chat: {found} is not there", file=sys.stderr)
         sys.exit(2)
     return found
-
-
-class Socket:
-    """A WebSocket client of the standard library alone, for texts."""
-
-    def __init__(self, address, path):
-        self.stream = socket.create_connection(address, TIME)
-        key = base64.b64encode(os.urandom(16)).decode("ascii")
-        head = f"GET {path} HTTP/1.1\r\nHost: {address[0]}:{address[1]}\r\nUpgrade: websocket\r\nConnection: Upgrade\r\nSec-WebSocket-Key: {key}\r\nSec-WebSocket-Version: 13\r\n\r\n"
-        self.stream.sendall(head.encode("ascii"))
-        self.file = self.stream.makefile("rb")
-        if b" 101 " not in self.file.readline():
-            raise RuntimeError("no WebSocket handshake")
-        while self.file.readline() != b"\r\n":
-            pass
-
-    def send(self, text):
-        data, mask = text.encode("utf-8"), os.urandom(4)
-        length = len(data)
-        head = b"\x81" + (bytes([0x80 | length]) if length < 126 else b"\xfe" + struct.pack(">H", length) if length < 65536 else b"\xff" + struct.pack(">Q", length))
-        self.stream.sendall(head + mask + bytes(byte ^ mask[place % 4] for place, byte in enumerate(data)))
-
-    def receive(self):
-        """The next text; frames that are no text are passed over."""
-        whole = b""
-        while True:
-            first, second = self.file.read(2)
-            length = second & 127
-            if length > 125:
-                length = int.from_bytes(self.file.read(2 if length == 126 else 8), "big")
-            data = self.file.read(length)
-            if first & 15 in (0, 1):
-                whole += data
-                if first & 128:
-                    return whole.decode("utf-8")
-
-    def close(self):
-        self.stream.close()
 
 
 class Browser:
@@ -118,14 +79,16 @@ class Page:
     """One page of a browser."""
 
     def __init__(self, port, path):
-        self.socket, self.count = Socket(("127.0.0.1", port), path), 0
+        self.socket, self.count = WebSocket(("127.0.0.1", port), path), 0
+        if self.socket.status != "101":
+            raise RuntimeError("no WebSocket handshake")
         self.call("Page.enable")
 
     def call(self, method, **words):
         self.count += 1
         self.socket.send(json.dumps({"id": self.count, "method": method, "params": words}))
         while True:
-            answer = json.loads(self.socket.receive())
+            answer = json.loads(self.socket.text())
             if answer.get("id") == self.count:
                 if "error" in answer:
                     raise RuntimeError(f"{method}: {answer['error']}")

@@ -6,18 +6,19 @@ from __future__ import annotations
 import importlib.util
 import os
 import socket
+import struct
 import subprocess
 import sys
 import textwrap
 import threading
 import unittest
-from typing import List
+from typing import List, Tuple
 from unittest import mock
 
 TOP = os.path.dirname(os.path.dirname(os.path.abspath(__file__)))
 sys.path.insert(0, TOP)
 
-from lab import keys, medians, ports, programs, rattle, serving, sessions, steps, system, words  # noqa: E402
+from lab import keys, medians, ports, programs, rattle, serving, sessions, steps, system, websocket, words  # noqa: E402
 from foqradesh import Keys  # noqa: E402
 
 SERVER = """
@@ -114,6 +115,54 @@ class SessionsTests(unittest.TestCase):
             link.reply()
         link.close()
         self.assertEqual(came, [b"\0\0\0\5hello"])
+
+
+def take_frame(stream: socket.socket) -> Tuple[int, bytes]:
+    """Return the first byte of a frame of a client, and what it carries."""
+    file = stream.makefile("rb")
+    first, second = file.read(2)
+    length = second & 127
+    length = struct.unpack(">H", file.read(2))[0] if length == 126 else struct.unpack(">Q", file.read(8))[0] if length == 127 else length
+    mask = file.read(4)
+    return first, bytes(byte ^ mask[place % 4] for place, byte in enumerate(file.read(length)))
+
+
+class WebSocketTests(unittest.TestCase):
+    """A WebSocket client."""
+
+    def test_texts_of_all_lengths_and_an_end(self) -> None:
+        heads: List[bytes] = []
+        taken: List[Tuple[int, int]] = []
+
+        def serve(listener: socket.socket) -> None:
+            with listener, listener.accept()[0] as stream:
+                heads.append(stream.recv(10_000))
+                stream.sendall(b"HTTP/1.1 101 Switching Protocols\r\nUpgrade: websocket\r\n\r\n")
+                for _ in range(3):
+                    first, data = take_frame(stream)
+                    taken.append((first, len(data)))
+                    size = bytes([len(data)]) if len(data) < 126 else b"\x7e" + struct.pack(">H", len(data)) if len(data) < 65_536 else b"\x7f" + struct.pack(">Q", len(data))
+                    stream.sendall(b"\x89\x00" + b"\x81" + size + data)
+                stream.sendall(b"\x01\x02ab\x80\x01c" + b"\x88\x06\x03\xe8gone")
+
+        listener = socket.create_server(("127.0.0.1", 0))
+        thread = threading.Thread(target=serve, args=(listener,))
+        thread.start()
+        port = listener.getsockname()[1]
+        client = websocket.WebSocket(("127.0.0.1", port), "/session", "http://here")
+        self.assertEqual(client.status, "101")
+        for length in (5, 300, 70_000):
+            client.send("x" * length)
+            self.assertEqual(client.text(), "x" * length)
+        self.assertEqual(client.text(), "abc")
+        with self.assertRaisesRegex(websocket.Ended, "^gone$"):
+            client.text()
+        thread.join()
+        with self.assertRaises(websocket.Ended):
+            client.text()
+        client.close()
+        self.assertEqual(taken, [(0x81, 5), (0x81, 300), (0x81, 70_000)])
+        self.assertTrue(heads[0].startswith(f"GET /session HTTP/1.1\r\nHost: 127.0.0.1:{port}\r\n".encode()) and heads[0].endswith(b"\r\nOrigin: http://here\r\n\r\n"))
 
 
 class PortsTests(unittest.TestCase):
