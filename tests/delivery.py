@@ -22,7 +22,7 @@ import random
 import subprocess
 import sys
 
-from rooms_reference import KINDS, Address, Reference
+from rooms_reference import KINDS, Address, Reference, named
 
 NODES, SILENCE = 5, 4
 SIZES = [1, 4, 16, 64]  # frames that are open at most after a round trip
@@ -31,12 +31,6 @@ LENGTHS = [0, 1, 20, 1_000]  # bytes of messages
 
 class Unlike(Exception):
     """A law does not hold in a run."""
-
-
-def named(address):
-    """The words of an address."""
-    later = f'.{address.generation}' if address.generation else ''
-    return f'{address.tenant} {address.group}{later}'
 
 
 def ceiling(number, divisor):

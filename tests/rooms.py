@@ -17,7 +17,7 @@ import subprocess
 import sys
 import tempfile
 
-from rooms_reference import GENERATIONS, KINDS, Address, Reference, text_of
+from rooms_reference import GENERATIONS, KINDS, Address, Reference, named, text_of
 
 TOP = os.path.dirname(os.path.dirname(os.path.abspath(__file__)))
 KEPT = os.path.join(TOP, 'tests', 'out', 'rooms')
@@ -34,12 +34,6 @@ BAD = ['open 0 7 1.0', 'open 0 7 1.01', 'open 0 7 1.', 'open 0 7 .1', 'open 0 7 
        'cluster 2 3', 'cluster2 2 3 3,3', 'fetch 0 7 1.00 0 16', 'tenant 0 7 4.1 8 4096 4', 'pack 0', 'arrive -1', 'noise 0 6', 'hello']
 BAD_STARTS = ['cluster 17 3', 'cluster 2 1', 'cluster2 2 3 3', 'cluster2 2 3 3,4', 'cluster2 2 3 3,3 0', 'cluster2 2 3 3,3 16346',
               f'cluster2 17 3 {",".join(16 * ["3"])},1', 'cluster2 33 3 ' + ','.join(33 * ['3']), 'open 0 7 1']
-
-
-def named(address):
-    """The words of an address."""
-    later = f'.{address.generation}' if address.generation else ''
-    return f'{address.tenant} {address.group}{later}'
 
 
 class Maker:

@@ -54,6 +54,12 @@ def refuse(name, is_so=True):
         raise Refused(name)
 
 
+def named(address):
+    """The words of an address."""
+    later = f'.{address.generation}' if address.generation else ''
+    return f'{address.tenant} {address.group}{later}'
+
+
 def item_size(version, payload):
     return struct.calcsize(vectors.ITEMS[version]) + len(payload)
 
