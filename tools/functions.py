@@ -12,13 +12,9 @@ import sys
 
 TICKS = os.sysconf("SC_CLK_TCK")
 ROOT = os.path.dirname(os.path.dirname(os.path.abspath(__file__)))
-
-
-def crates():
-    """Returns the libraries that each crate of the repository stands on, by its name."""
-    with open(f"{ROOT}/crates.txt") as file:
-        lines = [line.split("#")[0].split(":") for line in file if ":" in line.split("#")[0]]
-    return {name.split()[0]: deps.split() for name, deps in lines}
+sys.path.insert(0, ROOT)
+sys.dont_write_bytecode = True
+from lab import crates  # noqa: E402
 
 
 def below(name, deps, found):
@@ -32,7 +28,7 @@ def below(name, deps, found):
 
 def words(name, kit):
     """Returns the words of the check."""
-    deps = crates()
+    deps = crates.libraries()
     folder = lambda dep: f"{ROOT}/crates/{dep}/out/rlib" if dep in deps else f"{kit}/rlibs"
     uses = [word for dep in ["std", *deps[name]] for word in ("--extern", f"{dep}={folder(dep)}/{dep}.rlib")]
     looks = [f"{kit}/rlibs", *map(folder, below(name, deps, []))]

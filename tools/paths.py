@@ -11,18 +11,9 @@ import os
 import sys
 
 TOP = os.path.dirname(os.path.dirname(os.path.abspath(__file__)))
-
-
-def needs():
-    """Returns, for each crate, those of ours that it stands on."""
-    found = {}
-    with open(os.path.join(TOP, "crates.txt")) as file:
-        for line in file:
-            name, colon, words = line.split("#")[0].partition(":")
-            if not colon:
-                continue
-            found[name.split()[0]] = words.split()
-    return {name: [dep for dep in deps if dep in found] for name, deps in found.items()}
+sys.path.insert(0, TOP)
+sys.dont_write_bytecode = True
+from lab import crates  # noqa: E402
 
 
 def own_files(crate):
@@ -51,7 +42,7 @@ def total(stands_on, own, programs):
 
 def main():
     most = int(sys.argv[1]) if len(sys.argv) > 1 else 10
-    stands_on = needs()
+    stands_on = crates.stands_on()
     own = {crate: own_files(crate) for crate in stands_on}
     programs = {crate for crate in stands_on if os.path.isfile(os.path.join(TOP, "crates", crate, "src", "main.rt"))}
     now = total(stands_on, own, programs)

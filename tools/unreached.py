@@ -11,8 +11,13 @@ With --functions it lists them."""
 import argparse
 import os
 import re
+import sys
 
 TOP = os.path.dirname(os.path.dirname(os.path.abspath(__file__)))
+sys.path.insert(0, TOP)
+sys.dont_write_bytecode = True
+from lab import crates  # noqa: E402
+
 HEAD = re.compile(r"^( *)(?:pub(?:\([a-z]+\))? )?(?:const )?(?:unsafe )?fn (\w+)")
 WORD = re.compile(r"[A-Za-z_]\w*")
 # What the scope names for embedding: threads of a host with no loop, sessions over a stream, and the group by itself.
@@ -25,18 +30,6 @@ EMBEDDED = {
     "crates/gb_frame/src/item.rt": ("put_items", "view"),
     "crates/gb_host/src/seat.rt": ("mine",),
 }
-
-
-def needs():
-    """Returns, for each crate, those of ours that it stands on, in the order of crates.txt."""
-    found = {}
-    with open(os.path.join(TOP, "crates.txt")) as file:
-        for line in file:
-            name, colon, words = line.split("#")[0].partition(":")
-            if not colon:
-                continue
-            found[name.split()[0]] = [word for word in words.split() if word.startswith("gb_")]
-    return found
 
 
 def below(crate, stands_on):
@@ -160,7 +153,7 @@ def main():
     parser = argparse.ArgumentParser(description=__doc__.split("\n")[0])
     parser.add_argument("--functions", action="store_true")
     words = parser.parse_args()
-    stands_on = needs()
+    stands_on = crates.stands_on()
     programs = [crate for crate in stands_on if os.path.exists(os.path.join(TOP, "crates", crate, "src", "main.rt"))]
     found = read_all(stands_on)
     seen = reached(programs, stands_on, found)
