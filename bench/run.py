@@ -3,7 +3,7 @@
 
     bench/run.py NAME [WORD ..]    runs the measure of this name; its status is the measure's
     bench/run.py NAME --help       says what it measures, and which words it takes
-    bench/run.py --check           proves and compiles the programs of bench/ that are written in Rattle, which no gate reads, and runs none
+    bench/run.py --check           checks the programs of bench/ in Rattle, which no gate reads, by `rt check`; none is linked or run
     bench/run.py --help            prints this, and the names
 
 A measure is a file NAME.py with a function `main`, or a program in Rattle, NAME/main.rt.txt, which takes no words: `rt` proves and builds it

@@ -144,7 +144,7 @@ def build(names: Sequence[str]) -> List[str]:
 
 
 def check() -> int:
-    """Prove and compile all programs, and run none. Print a line for each, and return 0 if all are well."""
+    """Have `rt check` compile and prove each program; none is linked or run. Print a line for each, and return 0 if all are well."""
     room, failed = lay_out(), 0
     for name in PROGRAMS:
         folder = os.path.join(room, "crates", name)

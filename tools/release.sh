@@ -1,5 +1,5 @@
 #!/usr/bin/env bash
-# Tries what is released: builds the programs by ./install, where that is there, proves and compiles the programs of bench/ that no gate reads
+# Tries what is released: builds the programs by ./install, where that is there, checks the programs of bench/ in Rattle, which no gate reads
 # (bench/run.py --check), and then runs all trials (tests/trials.py) with what it built. Words are passed on to the trials; behind
 # `--programs DIR` nothing is built. PYTHON names another Python than python3.
 set -eu
