@@ -1,23 +1,26 @@
-#!/usr/bin/env python3
-"""Two built gb_sim programs side by side: beside.py OLD NEW [LINES], with 100,000 lines if not given otherwise.
+"""Two built gb_sim programs side by side, an old and a new one: groups, nodes and schedules of 2, 4, 8 and 16 members.
 
-For clusters of 2, 4, 8 and 16 nodes that are all members it prints the memory of a group and of a node, and the processor time and the
-greatest memory for the schedule of schedule.py. Each is measured three times, in turns, and the medians are compared: a ratio is the new
-program's median divided by the old one's. If the new program starts clusters of nodes that send packets of version 2 (`cluster2`), that is
-measured too, with the same payloads, and compared with the old program's version 1.
+    beside OLD NEW [LINES]
 
-The memory of a node is the memory of a cluster of n beyond that of a single node, divided by n - 1. Memory is counted in pages, so a figure
-of two nodes is off by at most 4,096 bytes, and one of 16 nodes by at most 273.
+LINES, 100,000 if not given, is how many lines the schedules have.
+
+For clusters of 2, 4, 8 and 16 nodes that are all members it prints what a group and a node take of memory, and what the schedule of
+lab/schedule.py takes of processor time and, at most at once, of memory. Each is measured three times, in turns, and the medians are
+compared: a ratio is the new program's median by the old one's. Where the new program starts clusters of nodes that send packets of
+version 2 (`cluster2`), that is measured beside them, with the same payloads, and compared with the old program's version 1.
+
+The memory of a node is what a cluster of n takes beyond one of a single node, divided by n - 1. It comes in pages, so a figure of two
+nodes is off by up to 4,096 bytes, and one of 16 nodes by up to 273.
 """
 import os
 import statistics
 import subprocess
-import sys
 import tempfile
 import threading
 
 import memory
-import schedule
+from lab import schedule, system
+from lab.words import WrongWords, numbers
 
 ROUNDS = 3
 MEMBERS = (2, 4, 8, 16)
@@ -47,7 +50,7 @@ def seconds(program, members, version, paths):
 
 
 def most_bytes(program, members, version, paths):
-    """Returns the greatest memory, read when all lines are answered and before the program ends."""
+    """Asked when all lines are answered, before the program ends."""
     with open(paths[members, version]) as file:
         lines = file.read()
     process = memory.begun(program)
@@ -59,7 +62,7 @@ def most_bytes(program, members, version, paths):
     for _ in range(lines.count('\n')):
         process.stdout.readline()
     writer.join()
-    taken = memory.status_bytes(process, 'VmHWM')
+    taken = system.memory(process.pid, 'VmHWM')
     process.stdin.close()
     process.wait()
     return taken
@@ -75,7 +78,7 @@ MEASURES = (
 
 
 def written(folder, count, versions):
-    """Writes the schedules, and returns them by members and version."""
+    """The schedules, by members and version."""
     paths = {}
     for members in MEMBERS:
         for version in versions:
@@ -85,7 +88,11 @@ def written(folder, count, versions):
     return paths
 
 
-def main(old, new, count=100_000):
+def main(words):
+    if len(words) < 2:
+        raise WrongWords
+    old, new = words[:2]
+    (count,) = numbers(words[2:], 100_000)
     runs = [('old', old, 1), ('new', new, 1)]
     if knows_version_2(new):
         runs.append(('version 2', new, 2))
@@ -103,8 +110,3 @@ def main(old, new, count=100_000):
                 ratios = ''.join(f'{value / medians[0]:>15.2f}' for value in medians[1:])
                 print(f'{what:38}{members:7}' + ''.join(f'{value:>12{form}}' for value in medians) + ratios, flush=True)
 
-
-if __name__ == '__main__':
-    if len(sys.argv) < 3:
-        sys.exit(__doc__)
-    main(sys.argv[1], sys.argv[2], *map(int, sys.argv[3:]))

@@ -1,20 +1,23 @@
-"""A paced load on a cluster, and its cost: a Load says which requests are made, and `measure` starts a server, plays the load, and returns a Cost.
-bench/serve/play.rs makes the requests (`play pace`); processor time and memory are the system's figures of the server's process (/proc)."""
+"""A load on a cluster that is paced, and what it cost: a Load says what is asked, and `measure` starts a server, plays it, and returns a
+Cost. bench/serve/play.rs asks (`play pace`); processor time and memory are the system's figures of the server's process (/proc)."""
+import contextlib
 import math
 import os
 import subprocess
-import sys
 import tempfile
 import time
 from dataclasses import dataclass
 
-sys.path.insert(0, os.path.join(os.path.dirname(os.path.abspath(__file__)), "..", "clients", "python"))
-from foqradesh import BadPlaceError, Client, Keys, Spec, member_token, node_address
+from lab import system
+from lab.keys import ADMIN_KEY, TENANT_KEY, member_token
+from lab.ports import SESSIONS
+from lab.serving import STOPS, NotServing, all_serving, in_a_row, peer_words, serve_words, write_cluster_file
+from lab.sessions import framed
+from foqradesh import BadPlaceError, Client, Keys, Spec, node_address
 
-CLUSTER_KEY, ADMIN_KEY, TENANT_KEY = (bytes([byte] * 32) for byte in (0x11, 0x22, 0x33))
 PORT = int(os.environ.get("SCALE_PORT", "30000"))
 GROUPS_OF_A_TENANT = 250
-BEHIND = 64  # the number of steps by which a fetch is behind the say of the message that it fetches
+BEHIND = 64  # how many steps a fetch is behind the say of the message that it fetches
 
 
 @dataclass(frozen=True)
@@ -25,10 +28,10 @@ class Load:
     members: int
     groups: int
     payload: int  # bytes of each message
-    each: int  # the number of messages that each member says in each group; the group has room for exactly these
+    each: int  # how many messages each member says in each group; the group has room for exactly these
     rate: float  # messages a second, of all members in all groups
     fetches: bool = True  # whether each member's client fetches each message by a request of its own
-    together: int = 1  # the number of requests that a client sends at once
+    together: int = 1  # how many requests a client sends at once
 
     @property
     def messages(self):
@@ -41,7 +44,7 @@ class Load:
 
 @dataclass
 class Cost:
-    """The cost of a load for all nodes of a server, from before it is played until all messages are delivered."""
+    """What a load cost all nodes of a server, from before it is played until all is delivered."""
 
     messages: int
     refused: int
@@ -60,80 +63,51 @@ class Cost:
 
     @property
     def each(self):
-        """Returns the microseconds of processor time for each message."""
+        """Microseconds of processor time for each message."""
         return self.processor / self.messages * 1e6
 
     @property
     def share(self):
-        """Returns the share of a core."""
+        """The share of a core."""
         return self.processor / self.seconds
 
 
 class Server:
-    """A cluster that is served: by a gb_serve, one process for all nodes, or, if the program is a gb_peer, by a process for each node."""
+    """A cluster that is served: by a gb_serve, one process for all nodes, or, where the program is a gb_peer, by a process for each node."""
 
     def __init__(self, program, nodes, is_exact=False):
-        """Starts it. Exact: its allocator takes no more memory from the system than it is asked for, rounded up to a page."""
-        self.nodes, self.folder = nodes, tempfile.TemporaryDirectory()
+        """Starts it. Exact: its allocator takes no more memory from the system than it is asked for, up to a page."""
+        self.nodes, self.stack = nodes, contextlib.ExitStack()
         if os.path.basename(program).startswith("gb_peer"):
-            file = self.write_cluster_file()
-            words = [["--cluster", file, "--node", str(node), "--dir", self.folder.name, "--wait", "0"] for node in range(nodes)]
+            folder = self.stack.enter_context(tempfile.TemporaryDirectory())
+            file = os.path.join(folder, "cluster.toml")
+            write_cluster_file(file, in_a_row(PORT, nodes), run=1, silence=50, version=2, room=16345)
+            rows = [peer_words(program, file, node, folder, "--wait", "0", "--quiet") for node in range(nodes)]
         else:
-            words = [["--nodes", str(nodes), "--version", "2", "--base-port", str(PORT)]]
+            rows = [serve_words(program, PORT, nodes, "--version", "2", "--quiet", STOPS)]
         environment = dict(os.environ, MALLOC_TOP_PAD_="0") if is_exact else None
-        commands = [program.split() + it + ["--quiet", "--stop-at-end"] for it in words]
-        self.processes = [subprocess.Popen(it, stdin=subprocess.PIPE, stdout=subprocess.PIPE, text=True, env=environment) for it in commands]
-        for process in self.processes:
-            process.stdin.write(CLUSTER_KEY.hex() + "\n" + ADMIN_KEY.hex() + "\n")
-            process.stdin.flush()
-        for process in self.processes:
-            line = process.stdout.readline()
-            if not line.startswith("serving"):
-                self.__exit__()
-                raise RuntimeError(f"{program} does not serve: {line!r}")
-
-    def write_cluster_file(self):
-        path = os.path.join(self.folder.name, "cluster.toml")
-        with open(path, "w", encoding="ascii") as file:
-            file.write("run = 1\nsilence = 50\nversion = 2\nroom = 16345\n")
-            for node in range(self.nodes):
-                file.write(f'[[node]]\npackets = "127.0.0.1:{PORT + node}"\nsessions = "127.0.0.1:{PORT + 64 + node}"\n')
-        return path
+        try:
+            self.processes = self.stack.enter_context(all_serving(rows, environment=environment))
+        except NotServing:
+            self.stack.close()
+            raise
 
     def __enter__(self):
         return self
 
     def __exit__(self, *_):
-        for process in self.processes:
-            process.stdin.close()
-        for process in self.processes:
-            try:
-                process.wait(10)
-            except subprocess.TimeoutExpired:
-                process.kill()
-                process.wait()
-        self.folder.cleanup()
+        self.stack.close()
 
     def processor(self):
-        """Returns the seconds of processor time that all threads had, by the scheduler's nanoseconds."""
-        sum_of_all = 0
-        for process in self.processes:
-            folder = f"/proc/{process.pid}/task"
-            for thread in os.listdir(folder):
-                with open(f"{folder}/{thread}/schedstat", encoding="ascii") as file:
-                    sum_of_all += int(file.read().split()[0])
-        return sum_of_all / 1e9
+        """Seconds of processor time that all threads had."""
+        return sum(system.processor(process.pid) for process in self.processes)
 
     def memory(self, name="VmRSS"):
-        """Returns the bytes of memory: VmRSS of what is resident, VmData of what was taken."""
-        sum_of_all = 0
-        for process in self.processes:
-            with open(f"/proc/{process.pid}/status", encoding="ascii") as file:
-                sum_of_all += next(int(line.split()[1]) * 1024 for line in file if line.startswith(name + ":"))
-        return sum_of_all
+        """Bytes of memory: VmRSS of what is resident, VmData of what was taken."""
+        return sum(system.memory(process.pid, name) for process in self.processes)
 
     def figures(self):
-        """Returns the figures of all nodes, added up."""
+        """The figures of all nodes, added up."""
         sums = {}
         for node in range(self.nodes):
             with Client(node_address(PORT, node), Keys(node, admin=ADMIN_KEY)) as client:
@@ -143,12 +117,12 @@ class Server:
 
 
 def address(group):
-    """Returns the tenant and the number of a group, of all groups of a load."""
+    """The tenant and the number of a group, of all groups of a load."""
     return 1 + group // GROUPS_OF_A_TENANT, group % GROUPS_OF_A_TENANT
 
 
 def make_groups(load):
-    """Adds the tenants, makes the groups at all nodes, and then opens them."""
+    """Takes the tenants in, makes the groups at all nodes, and then opens them."""
     members = tuple(range(load.members))
     spec = Spec(load.kind, members, load.each, load.each * load.payload, load.each)
     tenants = 1 + (load.groups - 1) // GROUPS_OF_A_TENANT
@@ -168,16 +142,13 @@ def make_groups(load):
 
 
 def write_messages(load, node, path):
-    """Writes the requests to a node: in each step its member says one message in one group, in turn in all groups; then it fetches, by a request for
-    each, the messages that all members said some steps before."""
+    """Writes what is asked of a node: in each step its member says one message in one group, in turn in all groups; then it fetches, by a
+    request for each, what all members said some steps before."""
     heads = []
     for group in range(load.groups):
         tenant, number = address(group)
-        heads.append(f"{member_token(TENANT_KEY, tenant, number, node)} {tenant} {number}")
+        heads.append(f"{member_token(tenant, number, node)} {tenant} {number}")
     payload = ("%02x" % (0x41 + node)) * load.payload
-
-    def framed(text):
-        return len(text).to_bytes(4, "big") + text.encode("ascii")
 
     says = [framed(f"say {head} {payload}") for head in heads]
     with open(path, "wb") as file:
@@ -191,8 +162,8 @@ def write_messages(load, node, path):
 
 
 def play(program, load, files):
-    """Plays the files at their nodes. Returns how many requests were sent, how many were refused, and how many seconds it took."""
-    words = [word for node, path in enumerate(files) for word in (str(PORT + 64 + node), path)]
+    """Plays the files at their nodes. How many messages were asked, how many were refused, and how many seconds it took."""
+    words = [word for node, path in enumerate(files) for word in (str(PORT + SESSIONS + node), path)]
     done = subprocess.run([program, "pace", f"{load.seconds:.3f}", str(load.together), *words], capture_output=True, text=True, timeout=load.seconds + 120, check=False)
     if done.returncode:
         raise RuntimeError(done.stderr)
@@ -201,7 +172,7 @@ def play(program, load, files):
 
 
 def is_there(client, group, place):
-    """Returns whether a log has an entry at this index."""
+    """Whether a log has an entry at this place."""
     try:
         return bool(client.fetch(*address(group), place, 1))
     except BadPlaceError:
@@ -222,7 +193,7 @@ def settle(load):
 
 
 def measure(server_program, play_program, load):
-    """Returns the cost of a load, all of it delivered at all members."""
+    """What a load costs, all of it delivered at all members."""
     with tempfile.TemporaryDirectory() as folder, Server(server_program, load.members) as server:
         time.sleep(0.2)
         empty = server.memory()
@@ -244,7 +215,7 @@ def measure(server_program, play_program, load):
 
 
 def idle(server_program, nodes, seconds):
-    """Returns the microseconds of processor time and the packets of each node of a server in a second without requests."""
+    """Microseconds of processor time and packets that each node of a server takes in a second in which nobody asks."""
     with Server(server_program, nodes) as server:
         time.sleep(1)
         before, begun, spent = server.figures(), time.monotonic(), server.processor()
@@ -256,8 +227,7 @@ def idle(server_program, nodes, seconds):
 
 
 def of_groups(server_program, kind, members, each, payload):
-    """Returns the bytes of memory of a group at a node, whether they were touched or not: the memory of a server of 40 groups beyond that of one of
-    8."""
+    """Bytes of memory that a group takes at a node, whether they were touched or not: what a server of 40 groups took more than one of 8."""
     taken = []
     for groups in (8, 40):
         with Server(server_program, members, is_exact=True) as server:
@@ -267,5 +237,5 @@ def of_groups(server_program, kind, members, each, payload):
 
 
 def whole(load_rate, load_groups, members, seconds):
-    """Returns how many messages each member says in each group, so that a load of this rate takes about this number of seconds."""
+    """How many messages each member says in each group, so that a load of this rate takes about these seconds."""
     return max(1, min(1024, math.ceil(load_rate * seconds / members / load_groups)))

@@ -1,6 +1,16 @@
-"""Measures a gb_serve under paced loads: scale.py SERVE PLAY sizes|figures [ROUNDS] [WORDS]. `figures` prints the figures that the sheet of
-bench/capacity.py is made from, the medians of the rounds, and writes them into bench/figures.txt. `sizes` plays loads of three sizes and prints their
-costs beside those of that sheet; it ends with status 1 if the median of a ratio is not within 30 percent."""
+"""Loads of three sizes beside the sheet of tools/capacity.py, or the figures that the sheet is made from.
+
+    scale [sizes [ROUNDS]]
+    scale figures [ROUNDS [PART ..]]
+
+`sizes` plays loads of 10, 100 and 1,000 groups, at rates that take about 10, 30 and 60 percent of a core, and prints measured processor time,
+resident memory and packets beside the computed ones. Status 1: a median of processor time or memory is not within 30 percent. `figures` prints
+what the sheet is made from, the medians of the rounds, and writes them into bench/figures.txt: all parts of it, or those that are named. ROUNDS
+is 3 if not given.
+
+bench/serve/play.rs asks, which plain rustc compiles into bench/out. gb_serve is that of bin/, where ./install puts it, unless SERVE names
+another; where SERVE names a gb_peer, each node has a process of its own. SCALE_PORT is the base port, 30,000 if not given.
+"""
 import os
 import statistics
 import subprocess
@@ -8,17 +18,19 @@ import sys
 import time
 from dataclasses import replace
 
-import capacity
+import asking
 import load
 from load import Load
+from lab import KINDS, TOP
+from lab.words import WrongWords, numbers
+from tools import capacity
 
-KINDS = ("beb", "lazy", "eager", "allack", "majority", "fbeb", "flazy", "feager", "fallack", "fmajority")
 MANY = capacity.MANY
 SECONDS = 2
 
 
 def paced(kind, members, payload, rate, groups=16, **more):
-    """Returns a load at a rate for some seconds, of as many messages as fit into the groups."""
+    """A load at a rate for some seconds, of as many messages as fit into the groups."""
     each = min(1024, 65536 // payload, load.whole(rate, groups, members, SECONDS))
     return Load(kind, members, groups, payload, each, rate, **more)
 
@@ -28,15 +40,13 @@ def date():
 
 
 def commit():
-    """Returns the commit that is measured: COMMIT of the environment, or this checkout's."""
-    folder = os.path.dirname(os.path.abspath(__file__))
-    return os.environ.get("COMMIT") or subprocess.run(["git", "-C", folder, "rev-parse", "--short", "HEAD"], capture_output=True, text=True, check=True).stdout.strip()
+    """The commit that is measured: COMMIT of the environment, or this checkout's."""
+    return os.environ.get("COMMIT") or subprocess.run(["git", "-C", TOP, "rev-parse", "--short", "HEAD"], capture_output=True, text=True, check=True).stdout.strip()
 
 
 def write_figures(figures):
-    path = os.path.join(os.path.dirname(os.path.abspath(__file__)), "figures.txt")
-    with open(path, "w", encoding="ascii") as file:
-        file.write("# What bench/scale.sh figures measured: name, value, date, commit, part, what it is. Written by it, read by bench/capacity.py.\n")
+    with open(capacity.PATH, "w", encoding="ascii") as file:
+        file.write("# What bench/run.py scale figures measured: name, value, date, commit, part, what it is. Written by it, read by tools/capacity.py.\n")
         for name, it in figures.items():
             file.write("\t".join((name, str(it.value), it.date, it.commit, it.part, it.what)) + "\n")
 
@@ -134,14 +144,14 @@ SIZE_SECONDS = 8
 
 
 def asked_of(share, kind, members, groups, payload):
-    """Returns a load that takes this share of a core by the sheet, for some seconds, if the groups have room for that many messages."""
+    """A load that takes this share of a core by the sheet, for some seconds, where the groups have room for as many messages."""
     rate = share / capacity.message_cost(kind, members, payload, members) * 1e6
     each = min(1024, 65536 // payload, load.whole(rate, groups, members, SIZE_SECONDS))
     return Load(kind, members, groups, payload, each, round(rate))
 
 
 def compared(asked, cost):
-    """Returns the measured and the computed costs of a load, by name: processor time in milliseconds, resident memory in MiB, packets."""
+    """What was measured and what is computed for a load, by name: processor time in milliseconds, resident memory in MiB, packets."""
     each = capacity.message_cost(asked.kind, asked.members, asked.payload, asked.members)
     processor = (each * cost.messages + capacity.idle_cost(asked.members) * asked.members * cost.seconds) / 1e6
     group = capacity.group_memory(asked.kind, asked.members, asked.each, asked.each * asked.payload)
@@ -154,7 +164,7 @@ def compared(asked, cost):
 
 
 def sizes(serve, play, rounds):
-    """Returns whether each median of a ratio is within 30 percent."""
+    """Whether each median of a ratio is within 30 percent."""
     is_near = True
     for name, share, *what in SIZES:
         asked = asked_of(share, *what)
@@ -174,16 +184,22 @@ def sizes(serve, play, rounds):
 
 
 def main(words):
-    serve, play, what = words[:3]
-    rounds = int(words[3]) if len(words) > 3 else 3
-    if what == "figures":
-        figures(serve, play, rounds, words[4:])
-        return 0
-    return 0 if sizes(serve, play, rounds) else 1
-
-
-if __name__ == "__main__":
+    what, *rest = words or ["sizes"]
+    if what == "sizes":
+        (rounds,) = numbers(rest, 3)
+        parts = None
+    elif what == "figures":
+        (rounds,), parts = numbers(rest[:1], 3), rest[1:]
+    else:
+        raise WrongWords
+    if parts and not set(parts) <= set(PARTS):
+        raise WrongWords
     try:
-        sys.exit(main(sys.argv[1:]))
+        serve, play = asking.served(), asking.compiled()
+        if what == "figures":
+            figures(serve, play, rounds, parts)
+            return 0
+        return 0 if sizes(serve, play, rounds) else 1
     except capacity.Missing as name:
-        sys.exit(f"bench/figures.txt has no figure {name}: bench/scale.sh figures measures it")
+        print(f"bench/figures.txt has no figure {name}: bench/run.py scale figures measures it", file=sys.stderr)
+        return 1

@@ -1,21 +1,17 @@
 #!/usr/bin/env python3
-"""Attacks on a server by clients and machines that have no right token, and limits on what they may cost others.
+"""Attacks on a server by clients and machines that have no right token, and what they may cost nobody else.
 
 tests/attacks.py --serve GB_SERVE --peer GB_PEER --base-port N [--only WORD]
 
-Starts these two programs on loopback, at ports from N on (256 of them), and runs each attack beside a client that has right tokens. No
-other client waits longer than 100 milliseconds, no node is noticed, a record does not grow by a byte for requests that are refused or for
-junk, and an administrator gets in. The last line is `N passed, M failed`; the status is 1 if one failed. `--only` runs those whose names
-have WORD. It needs nothing beside Python. If the machine itself is slow, a client may wait three times as long as one of a server that only
-echoes.
+Starts these two programs on loopback, at ports from N on (256 of them), and runs each attack beside a client that has right
+tokens. No other client waits longer than 100 milliseconds, no node is noticed, a record does not grow by a byte for what is refused or junk,
+and an administrator gets in. The last line is `N passed, M failed`; the status is 1 if one failed. `--only` runs those whose names have WORD.
+It needs nothing beside Python. Where the machine itself is slow, a client may wait three times as long as one of a server that only echoes.
 """
 import argparse
 import contextlib
-import hashlib
-import hmac
 import os
 import resource
-import selectors
 import signal
 import socket
 import struct
@@ -27,101 +23,29 @@ import time
 import urllib.error
 import urllib.request
 
-CLUSTER, ADMIN, TENANT = (bytes([byte]) * 32 for byte in (0x11, 0x22, 0x33))
+sys.path.insert(0, os.path.dirname(os.path.dirname(os.path.abspath(__file__))))
+from lab import sessions  # noqa: E402
+from lab.keys import ADMIN_TOKEN, TENANT_KEY, member_token, tenant_token  # noqa: E402
+from lab.ports import SESSIONS  # noqa: E402
+from lab.relay import Relay  # noqa: E402
+from lab.serving import STOPS, NotServing, Serving, all_serving, peer_words, serve_words, write_cluster_file  # noqa: E402
+from lab.sessions import framed  # noqa: E402
+from lab.steps import Wrong, expect  # noqa: E402
+
 NOBODY = "0" * 64  # a token that is not valid
 LONGEST = 0.1  # seconds that another client may wait
 SLOWER = 3  # how many times as long as a client of an echo it may wait
-SESSIONS, STATUS, RELAYED = 64, 140, 200  # the distances of a server's other ports from its first one
-
-
-def token(key, text):
-    return hmac.new(key, text, hashlib.sha256).hexdigest()
-
-
-ADMIN_TOKEN = token(ADMIN, b"A")
-
-
-def tenant_token(tenant):
-    return token(TENANT, b"T" + struct.pack(">H", tenant))
-
-
-def member_token(tenant, group, node=0):
-    return token(TENANT, b"M" + struct.pack(">HHB", tenant, group, node))
-
-
-def framed(text):
-    return struct.pack(">I", len(text)) + text.encode("ascii")
-
-
+STATUS, RELAYED = 140, 200  # how far above a server's first port its other ports are
 DENIED = [framed(f"open {NOBODY} 7 {group}") for group in (1, 2)]
 
 
-class Failed(Exception):
-    """An attack had an effect that it must not have."""
-
-
-def expect(is_so, text):
-    if not is_so:
-        raise Failed(text)
-
-
-class Link:
+class Link(sessions.Link):
     """A connection to a node's sessions."""
-
-    def __init__(self, port, timeout=10):
-        self.socket = socket.create_connection(("127.0.0.1", port), timeout)
-        self.socket.setsockopt(socket.IPPROTO_TCP, socket.TCP_NODELAY, 1)
-
-    def read(self, count):
-        text = b""
-        while len(text) < count:
-            piece = self.socket.recv(count - len(text))
-            if not piece:
-                raise ConnectionError("closed")
-            text += piece
-        return text
-
-    def told(self):
-        (size,) = struct.unpack(">I", self.read(4))
-        return self.read(size).decode("ascii")
-
-    def ask(self, text):
-        self.socket.sendall(framed(text))
-        return self.told()
 
     def figures(self):
         text = self.ask(f"status {ADMIN_TOKEN}")
         expect(text.startswith("status "), f"an administrator is answered {text[:40]!r}")
         return {word.split("=")[0]: int(word.split("=")[1]) for word in text.split()[1:]}
-
-    def close(self):
-        self.socket.close()
-
-
-class Process:
-    """A program that serves. It ends when its standard input ends."""
-
-    def __init__(self, words, log):
-        self.process = subprocess.Popen(words, stdin=subprocess.PIPE, stdout=subprocess.PIPE, stderr=log)
-        self.process.stdin.write(f"{CLUSTER.hex()}\n{ADMIN.hex()}\n".encode("ascii"))
-        self.process.stdin.flush()
-        line = self.process.stdout.readline()
-        if not line.startswith(b"serving"):
-            self.end()
-            raise Failed(f"{words[0]} does not serve: {line!r}")
-
-    @property
-    def pid(self):
-        return self.process.pid
-
-    def end(self):
-        with contextlib.suppress(OSError):
-            self.process.stdin.close()
-        try:
-            self.process.wait(20)
-        except subprocess.TimeoutExpired:
-            self.process.kill()
-            self.process.wait()
 
 
 class Attacks:
@@ -131,49 +55,38 @@ class Attacks:
         self.log = open(os.path.join(self.folder.name, "log"), "wb")
 
     def next_ports(self):
-        """Returns the next ports. Each server has ports of its own, because the system keeps closed connections for a while."""
+        """Each server has ports of its own, since the system keeps closed connections for a while."""
         self.port += 2
         return self.port
 
     @contextlib.contextmanager
     def served(self, *words, nodes=1):
         base = self.next_ports()
-        server = Process([self.serve, "--nodes", str(nodes), "--base-port", str(base), "--stop-at-end", *words], self.log)
-        server.port = base
-        server.sessions = base + SESSIONS
-        try:
+        with Serving(serve_words(self.serve, base, nodes, STOPS, *words), log=self.log) as server:
+            server.port, server.sessions = base, base + SESSIONS
             yield server
-        finally:
-            server.end()
 
     @contextlib.contextmanager
     def peers(self, silence, seen, folder):
-        """Starts two nodes, each a gb_peer. `seen` has for each node the ports at which it finds the packets of the two, and its own
-        last."""
-        started = []
-        try:
-            for node, (ports, status) in enumerate(seen):
-                path = os.path.join(folder, f"cluster{node}.toml")
-                with open(path, "w", encoding="ascii") as file:
-                    file.write(f"run = 1\ntick = 20\nsilence = {silence}\n")
-                    for at, port in enumerate(ports):
-                        file.write(f'[[node]]\npackets = "127.0.0.1:{port}"\nsessions = "127.0.0.1:{self.port + SESSIONS + at}"\n')
-                words = ["--cluster", path, "--node", str(node), "--dir", folder, "--wait", "0", "--stop-at-end"]
-                words += ["--status", f"127.0.0.1:{status}"]
-                started.append(Process([self.peer, *words], self.log))
-            yield started
-        finally:
-            for process in started:
-                with contextlib.suppress(ProcessLookupError):
-                    os.kill(process.pid, signal.SIGCONT)
-            for process in started:
-                process.end()
+        """Two nodes, each a gb_peer. `seen` has for each node the ports at which it finds the packets of the two, and its own last."""
+        rows = []
+        for node, (ports, status) in enumerate(seen):
+            path = os.path.join(folder, f"cluster{node}.toml")
+            write_cluster_file(path, [(port, self.port + SESSIONS + at) for at, port in enumerate(ports)], run=1, tick=20, silence=silence)
+            rows.append(peer_words(self.peer, path, node, folder, "--wait", "0", "--status", f"127.0.0.1:{status}"))
+        with all_serving(rows, log=self.log) as nodes:
+            try:
+                yield nodes
+            finally:
+                for node in nodes:
+                    with contextlib.suppress(ProcessLookupError):
+                        os.kill(node.pid, signal.SIGCONT)
 
 
 def prepare(port, node=0, members="0", kind="beb", groups=(1, 2)):
-    """Makes the groups of a tenant at a node, unless they are there."""
+    """Makes the groups of a tenant at a node, as far as they are not there."""
     link = Link(port)
-    expect(link.ask(f"tenant {ADMIN_TOKEN} 7 {TENANT.hex()} 8 1000 65536 1000") == "ok", "a tenant is not taken in")
+    expect(link.ask(f"tenant {ADMIN_TOKEN} 7 {TENANT_KEY.hex()} 8 1000 65536 1000") == "ok", "a tenant is not taken in")
     for group in groups:
         text = link.ask(f"make {tenant_token(7)} 7 {group} {kind} {members} 1000 60000 1000")
         expect(text == "ok", f"a group is not made: {text}")
@@ -196,7 +109,7 @@ while True:
 
 
 class Waits(threading.Thread):
-    """Calls a function again and again, until it is over, and notes how long each call takes, in seconds."""
+    """Asks by a function again and again, until it is over, and notes how long each answer takes, in seconds."""
 
     def __init__(self, ask, is_over):
         super().__init__(daemon=True)
@@ -254,7 +167,7 @@ class Beside:
 
 
 def waiters(port, count):
-    """Opens connections that wait for an entry of group 1."""
+    """Connections that wait for an entry of group 1."""
     links = [Link(port, 30) for _ in range(count)]
     body = framed(f"await {member_token(7, 1)} 7 1 0 16 60000")
     for link in links:
@@ -283,11 +196,11 @@ def bytes_of(folder):
     return sum(os.path.getsize(os.path.join(folder, name)) for name in os.listdir(folder) if name.endswith(".record"))
 
 
-# The attacks. Each returns a line that says what was measured, or raises Failed.
+# The attacks. Each returns a line that says what was seen, or raises Wrong.
 
 
 def wake_storm(attacks):
-    """Touches groups for which 1,000 others wait, by a client without a token."""
+    """A client without a token touches groups for which 1,000 others wait."""
     with attacks.served(nodes=2) as server:
         for node in range(2):
             prepare(server.sessions + node, node, "0,1")
@@ -311,7 +224,7 @@ def wake_storm(attacks):
 
 
 def junk_in_records(attacks):
-    """Sends 5,000 datagrams that are no packets, and 8 MB of requests without a token, to a node that keeps a record."""
+    """5,000 datagrams that are no packets, and 8 MB of requests without a token, at a node that keeps a record."""
     with tempfile.TemporaryDirectory() as folder:
         with attacks.served("--tick", "60000", "--dir", folder, "--record") as server:
             prepare(server.sessions)
@@ -341,7 +254,7 @@ def junk_in_records(attacks):
 
 
 def all_places_taken(attacks):
-    """Connects 20 strangers to the 20 places; then 20 clients with right tokens, and a stranger that comes again and again."""
+    """20 strangers at 20 connections; then 20 clients with right tokens, and a stranger that comes again and again."""
     with attacks.served("--connections", "20") as server:
         prepare(server.sessions)
         strangers = [Link(server.sessions) for _ in range(20)]
@@ -361,7 +274,7 @@ def all_places_taken(attacks):
 
 
 def asked_ahead(attacks):
-    """Sends requests of 300 strangers ahead of their replies; one client that has a token sends requests beside them."""
+    """300 strangers ask without waiting for replies; one that has a token asks beside them."""
     with attacks.served() as server:
         prepare(server.sessions)
         strangers = askers(server.sessions, 300)
@@ -403,7 +316,7 @@ while select.get_map():
 
 
 def askers(port, count):
-    """Starts strangers that send requests ahead, in a process of their own, so that they take no time from the client that is watched."""
+    """Strangers that ask ahead, in a process of their own, so that they take no time of the client that is watched."""
     words = [sys.executable, "-c", ASKER, str(port), str(count), (DENIED[0] + DENIED[1]).hex()]
     strangers = subprocess.Popen(words, stdout=subprocess.PIPE)
     strangers.stdout.readline()
@@ -419,7 +332,7 @@ def health(port):
 
 
 def paused_node(attacks):
-    """Pauses a node for longer than the silence, and lets it go on: it notices the other one in turn, and reports that it is not well."""
+    """A node stands still for longer than the silence, and goes on: it notices the other one in turn, and says that it is not well."""
     base = attacks.next_ports()
     with tempfile.TemporaryDirectory() as folder:
         ports = (base, base + 1)
@@ -434,7 +347,7 @@ def paused_node(attacks):
 
 
 def parted(base):
-    """Checks that two nodes have noticed each other: both say so, and the groups go on at each."""
+    """Two nodes have noticed each other: both say so, and the groups go on at each."""
     until = time.monotonic() + 5
     links = [Link(base + SESSIONS + node) for node in range(2)]
     while not all(link.figures()["nodes_noticed"] == 1 for link in links):
@@ -452,56 +365,27 @@ def parted(base):
     return "each noticed the other, is not well, and goes on"
 
 
-class Relay(threading.Thread):
-    """Carries datagrams between two nodes, by a socket for each. It may lose those of the first node."""
-
-    def __init__(self, nodes, ports):
-        super().__init__(daemon=True)
-        self.nodes, self.loses, self.is_over = nodes, False, False
-        self.sockets = []
-        for port in ports:
-            mine = socket.socket(socket.AF_INET, socket.SOCK_DGRAM)
-            mine.bind(("127.0.0.1", port))
-            self.sockets.append(mine)
-
-    def run(self):
-        select = selectors.DefaultSelector()
-        for at, mine in enumerate(self.sockets):
-            select.register(mine, selectors.EVENT_READ, at)
-        while not self.is_over:
-            for key, _ in select.select(0.05):
-                text = key.fileobj.recv(65_536)
-                at = key.data
-                # Datagrams that come to the socket of node `at` are from the other one; they are sent on from the other one's socket.
-                if not (self.loses and at == 1):
-                    with contextlib.suppress(OSError):
-                        self.sockets[1 - at].sendto(text, ("127.0.0.1", self.nodes[at]))
-
-
 def lost_packets(attacks):
-    """Loses packets from node 0 to node 1 for longer than the silence, and not those of node 1."""
+    """Packets from node 0 to node 1 are lost for longer than the silence, those of node 1 are not."""
     base = attacks.next_ports()
-    relay = Relay((base, base + 1), (base + RELAYED, base + RELAYED + 1))
+    relay = Relay([("127.0.0.1", base), ("127.0.0.1", base + 1)], base + RELAYED)
     relay.start()
     try:
         with tempfile.TemporaryDirectory() as folder:
-            seen = [((base, base + RELAYED + 1), base + STATUS), ((base + RELAYED, base + 1), base + STATUS + 1)]
+            seen = [((base, relay.port(0, 1)), base + STATUS), ((relay.port(1, 0), base + 1), base + STATUS + 1)]
             with attacks.peers(100, seen, folder):
                 for node in range(2):
                     prepare(base + SESSIONS + node, node, "0,1", "allack")
-                relay.loses = True
+                relay.command("cut 0 1")
                 time.sleep(4)
-                relay.loses = False
+                relay.command("join")
                 return parted(base)
     finally:
-        relay.is_over = True
-        relay.join()
-        for mine in relay.sockets:
-            mine.close()
+        relay.close()
 
 
 def known_tenants(attacks):
-    """Measures whether the time of a refusal reveals which tenants exist."""
+    """Whether the time of a refusal tells which tenants exist."""
     with attacks.served() as server:
         prepare(server.sessions)
         times = {7: [], 9: []}
@@ -537,7 +421,7 @@ while time.monotonic() < until:
 
 
 def flood(attacks):
-    """Floods the port of a node's packets for four seconds from six senders without a key."""
+    """Six senders without a key flood the port of a node's packets for four seconds."""
     with attacks.served(nodes=2) as server:
         for node in range(2):
             prepare(server.sessions + node, node, "0,1", "allack")
@@ -556,7 +440,7 @@ def flood(attacks):
 
 
 def trickle(attacks):
-    """Sends a byte every half second, on a connection that has sent no request, and on one that was refused."""
+    """A byte every half second, on a connection that has asked nothing, and on one that was refused."""
     with attacks.served() as server:
         prepare(server.sessions)
         fresh, refused = Link(server.sessions), Link(server.sessions)
@@ -586,7 +470,7 @@ def trickle(attacks):
 
 
 def no_descriptors(attacks):
-    """Leaves the system no descriptor for a client; once it has one again, the client is let in though nobody else comes."""
+    """The system has no descriptor for a client; once it has one again, the client is let in though nobody else comes."""
     with attacks.served() as server:
         prepare(server.sessions)
         link = Link(server.sessions)
@@ -605,7 +489,7 @@ def no_descriptors(attacks):
 
 
 def end_beside_askers(attacks):
-    """Ends a server as an administrator, beside strangers that send requests ahead."""
+    """An administrator ends a server beside strangers that ask ahead."""
     with attacks.served() as server:
         prepare(server.sessions)
         strangers = askers(server.sessions, 20)
@@ -624,7 +508,7 @@ def end_beside_askers(attacks):
 
 
 def shutdown_without_token(attacks):
-    """Sends a stop with another token, which ends nothing."""
+    """A stop with another token ends nothing."""
     with attacks.served() as server:
         link = Link(server.sessions)
         expect(link.ask(f"stop {NOBODY}") == "refused 1 Denied", "a stop without a token is not refused")
@@ -667,7 +551,7 @@ def main():
         name = attack.__name__.replace("_", " ")
         try:
             seen = attack(attacks)
-        except (Failed, OSError, subprocess.SubprocessError) as fault:
+        except (Wrong, NotServing, OSError, subprocess.SubprocessError) as fault:
             failed += 1
             print(f"{name}: FAILED: {fault}", flush=True)
         else:

@@ -1,5 +1,5 @@
 #!/usr/bin/env python3
-"""Floods of datagrams from machines that have no key, and limits on what they may cost the nodes of a cluster and their clients.
+"""Floods of datagrams from machines that have no key, and what they may cost the nodes of a cluster and their clients.
 
     tests/flood.py --serve GB_SERVE --peer GB_PEER --base-port N [--seconds S]
 
@@ -15,67 +15,49 @@ import multiprocessing
 import os
 import queue
 import socket
-import subprocess
 import sys
 import tempfile
 import threading
 import time
 
 TOP = os.path.dirname(os.path.dirname(os.path.abspath(__file__)))
-sys.path.insert(0, os.path.join(TOP, "clients", "python"))
+sys.path.insert(0, TOP)
 
+from lab import keys  # noqa: E402
+from lab.keys import ADMIN_KEY, CLUSTER_KEY, TENANT_KEY  # noqa: E402
+from lab.medians import percentile  # noqa: E402
+from lab.serving import STOPS, NotServing, Serving, in_a_row, peer_words, serve_words, write_cluster_file  # noqa: E402
+from lab.steps import Wrong, expect  # noqa: E402
 from foqradesh import Client, FoqradeshError, Group, Keys, Spec, node_address  # noqa: E402
 
-CLUSTER, ADMIN, TENANT = (bytes([byte]) * 32 for byte in (0x11, 0x22, 0x33))
 SENDERS = 6
 NODES = 3
 
 BOUND = 0.050
-"""The longest time of a message from one node's client to another's at the 99th percentile, in seconds."""
+"""How long a message may take from one node's client to another's at the 99th percentile, in seconds."""
 
 LOADED = 20
-"""The factor of the bound if the machine has more to do than it has processors before a flood begins."""
+"""The bound is so many times as long where the machine has more to do than it has processors before a flood begins."""
 
 LONGEST_WAIT = 20
 LAST_PLACE = 900
-"""The longest wait for a message, in seconds, and the greatest number of messages."""
+"""How long a message is waited for, in seconds, and how many are said at most."""
 
 
-class Failed(Exception):
-    """A condition of the test does not hold."""
+class Process(Serving):
+    """A program that serves, whose standard error goes into a log."""
 
-
-def expect(is_so, text):
-    if not is_so:
-        raise Failed(text)
-
-
-class Process:
-    """A program that serves, with its keys on standard input. It ends when its standard input ends."""
-
-    def __init__(self, folder, name, words, cluster=CLUSTER):
+    def __init__(self, folder, name, words, cluster_key=CLUSTER_KEY):
         self.log = os.path.join(folder, name)
-        with open(self.log, "wb") as log:
-            self.process = subprocess.Popen(words, stdin=subprocess.PIPE, stdout=subprocess.PIPE, stderr=log)
-        self.process.stdin.write(f"{cluster.hex()}\n{ADMIN.hex()}\n".encode("ascii"))
-        self.process.stdin.flush()
-        line = self.process.stdout.readline()
-        if not line.startswith(b"serving"):
-            self.end()
-            raise Failed(f"{words[0]} does not serve: {line!r} {self.text()!r}")
+        try:
+            with open(self.log, "wb") as log:
+                super().__init__(words, keys.told(cluster_key), log)
+        except NotServing as fault:
+            raise Wrong(f"{fault} {self.text()!r}") from None
 
     def text(self):
         with open(self.log, encoding="utf-8", errors="replace") as log:
             return log.read()
-
-    def end(self):
-        with contextlib.suppress(OSError):
-            self.process.stdin.close()
-        try:
-            self.process.wait(20)
-        except subprocess.TimeoutExpired:
-            self.process.kill()
-            self.process.wait()
 
 
 def send_junk(port, until, size, sent):
@@ -95,7 +77,7 @@ def send_junk(port, until, size, sent):
 
 @contextlib.contextmanager
 def flooded(port, seconds, size=100):
-    """Floods a port from six senders meanwhile. Yields how many datagrams each sent; the numbers are final when the senders have ended."""
+    """Six senders flood a port meanwhile. Yields the numbers of what each sent, which stand when they have ended."""
     until = time.monotonic() + seconds
     sent = [multiprocessing.Value("Q", 0) for _ in range(SENDERS)]
     senders = [multiprocessing.Process(target=send_junk, args=(port, until, size, one), daemon=True) for one in sent]
@@ -110,25 +92,20 @@ def flooded(port, seconds, size=100):
                 sender.kill()
 
 
-def percentile(values, share):
-    ordered = sorted(values)
-    return ordered[min(len(ordered) - 1, int(len(ordered) * share))]
-
-
 def clients_of(base):
-    return {node: Client(node_address(base, node), Keys(node, admin=ADMIN, tenants={7: TENANT})) for node in range(NODES)}
+    return {node: Client(node_address(base, node), Keys(node, admin=ADMIN_KEY, tenants={7: TENANT_KEY})) for node in range(NODES)}
 
 
 def begin_groups(clients, kinds):
     for client in clients.values():
-        client.add_tenant(7, TENANT, groups=8, messages=1000, total_bytes=60000, window=1000)
+        client.add_tenant(7, TENANT_KEY, groups=8, messages=1000, total_bytes=60000, window=1000)
     for number, kind in enumerate(kinds, 1):
         spec = Spec(kind, tuple(clients), messages=1000, total_bytes=60000, window=1000)
         Group(clients, 7, number, spec).start()
 
 
 def entries_of(client, group, start, count, seconds):
-    """Returns at most `count` entries of a node's log of a group from a place on. Waits for them."""
+    """What a node's log of a group has from a place on, at most `count` entries; waits for them."""
     until, found = time.monotonic() + seconds, []
     while len(found) < count and time.monotonic() < until:
         found += client.wait([(7, group, start + len(found))], seconds=0.2).entries
@@ -136,7 +113,7 @@ def entries_of(client, group, start, count, seconds):
 
 
 def note_arrivals(waiter, place, arrivals):
-    """Waits for the entries of a log from a place on, and puts the time at which each came; None if one does not come."""
+    """Waits for the entries of a log from a place on, and puts the time at which each came; None where one does not come."""
     while place < LAST_PLACE:
         entries = waiter.wait([(7, 1, place)], most=1, seconds=LONGEST_WAIT).entries
         arrivals.put(time.monotonic() if entries else None)
@@ -176,12 +153,8 @@ class Floods:
     @contextlib.contextmanager
     def served(self):
         base = self.next_base()
-        words = [self.serve, "--nodes", str(NODES), "--base-port", str(base), "--stop-at-end"]
-        server = Process(self.folder.name, f"serve-{base}", words)
-        try:
+        with Process(self.folder.name, f"serve-{base}", serve_words(self.serve, base, NODES, STOPS)) as server:
             yield base, server
-        finally:
-            server.end()
 
     def bound(self):
         is_loaded = self.load > (os.cpu_count() or 1)
@@ -233,21 +206,17 @@ class Floods:
                     except OSError as error:
                         expect(error.errno == errno.EADDRINUSE, str(error))
                     else:
-                        raise Failed(f"another socket is bound at a node's address, with option {option}")
+                        raise Wrong(f"another socket is bound at a node's address, with option {option}")
 
     def a_node_under_another_key_is_named(self):
         base = self.next_base()
         with contextlib.ExitStack() as stack:
             file = os.path.join(self.folder.name, "cluster.toml")
-            tables = "".join(f'[[node]]\npackets = "127.0.0.1:{base + node}"\nsessions = "127.0.0.1:{base + 64 + node}"\n' for node in range(2))
-            with open(file, "w", encoding="ascii") as cluster:
-                cluster.write(f"run = {int(time.time())}\ntick = 64\n{tables}")
+            write_cluster_file(file, in_a_row(base, 2), run=int(time.time()), tick=64)
             nodes = []
-            for node, key in enumerate((CLUSTER, bytes(32))):
-                words = [self.peer, "--cluster", file, "--node", str(node), "--dir",
-                         os.path.join(self.folder.name, f"dir-{node}"), "--stop-at-end"]
-                nodes.append(Process(self.folder.name, f"peer-{node}", words, key))
-                stack.callback(nodes[-1].end)
+            for node, key in enumerate((CLUSTER_KEY, bytes(32))):
+                words = peer_words(self.peer, file, node, os.path.join(self.folder.name, f"dir-{node}"))
+                nodes.append(stack.enter_context(Process(self.folder.name, f"peer-{node}", words, key)))
             lines = [f"gb_peer: node {node}: node {1 - node} sends packets under another key or run\n" for node in range(2)]
             until = time.monotonic() + 10
             while time.monotonic() < until and not all(line in node.text() for node, line in zip(nodes, lines)):
@@ -261,7 +230,7 @@ class Floods:
             name = trial.__name__.replace("_", " ")
             try:
                 trial()
-            except (Failed, FoqradeshError, OSError, queue.Empty) as error:
+            except (Wrong, FoqradeshError, OSError, queue.Empty) as error:
                 failed += 1
                 print(f"FAILED {name}: {error}", flush=True)
             else:

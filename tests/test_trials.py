@@ -170,6 +170,9 @@ class RunnerTests(unittest.TestCase):
 class TableTests(unittest.TestCase):
     """The trials of the repository."""
 
+    def test_clients(self) -> None:
+        self.assertLessEqual(set(trials.CLIENTS), {trial.name for trial in TRIALS})
+
     def test_rows(self) -> None:
         names = [trial.name for trial in TRIALS]
         self.assertEqual(len(set(names)), len(names))

@@ -1,21 +1,22 @@
 #!/usr/bin/env python3
-"""Runs the commands that people run, each as a trial of its own: the clients, the walks, the pages and the checks of this repository.
+"""Runs what people run, each as a trial of its own: the clients, the walks, the pages and the checks of this repository.
 
     tests/trials.py [--built | --programs DIR] [--only NAME..] [--list] [--jobs N] [--ports FIRST-LAST] [--keep DIR]
 
 The programs are those of bin/, where ./install puts them; with `--programs` those of another folder, and with `--built` those that `rt ci`
-leaves in crates/NAME/out/NAME. `--only` runs the trials of these names, and `--list` prints all names with the purpose of each. Trials run
-side by side, one for each processor, or N of them, and the longest begin first. Those that measure times run last, one by one.
+leaves in crates/NAME/out/NAME. `--only` runs the trials of these names; `clients` stands for all those of the clients and of the door before
+them. `--list` prints all names with what each trial tries. As many run side by side as there are processors, or N, and the longest begin
+first. Those that measure times run last, one by one.
 
-Each trial has a folder and ports of its own, no standard input and a time limit. When it ends, all that it started must have ended too. Its
-output is kept in a folder of `--keep`, or of a new temporary folder, and is printed whole if the trial fails. Each trial is one line:
+Each trial has a folder and ports of its own, no standard input and a time limit. When it ends, what it started must have ended too. Its
+output is kept in a folder of `--keep`, or of a new temporary folder, and is printed whole where the trial fails. Each trial is one line:
 
     passed NAME 12 s
     failed NAME 12 s: WHY
     skipped NAME: WHY        a tool or a program that the trial needs is not there
 
-The parts that a trial leaves out by itself are lines behind its own. The last line is `N passed, M failed`, with `, K skipped` if any are.
-The status is 0 if none failed, 1 if some did, and 2 for wrong words. It needs Python 3.9 and nothing else.
+What a trial leaves out by itself stands in lines behind its own. The last line is `N passed, M failed`, with `, K skipped` if any are. The
+status is 0 if none failed, 1 if some did, and 2 for wrong words. It needs Python 3.9 and nothing else.
 
 A new trial is a row of TRIALS. Its words, and the values of its variables, may name {top}, the checkout; {python}; {port}, the first of 256
 ports; {room}, the trial's folder, which is gone after it; and {gb_sim} and each other program.
@@ -41,16 +42,21 @@ import time
 from typing import Callable, Dict, Iterator, List, Optional, Sequence, Tuple
 
 TOP = os.path.dirname(os.path.dirname(os.path.abspath(__file__)))
+sys.path.insert(0, TOP)
+
+from lab.ports import is_free  # noqa: E402
+from lab.steps import end_by_signals  # noqa: E402
+
 PROGRAMS = ("gb_serve", "gb_peer", "gb_ctl", "gb_web", "gb_sim", "gb_audit")
 
 PORTS = 256
 """The ports of a trial."""
 
 GRACE = 5.0
-"""The seconds after a trial's end within which all that it started has to end."""
+"""Within so many seconds of a trial's end all has to end that it started."""
 
 Need = Callable[[], Optional[str]]
-"""The need of a trial for something that is no program of the repository. It returns why that is not there, or None."""
+"""What a trial needs that is no program of the repository. It returns why that is not there, or None."""
 
 
 @dataclasses.dataclass(frozen=True)
@@ -63,18 +69,18 @@ class Trial:
     programs: Sequence[str] = ()
     needs: Sequence[Need] = ()
     seconds: float = 10.0
-    """The seconds that it takes, about, on a machine that does nothing else. The longest trials begin first."""
+    """About how long it takes on a machine that does nothing else. The longest trials begin first."""
     limit: float = 300.0
-    """The greatest number of seconds that it may take, on a machine that does much else."""
+    """The most seconds that it may take, on a machine that does much else."""
     alone: bool = False
-    """Whether it measures times: then it runs when the others have ended, and nothing runs beside it."""
+    """It measures times: it runs when the others have ended, and nothing else beside it."""
     folder: str = "{room}"
-    """The folder in which it is run."""
+    """Where it is run."""
     variables: Dict[str, str] = dataclasses.field(default_factory=dict)
     bad: str = ""
-    """The pattern that no line of the output may have."""
+    """No line of the output may have this pattern."""
     notes: str = ""
-    """The pattern of lines of the output that are printed behind the trial's line: the parts that it left out."""
+    """Lines of the output with this pattern are printed behind the trial's line: what it left out."""
 
     def has_ports(self) -> bool:
         """Return True if the trial names a port."""
@@ -95,7 +101,7 @@ def mypy_words() -> List[str]:
 
 
 def chromium() -> Optional[str]:
-    """Return the name of a Chromium: the one that CHROMIUM names, or the one that is installed."""
+    """Return the name of a Chromium, as CHROMIUM names it, or as it is installed."""
     names = [os.environ.get("CHROMIUM"), "chromium", "chromium-browser", "google-chrome"]
     return next((name for name in names if name and shutil.which(name)), None)
 
@@ -151,27 +157,27 @@ TRIALS = (
     Trial("client", "gb_serve and the Python package: a chat of three members",
           ("{python}", "{top}/examples/client.py", "walk", "{port}", "{gb_serve}"), programs=["gb_serve"], seconds=3, limit=120),
     Trial("peers", "gb_peer and gb_ctl behind a relay: a node dies, one is cut off, a run follows another",
-          ("{top}/examples/peers.sh", "{port}", "8", "whole"), programs=["gb_peer", "gb_ctl"], seconds=90, limit=500, notes="is left out"),
+          ("{top}/tests/peers.sh", "{port}", "8", "whole"), programs=["gb_peer", "gb_ctl"], seconds=90, limit=500, notes="is left out"),
     Trial("peers-lossy", "the same where the relay loses, repeats and reorders",
-          ("{top}/examples/peers.sh", "{port}", "8", "lossy"), programs=["gb_peer", "gb_ctl"], seconds=90, limit=500),
+          ("{top}/tests/peers.sh", "{port}", "8", "lossy"), programs=["gb_peer", "gb_ctl"], seconds=90, limit=500),
     Trial("records", "gb_peer with --record, one killed, audited by gb_audit, and records that were changed",
-          ("{top}/examples/records.sh", "{port}"), programs=["gb_peer", "gb_ctl", "gb_audit"], seconds=90, limit=500),
+          ("{top}/tests/records.sh", "{port}"), programs=["gb_peer", "gb_ctl", "gb_audit"], seconds=90, limit=500),
     Trial("schedules", "the schedules of examples/ by gb_sim, their answers, and each of its statuses",
-          ("{top}/examples/check.sh", "{gb_sim}"), programs=["gb_sim"], seconds=10),
+          ("{top}/tests/check.sh", "{gb_sim}"), programs=["gb_sim"], seconds=10),
     Trial("rooms", "300 random schedules of rooms, by gb_sim and by a slow reference",
-          ("{python}", "{top}/bench/rooms.py"), programs=["gb_sim"], seconds=40),
+          ("{python}", "{top}/tests/rooms.py"), programs=["gb_sim"], seconds=40),
     Trial("delivery", "the laws of delivery in 200 random runs, by gb_sim and by a slow reference",
-          ("{python}", "{top}/bench/delivery.py"), programs=["gb_sim"], seconds=40),
-    Trial("vectors", "the packets of docs/FORMATS.md, written anew", ("{python}", "{top}/bench/vectors.py", "--check"), seconds=1, limit=60),
-    Trial("vectors-read", "the same packets, read by gb_sim", ("{python}", "{top}/bench/vectors.py", "--ask", "{gb_sim}"),
+          ("{python}", "{top}/tests/delivery.py"), programs=["gb_sim"], seconds=40),
+    Trial("vectors", "the packets of docs/FORMATS.md, written anew", ("{python}", "{top}/tests/vectors.py", "--check"), seconds=1, limit=60),
+    Trial("vectors-read", "the same packets, read by gb_sim", ("{python}", "{top}/tests/vectors.py", "--ask", "{gb_sim}"),
           programs=["gb_sim"], seconds=1, limit=60),
     Trial("manifests", "the cluster files that examples/kubernetes and examples/nomad write, read by gb_peer",
           ("{python}", "{top}/tests/manifests.py", "{gb_peer}", "{port}"), programs=["gb_peer"], seconds=2, limit=120),
-    Trial("misuse", "a misuse that must not compile", ("{top}/examples/misuse.sh",), needs=[command("rt")], seconds=60, limit=600),
-    Trial("relay", "the relay of peers.sh alone", ("{python}", "{top}/examples/test_relay.py", "-v"), seconds=15, limit=120),
+    Trial("misuse", "a misuse that must not compile", ("{top}/tests/misuse.sh",), needs=[command("rt")], seconds=60, limit=600),
+    Trial("relay", "the relay of peers.sh alone", ("{python}", "{top}/tests/test_relay.py", "-v"), seconds=15, limit=120),
     Trial("doors", "gb_web before gb_serve, beside clients that are slow, silent or wrong",
-          ("{python}", "{top}/bench/doors.py", "--port", "{port}"), programs=["gb_serve", "gb_web"], seconds=10),
-    Trial("page", "the chat page in headless Chromium", ("{python}", "{top}/examples/chat/test_chat.py", "--port", "{port}"),
+          ("{python}", "{top}/tests/doors.py", "--port", "{port}"), programs=["gb_serve", "gb_web"], seconds=10),
+    Trial("page", "the chat page in headless Chromium", ("{python}", "{top}/tests/test_chat.py", "--port", "{port}"),
           programs=["gb_serve", "gb_web"], needs=[has_chromium], seconds=30, variables={"CHROMIUM": chromium() or "chromium"}),
     Trial("attacks", "gb_serve and gb_peer attacked by clients and machines without a token: what it costs others",
           ("{python}", "{top}/tests/attacks.py", "--serve", "{gb_serve}", "--peer", "{gb_peer}", "--base-port", "{port}"), programs=["gb_serve", "gb_peer"],
@@ -190,26 +196,30 @@ TRIALS = (
           needs=[command("npm"), has_node], seconds=10, variables=SERVED, bad="# SKIP"),
     Trial("javascript-types", "the types of the JavaScript client, by tsc", ("tsc", "-p", "{top}/clients/js"), needs=[command("tsc")],
           seconds=10),
-    Trial("readme", "the Python of README.md, against gb_serve", ("{python}", "{top}/tools/readme.py", "{gb_serve}", "{port}"),
+    Trial("readme", "the Python of README.md, against gb_serve", ("{python}", "{top}/tests/readme.py", "{gb_serve}", "{port}"),
           programs=["gb_serve"], seconds=3, limit=120),
     Trial("tutorial", "docs/TUTORIAL.md: each of its commands, and what it prints", ("{python}", "{top}/tests/tutorial.py", "{port}"),
           programs=["gb_peer", "gb_ctl", "gb_audit", "gb_sim"], seconds=25),
     Trial("package", "the Python package installed by pip in an environment of its own, without an index", ("sh", "-ec", INSTALLED),
           needs=[has_environments], seconds=20),
     Trial("trials", "this runner", ("{python}", "{top}/tests/test_trials.py", "-v"), seconds=10, limit=120),
+    Trial("lab", "what the scripts share, and the list of measures", ("{python}", "{top}/tests/test_lab.py", "-v"), seconds=3, limit=120),
 )
+
+CLIENTS = ("python", "python-served", "python-rooms", "python-asyncio", "python-types", "package", "client", "notifications", "replicated-map",
+           "doors", "page")
+"""The trials that `--only clients` runs."""
 
 
 class Ports:
-    """Rows of ports, each for one trial at a time. A row's last port is held meanwhile, so another runner on this machine takes another
-    row."""
+    """Rows of ports, each for one trial at a time. A row's last port is held meanwhile, so another runner on this machine takes another row."""
 
     def __init__(self, first: int, last: int) -> None:
         self._rows = range(first, last + 2 - PORTS, PORTS)
         self._lock = threading.Lock()
 
     def take(self) -> Tuple[int, socket.socket]:
-        """Return the first port of a row that is free, and the socket that holds the row. If none is free, wait for one."""
+        """Return the first port of a row that is free, and the socket that holds the row. Where none is free, one is waited for."""
         for _ in range(120):
             with self._lock:
                 for first in self._rows:
@@ -227,19 +237,6 @@ class Ports:
         raise RuntimeError(f"no {PORTS} ports in a row are free: --ports names others")
 
 
-def is_free(port: int) -> bool:
-    """Return True if a port can be bound, for packets and for connections."""
-    for kind in (socket.SOCK_DGRAM, socket.SOCK_STREAM):
-        with socket.socket(socket.AF_INET, kind) as probe:
-            if kind == socket.SOCK_STREAM:
-                probe.setsockopt(socket.SOL_SOCKET, socket.SO_REUSEADDR, 1)
-            try:
-                probe.bind(("127.0.0.1", port))
-            except OSError:
-                return False
-    return True
-
-
 def stat_of(process: int) -> Tuple[int, str]:
     """Return the parent of a process and its state. OSError if there is none."""
     with open(f"/proc/{process}/stat", encoding="utf-8", errors="replace") as file:
@@ -248,7 +245,7 @@ def stat_of(process: int) -> Tuple[int, str]:
 
 
 def descendants(process: int) -> List[int]:
-    """Return the processes that a process started, and that these started, without those that have ended."""
+    """Return the processes that a process started, and that these started, but for those that have ended."""
     parents: Dict[int, int] = {}
     for entry in filter(str.isdecimal, os.listdir("/proc")):
         try:
@@ -280,9 +277,9 @@ def adopt() -> None:
 
 
 def within(limit: float, words: Sequence[str]) -> int:
-    """Run a command as a trial: in a process of its own, which is the parent of all processes that the command leaves.
+    """Run a command as a trial: a process of its own for this, which is the parent of all that the command leaves.
 
-    Returns the command's status; 124 if it takes too long, and 125 if something that it started still runs after it.
+    Returns the command's status. 124 where it takes too long, and 125 where something that it started still runs after it.
     """
     adopt()
     try:
@@ -356,7 +353,7 @@ class Runner:
         return next((why for why in (need() for need in trial.needs) if why), None)
 
     def environment(self, room: str) -> Dict[str, str]:
-        """Return the variables of a trial: the names of the programs that each script uses, and the folder of its temporary files."""
+        """Return the variables of a trial: each script's names of the programs, and the folder of its temporary files."""
         kept = {name: value for name, value in os.environ.items() if not name.startswith("GB_")}
         for name, path in self.programs.items():
             kept[name.upper()] = kept[name.upper()[3:]] = path
@@ -458,7 +455,7 @@ class Runner:
             raise
 
     def end(self) -> None:
-        """End the trials that run, and begin no other one."""
+        """End the trials that run, and begin no other."""
         with self._lock:
             self._is_over = True
             for process in self._running:
@@ -483,11 +480,6 @@ def paths_of(is_built: bool, folder: Optional[str]) -> Dict[str, str]:
     return {name: os.path.join(os.path.abspath(folder or os.path.join(TOP, "bin")), name) for name in PROGRAMS}
 
 
-def end_by_signal(number: int, _: object) -> None:
-    """End as by an error, so that all processes end too."""
-    raise SystemExit(128 + number)
-
-
 def read_ports(word: str) -> Ports:
     """Return the ports that a word FIRST-LAST names."""
     first, _, last = word.partition("-")
@@ -496,14 +488,19 @@ def read_ports(word: str) -> Ports:
     return Ports(int(first), int(last))
 
 
+def names_of(trials: Sequence[Trial]) -> List[str]:
+    """Return the names of trials."""
+    return [trial.name for trial in trials]
+
+
 def read_words(trials: Sequence[Trial]) -> argparse.Namespace:
-    """Return the words of the command line."""
-    names = [trial.name for trial in trials]
+    """Return what the command line says."""
+    names = names_of(trials)
     parser = argparse.ArgumentParser(description=__doc__, formatter_class=argparse.RawDescriptionHelpFormatter)
     where = parser.add_mutually_exclusive_group()
     where.add_argument("--programs", metavar="DIR", help="the folder of the programs")
     where.add_argument("--built", action="store_true", help="the programs that `rt ci` built")
-    parser.add_argument("--only", nargs="+", metavar="NAME", choices=names, help="the trials to run")
+    parser.add_argument("--only", nargs="+", metavar="NAME", choices=[*names, "clients"], help="the trials to run")
     parser.add_argument("--list", action="store_true", help="print the trials")
     parser.add_argument("--jobs", type=int, default=len(os.sched_getaffinity(0)), metavar="N", help="how many trials run side by side")
     parser.add_argument("--ports", type=read_ports, default=Ports(12_000, 19_999), metavar="FIRST-LAST", help="12000-19999 if not given")
@@ -513,8 +510,7 @@ def read_words(trials: Sequence[Trial]) -> argparse.Namespace:
 
 def main(trials: Sequence[Trial] = TRIALS) -> int:
     """Return the status."""
-    for number in (signal.SIGTERM, signal.SIGHUP):
-        signal.signal(number, end_by_signal)
+    end_by_signals()
     if sys.argv[1:2] == ["--within"]:
         return within(float(sys.argv[2]), sys.argv[3:])
     words = read_words(trials)
@@ -527,7 +523,8 @@ def main(trials: Sequence[Trial] = TRIALS) -> int:
     os.makedirs(keep, exist_ok=True)
     print(f"outputs are kept in {keep}", flush=True)
     runner = Runner(paths_of(words.built, words.programs), words.ports, keep)
-    runner.run_all([trial for trial in trials if not words.only or trial.name in words.only], max(1, words.jobs))
+    only = {name for word in words.only or names_of(trials) for name in (CLIENTS if word == "clients" else [word])}
+    runner.run_all([trial for trial in trials if trial.name in only], max(1, words.jobs))
     return runner.summary()
 
 

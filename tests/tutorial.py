@@ -22,6 +22,9 @@ import threading
 import time
 
 TOP = os.path.dirname(os.path.dirname(os.path.abspath(__file__)))
+sys.path.insert(0, TOP)
+from lab.programs import program  # noqa: E402
+
 PAGE = os.path.join(TOP, "docs", "TUTORIAL.md")
 PROGRAMS = ("gb_peer", "gb_ctl", "gb_audit", "gb_sim")
 PORT = 42000
@@ -35,8 +38,7 @@ def put_programs(folder):
     """Put the programs into bin/ of a folder, as the page expects them."""
     os.mkdir(os.path.join(folder, "bin"))
     for name in PROGRAMS:
-        path = os.environ.get(name.upper()) or os.path.join(TOP, "bin", name)
-        os.symlink(os.path.abspath(path), os.path.join(folder, "bin", name))
+        os.symlink(program(name), os.path.join(folder, "bin", name))
 
 
 def commands(text):

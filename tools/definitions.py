@@ -5,9 +5,9 @@
     tools/definitions.py --write    writes the page
     tools/definitions.py --lacking  prints the definitions that have no comment line of their own
 
-A definition is on the page if the contract of a public function cites it, or if a reader of the theorem has to believe it
-(bench/believed.py). Its sentence is the comment above it. docs/definitions.txt has the introduction of the page, notes on crates, and the
-sentences of those that have no comment: the lines `CRATE File NAME: sentence`."""
+A definition stands on the page if the contract of a public function cites it, or if a reader of the theorem has to believe it
+(tools/believed.py). Its sentence is the comment above it. docs/definitions.txt has the introduction of the page, notes on crates, and
+the sentences of those that have no comment: the lines `CRATE File NAME: sentence`."""
 import os
 import re
 import subprocess
@@ -19,7 +19,7 @@ PAGE = os.path.join(TOP, "docs", "DEFINITIONS.md")
 SIDE = os.path.join(TOP, "docs", "definitions.txt")
 USE = re.compile(r"^(?:unfoldable )?(?:pub )?(?:ghost )?use Rattle\.(gb_\w+)\.specs\.([\w.]+?)\.\{(.*)\};?$")
 HEAD = re.compile(r"(?:unfoldable |abbrev |pub |record |data )+(\S+)")
-# The number of functions that are named behind a definition.
+# How many functions are named behind a definition.
 MOST = 3
 
 
@@ -60,7 +60,7 @@ def parts(words):
 
 
 class Specs:
-    """All files of specs/: their sentences, their definitions, and the names that they pass on."""
+    """All files of specs/: their sentences, their definitions, and what they pass on."""
 
     def __init__(self, crates):
         self.sentences, self.found, self.passed = {}, {}, {}
@@ -129,7 +129,7 @@ def note_citations(specs, crates):
 
 def note_believed(specs):
     """Notes which definitions a reader of the theorem has to believe."""
-    told = subprocess.run([sys.executable, os.path.join(TOP, "bench", "believed.py"), "--list"], capture_output=True, text=True, check=True).stdout
+    told = subprocess.run([sys.executable, os.path.join(TOP, "tools", "believed.py"), "--list"], capture_output=True, text=True, check=True).stdout
     for crate, file, names in re.findall(r"^crates/(gb_\w+)/specs/(\S+)\.antt: \d+ lines: (.*)$", told, re.M):
         for name in names.split(", "):
             found = specs.named((crate, file.replace("/", "."), name))
@@ -156,8 +156,7 @@ def side():
 
 
 def carriers(definition):
-    """Returns the functions whose contracts prove something with a definition: those whose `ensures` cites it, the ones of its crate
-    first."""
+    """Returns the functions that say what is proved with a definition: those whose `ensures` cites it, the ones of its crate first."""
     promised = [where for where, clauses in definition.cited.items() if "ensures" in clauses]
     where = sorted(promised or definition.cited, key=lambda it: it[0] != definition.crate)
     named = [f"`{name}`" if crate == definition.crate else f"`{name}` of {crate}" for crate, name in where[:MOST]]
