@@ -111,7 +111,7 @@ const REFUSAL_TEXTS = new Map(REFUSALS.map((made) => [`refused ${made.number} ${
 /**
  * A request got no answer that could be read. `isUnknown` is true if it may have been done, and false if it was certainly not sent whole. `said`
  * is the number that a say came with, or null: with it the say may be repeated, and is done once at most. `generation` is the
- * generation in which a `Room` said it.
+ * generation in which a `Room` said it. `node` is the node that a `Room` asked, or for whose messages it waited.
  */
 export class UnansweredError extends FoqradeshError {
   /**
@@ -126,6 +126,8 @@ export class UnansweredError extends FoqradeshError {
     this.said = null;
     /** @type {number | null} */
     this.generation = null;
+    /** @type {number | null} */
+    this.node = null;
   }
 }
 /** There is no connection, or it ended before the reply. */
@@ -810,6 +812,13 @@ class Numbers {
 }
 
 /**
+ * Returns the least whole number of milliseconds that is no shorter than these seconds: a wait that is cut down ends before its time, and its caller asks
+ * again for no wait at all. Millionths of a millisecond are the fault of binary fractions, and do not count.
+ * @param {number} seconds
+ */
+const milliseconds = (seconds) => Math.ceil(Number((seconds * 1000).toFixed(6)));
+
+/**
  * @param {number} tenant
  * @param {GroupName} group
  */
@@ -1111,7 +1120,7 @@ export class Session {
       const token = await this.#token("member", tenant, checkGroup(group).group);
       words.push(`${token} ${addressOf(tenant, group)} ${checkNumber(place, U32, "a place")} ${checkNumber(most, U32, "the most entries")}`);
     }
-    words.push(String(Math.floor(seconds * 1000)));
+    words.push(String(milliseconds(seconds)));
     const link = this.#idle.pop() ?? this.#newLink();
     this.#busy.add(link);
     try {
@@ -1281,11 +1290,48 @@ class Nodes {
 
   /** @param {number} generation */
   name = (generation) => ({ group: this.number, generation });
-  own = () => this.at(this.node);
+  /** @param {number} generation */
+  text = (generation) => `generation ${generation} of group ${this.number} of tenant ${this.tenant}`;
   /** @param {number} node */
   at = (node) => /** @type {Session} */ (this.sessions.get(node));
+
+  /**
+   * Asks a node. An error without an answer gets its number.
+   * @template T
+   * @param {number} node
+   * @param {(session: Session) => Promise<T>} act
+   * @returns {Promise<T>}
+   */
+  async ask(node, act) {
+    try {
+      return await act(this.at(node));
+    } catch (error) {
+      if (error instanceof UnansweredError) error.node ??= node;
+      throw error;
+    }
+  }
+
+  /**
+   * Returns the node whose member says what this room says in a generation.
+   * @param {number} generation
+   */
+  speaker(generation) {
+    return this.node;
+  }
+
   running = () => this.spec.members.filter((member) => !this.absent.has(member));
   others = () => this.running().filter((member) => member !== this.node && this.sessions.has(member));
+
+  /**
+   * Waits at a node until one of the logs has entries behind its place, at most these seconds.
+   * @param {number} node
+   * @param {{ generation: number, place: number }[]} logs
+   * @param {number} seconds
+   */
+  wait(node, logs, seconds) {
+    const places = logs.map(({ generation, place }) => ({ tenant: this.tenant, group: this.name(generation), place }));
+    return this.ask(node, (it) => it.wait(places, { seconds }));
+  }
 
   /**
    * Returns true if a generation lives at a node, false if it can be made there no more, and null if it may be made still.
@@ -1294,7 +1340,7 @@ class Nodes {
    */
   async look(node, generation) {
     try {
-      await this.at(node).fetch(this.tenant, this.name(generation), 0, 0);
+      await this.ask(node, (it) => it.fetch(this.tenant, this.name(generation), 0, 0));
     } catch (error) {
       if (error instanceof SpentError) return false;
       if (error instanceof NoGroupError) return null;
@@ -1337,8 +1383,23 @@ class Nodes {
   }
 
   /**
+   * Returns the generations above `known` that live here, up to one that was started here. `known` was the greatest here before other nodes were asked which is
+   * the newest: others may have made more of them here meanwhile, and can make none below the one that was started.
+   * @param {number} known
+   * @param {number} started
+   */
+  async between(known, started) {
+    /** @type {number[]} */
+    const living = [];
+    for (let generation = Math.max(known + 1, started - LOOKED_AT); generation < started; generation += 1) {
+      if (await this.look(this.node, generation)) living.push(generation);
+    }
+    return [...living, started];
+  }
+
+  /**
    * Returns the generation to be in, where `known` is the greatest that this node has made. It is the greatest that any node has made; the next one, if something
-   * was said in that and this node has missed it. A node that cannot be asked is passed over.
+   * was said in that and this node has missed it. That is not so where it was made here while the others were asked. A node that cannot be asked is passed over.
    * @param {number} known
    */
   async newest(known) {
@@ -1352,7 +1413,7 @@ class Nodes {
         if (!isOne(error, UnansweredError, MissingTokenError, DeniedError)) throw error;
       }
     }
-    return isMissed ? newest + 1 : newest;
+    return isMissed && !(await this.look(this.node, newest)) ? newest + 1 : newest;
   }
 
   /**
@@ -1362,7 +1423,7 @@ class Nodes {
    */
   async #isUsed(node, generation) {
     try {
-      await this.at(node).fetch(this.tenant, this.name(generation), 1, 0);
+      await this.ask(node, (it) => it.fetch(this.tenant, this.name(generation), 1, 0));
     } catch (error) {
       if (isOne(error, BadPlaceError, NoGroupError)) return false;
       if (!(error instanceof SpentError)) throw error;
@@ -1380,7 +1441,10 @@ class Nodes {
     if (generation > LAST_GENERATION) throw new SpentError(`refused 3 Spent: group ${this.number} of tenant ${this.tenant} is used up`);
     if (this.isGuest) return this.#await(generation, end);
     for (const node of this.running()) {
-      await persist(() => this.at(node).make(this.tenant, this.name(generation), this.spec), end).catch((error) => {
+      const make = () => this.ask(node, (it) => it.make(this.tenant, this.name(generation), this.spec));
+      await persist(make, end).catch((error) => {
+        const where = `${this.text(generation)} at node ${node}, where ${LIVING} live that its readers have not done with`;
+        if (error instanceof NoRoomError) throw new NoRoomError(`${error.message}: ${where}`);
         if (!(error instanceof SpentError)) throw error;
       });
     }
@@ -1396,7 +1460,8 @@ class Nodes {
    * @param {number} end
    */
   async #open(node, generation, end) {
-    await persist(() => this.at(node).open(this.tenant, this.name(generation)), end).catch((error) => {
+    const open = () => this.ask(node, (it) => it.open(this.tenant, this.name(generation)));
+    await persist(open, end).catch((error) => {
       if (!isOne(error, WrongPhaseError, SpentError)) throw error;
     });
   }
@@ -1407,30 +1472,41 @@ class Nodes {
    */
   async #await(generation, end) {
     for (const next = tries(); !(await this.look(this.node, generation)); ) {
-      if (now() >= end) throw new NoGroupError(`refused 2 NoGroup: nobody has made generation ${generation} of group ${this.number} yet`);
+      if (now() >= end) throw new NoGroupError(`refused 2 NoGroup: nobody has made ${this.text(generation)} yet`);
       await sleep(next());
     }
   }
 
   /**
-   * Says this member's marker in a generation, if none is known to stand there. A second one does no harm.
+   * Says the marker of the member that speaks in a generation, if none is known to stand there. A second one does no harm.
    * @param {number} generation
    * @param {number} end
    */
   async mark(generation, end) {
     if (this.marked.has(generation)) return;
-    const say = () => persist(() => this.own().say(this.tenant, this.name(generation), MARKER), end);
+    await this.sayLast(this.speaker(generation), generation, MARKER, end);
+    this.noteMarked(generation);
+  }
+
+  /**
+   * Says a message for the member of a node that may be said twice, if it may say one more. What may pass is tried again until the time is over.
+   * @param {number} node
+   * @param {number} generation
+   * @param {Uint8Array} message
+   * @param {number} end
+   */
+  async sayLast(node, generation, message, end) {
+    const say = () => persist(() => this.ask(node, (it) => it.say(this.tenant, this.name(generation), message)), end);
     try {
       await say().catch(async (error) => {
         if (!(error instanceof WrongPhaseError) || this.isGuest) throw error;
-        await this.#open(this.node, generation, end);
+        await this.#open(node, generation, end);
         await say();
       });
     } catch (error) {
       if (!isOne(error, BudgetError, BytesError, SpentError)) throw error;
     }
-    this.own().forgetNumber(this.tenant, this.name(generation));
-    this.noteMarked(generation);
+    this.at(node).forgetNumber(this.tenant, this.name(generation));
   }
 
   /** @param {number} generation */
@@ -1523,8 +1599,9 @@ class Speaker {
     const newest = await this.nodes.newest(greatest);
     if (newest > greatest || living.at(-1) !== greatest) {
       const target = newest > greatest ? newest : greatest + 1;
+      for (const generation of living) await this.nodes.mark(generation, end); // There may be no room for the next one until these are read.
       await this.nodes.start(target, end);
-      living.push(target);
+      living.push(...(await this.nodes.between(greatest, target)));
     } else if (!(await this.#isStarted(greatest, end, living.length > 1))) living.pop();
     for (const generation of living.slice(0, -1)) await this.nodes.mark(generation, end);
     this.speech = new Speech(/** @type {number} */ (living.at(-1)));
@@ -1635,8 +1712,8 @@ class Speaker {
       if (error instanceof BadPlaceError) await this.#learn(speech, end);
       else if (isOne(error, BudgetError, BytesError)) speech.isFull = true;
       else if (error instanceof WrongPhaseError && !speech.wasOpened && !this.nodes.isGuest) {
-        speech.wasOpened = true;
         await this.nodes.start(speech.generation, end);
+        speech.wasOpened = true;
       } else throw error;
       return null;
     }
@@ -1655,7 +1732,7 @@ class Speaker {
     let until = -Infinity;
     this.doubt = { generation, until: Infinity };
     try {
-      return await nodes.own().say(nodes.tenant, nodes.name(generation), message, { number, isRepeated });
+      return await nodes.ask(nodes.speaker(generation), (it) => it.say(nodes.tenant, nodes.name(generation), message, { number, isRepeated }));
     } catch (error) {
       if (error instanceof UnansweredError && (isRepeated || error.isUnknown)) {
         error.generation = generation;
@@ -1676,13 +1753,14 @@ class Speaker {
     const nodes = this.nodes;
     for (const number = speech.next; speech.next === number; ) {
       const seconds = Math.min(Math.max(0, end - now()), FOLLOW_WAIT);
-      const { entries } = await nodes.own().wait([{ tenant: nodes.tenant, group: nodes.name(speech.generation), place: speech.place }], { seconds });
+      const { entries } = await nodes.wait(nodes.node, [speech], seconds);
       for (const entry of entries) {
         speech.place += 1;
         if (entry.origin === nodes.node) speech.found(entry);
       }
       if (entries.length === 0 && now() >= end && speech.next === number) {
-        throw new BadPlaceError(`refused 11 BadPlace: another client of the member has said message ${number} of generation ${speech.generation}, and it is not delivered yet`);
+        const what = `message ${number} of ${nodes.text(speech.generation)}, and it is not delivered yet`;
+        throw new BadPlaceError(`refused 11 BadPlace: another client of the member has said ${what}`);
       }
     }
     if (speech.hasMarker) {
@@ -1828,9 +1906,8 @@ class Reader {
     else if (!(await this.#extends())) most = Math.min(most, AGAIN);
     const reads = this.lowestFirst().filter((log) => !log.isGone).map((log) => ({ log, place: log.place }));
     if (reads.length === 0) return void (await sleep(Math.min(most, /** @type {number} */ (TRIES.at(-1)))));
-    const places = reads.map(({ log, place }) => ({ tenant: nodes.tenant, group: nodes.name(log.generation), place }));
     try {
-      const found = await abortable(nodes.own().wait(places, { seconds: most }), signal);
+      const found = await abortable(nodes.wait(nodes.node, reads.map(({ log }) => log), most), signal);
       if (found !== undefined && reads[found.index].log.place === reads[found.index].place) {
         this.#take(reads[found.index].log, found.entries);
         this.hasTaken = found.entries.length > 0;
@@ -1872,7 +1949,7 @@ class Reader {
         if (mayPass(error) || (nodes.isGuest && error instanceof NoGroupError)) return;
         throw error;
       }
-      further.push(target);
+      further.push(...(await nodes.between(Math.max(greatest, this.last), target)));
     }
     further.forEach((generation) => this.#add(generation));
   }
@@ -1892,7 +1969,8 @@ class Reader {
   async #passOver() {
     for (const log of this.lowestFirst()) {
       const isLiving = await this.nodes.look(this.nodes.node, log.generation);
-      if (isLiving === null) throw new NoGroupError(`refused 2 NoGroup: generation ${log.generation} was read at node ${this.nodes.node}, whose server was started anew since`);
+      const what = `${this.nodes.text(log.generation)} was read at node ${this.nodes.node}, whose server was started anew since`;
+      if (isLiving === null) throw new NoGroupError(`refused 2 NoGroup: ${what}`);
       log.isGone ||= !isLiving;
     }
   }
@@ -1990,7 +2068,7 @@ class Reader {
     const name = nodes.name(ended.generation);
     for (const node of nodes.others().filter((it) => !ended.have.has(it))) {
       try {
-        await nodes.at(node).fetch(nodes.tenant, name, ended.needed, 0);
+        await nodes.ask(node, (it) => it.fetch(nodes.tenant, name, ended.needed, 0));
       } catch (error) {
         if (error instanceof BadPlaceError) return false;
         if (isOne(error, MissingTokenError, DeniedError)) {
@@ -1999,9 +2077,11 @@ class Reader {
       }
       ended.have.add(node);
     }
-    await nodes.own().drop(nodes.tenant, name).catch((error) => {
+    try {
+      await nodes.ask(nodes.node, (it) => it.drop(nodes.tenant, name));
+    } catch (error) {
       if (!isOne(error, SpentError, NoGroupError)) throw error;
-    });
+    }
     return true;
   }
 }
@@ -2026,6 +2106,10 @@ export class Room {
    */
   constructor(sessions, tenant, number, spec, { node, patience = 30, isGuest = false }) {
     const held = sessions instanceof Map ? sessions : new Map(Object.entries(sessions).map(([name, session]) => [Number(name), session]));
+    this.tenant = tenant;
+    this.number = number;
+    this.spec = spec;
+    this.node = node;
     this.#nodes = new Nodes(held, tenant, number, spec, node, isGuest);
     this.#speaker = new Speaker(this.#nodes, patience);
     this.#reader = new Reader(this.#nodes, this.#speaker);
