@@ -2227,6 +2227,11 @@ class LedNodes extends Nodes {
       throw new RangeError(`with a leader a generation has room for the ends, a message and a marker: 3 messages, ${2 * LONGEST_ENDS} bytes`);
     }
     this.leader = leader;
+    /**
+     * How many messages count in the latest generations whose end is known here; null: all up to the marker.
+     * @type {Map<number, number | null>}
+     */
+    this.ends = new Map();
   }
 
   /**
@@ -2239,14 +2244,38 @@ class LedNodes extends Nodes {
   }
 
   /**
-   * Notes that the leaders have crashed whose generations this member has sealed here. So it is enough that one room was told.
-   * @param {LedLog[]} logs
+   * Notes what the logs at this member's node tell. A generation that is missing between them is there no more.
+   * @param {LedLog[]} logs lowest first
    */
-  noteSeals(logs) {
-    for (const log of logs) {
-      const leader = this.speaker(log.generation);
-      if (log.sealed !== null && leader !== this.node) this.absent.add(leader);
+  judge(logs) {
+    for (const { generation, sealed } of logs) {
+      // This member has sealed it here, so its leader has crashed: it is enough that one room was told.
+      if (sealed !== null && this.speaker(generation) !== this.node) this.absent.add(this.speaker(generation));
     }
+    for (let place = logs.length - 1; place >= 0; place -= 1) this.#decide(logs[place], logs.slice(place + 1));
+  }
+
+  /**
+   * Notes how many messages count in a generation. The first message of the next one in which something counts tells of all those before it that no other one
+   * tells of. Where it says nothing of one, that one ends with its marker. Where nothing tells any more how a sealed one ends, it is passed over.
+   * @param {LedLog} log
+   * @param {LedLog[]} laters
+   */
+  #decide(log, laters) {
+    let next = log.generation;
+    for (const later of this.ends.has(log.generation) ? [] : laters) {
+      next += 1;
+      const isMissing = later.generation !== next;
+      const first = isMissing ? null : later.first();
+      if (first !== null) this.ends.set(log.generation, readEnds(first).get(log.generation) ?? null);
+      else if (isMissing || later.isGone) log.isGone ||= log.sealed !== null;
+      else if (later.isOver()) continue;
+      break;
+    }
+    const end = this.ends.get(log.generation);
+    if (end === undefined) return;
+    log.decide(end);
+    for (const old of [...this.ends.keys()]) if (old <= log.generation - LOOKED_AT) this.ends.delete(old);
   }
 
   /**
@@ -2348,24 +2377,6 @@ class LedLog extends ReadLog {
   }
 }
 
-/**
- * Notes the ends that the first messages of generations tell. The first message of the next generation in which something counts tells of all those before it
- * that no other one tells of. Where it says nothing of one, that one ends with its marker.
- * @param {LedLog[]} logs lowest first
- */
-function decide(logs) {
-  for (let place = logs.length - 2; place >= 0; place -= 1) {
-    const log = logs[place];
-    for (const later of logs.slice(place + 1)) {
-      const first = later.first();
-      if (first !== null) log.decide(readEnds(first).get(log.generation) ?? null);
-      else if (later.isGone) log.isGone ||= log.sealed !== null;
-      else if (later.isOver()) continue;
-      break;
-    }
-  }
-}
-
 /** What is read at a member's node of a room with a leader: one line of messages. */
 class LedReader extends Reader {
   /**
@@ -2400,8 +2411,7 @@ class LedReader extends Reader {
 
   showAll() {
     const logs = /** @type {LedLog[]} */ (this.lowestFirst());
-    this.led.noteSeals(logs);
-    decide(logs);
+    this.led.judge(logs);
     for (const log of logs) {
       this.ready.push(...log.fresh());
       if (!log.isOver()) return;
@@ -2556,8 +2566,7 @@ class LedSpeaker extends Speaker {
         if (isLiving === null) this.logs.delete(log.generation);
       }
     }
-    led.noteSeals(this.#lowestFirst());
-    decide(this.#lowestFirst());
+    led.judge(this.#lowestFirst());
     return true;
   }
 
@@ -2566,10 +2575,15 @@ class LedSpeaker extends Speaker {
     while (await this.#read(now()));
   }
 
-  /** Reads the next generation too, once the members go on to it. */
+  /** Reads the next generation too, once the members go on to it, and those between that live. */
   async #extend() {
     const newest = this.#lowestFirst().at(-1);
-    if (newest === undefined || newest.generation === LAST_GENERATION || !newest.isLeft()) return;
+    if (newest === undefined) return;
+    for (let { generation } = this.#lowestFirst()[0]; generation < newest.generation; generation += 1) {
+      const isNeeded = this.logs.get(generation)?.isOver() === false && !this.logs.has(generation + 1);
+      if (isNeeded && (await this.led.look(this.led.node, generation + 1))) this.#log(generation + 1);
+    }
+    if (newest.generation === LAST_GENERATION || !newest.isLeft()) return;
     const isLiving = await this.led.look(this.led.node, newest.generation + 1);
     if (isLiving) this.#log(newest.generation + 1);
     else if (isLiving === false) (await this.led.found()).living.filter((it) => it > newest.generation).forEach((it) => this.#log(it));
@@ -2615,8 +2629,8 @@ class LedSpeaker extends Speaker {
   }
 
   /**
-   * Closes the generations before one, and returns how many messages count in those sealed. It goes down to one whose first message tells of those before it. It
-   * ends early if somebody else has said the first message of this generation.
+   * Closes the generations before one, and returns how many messages count in those sealed. It goes down to one whose first message tells of those before it, or
+   * that was dropped here, since its end and theirs were known then. It ends early if somebody else has said the first message of this generation.
    * @param {number} generation
    * @param {number} end
    */
@@ -2625,10 +2639,11 @@ class LedSpeaker extends Speaker {
     /** @type {Map<number, number>} */
     const ends = new Map();
     for (let lower = generation - 1; lower >= Math.max(0, generation - LIVING); lower -= 1) {
-      if (!(await led.look(led.node, lower))) continue;
+      if (!(await led.look(led.node, lower))) return ends;
       const log = this.#log(lower);
       while (!log.isOver() && !this.#hasFirst(generation)) {
         await this.close(lower, end);
+        if (log.isOver()) break;
         const cut = this.#isCut(lower) ? await this.#cut(lower, end) : null;
         if (cut !== null) {
           ends.set(lower, cut.length);

@@ -2,7 +2,7 @@
 import assert from "node:assert/strict";
 import { test } from "node:test";
 import { Cluster, drawing, plan, sleep } from "./cluster.js";
-import { BadPlaceError, BytesError, MissingTokenError, NoRoomError, Room, TimedOutError, TooLongError, UnansweredError, UnknownOutcomeError, textOf } from "../foqradesh.js";
+import { BadPlaceError, BytesError, MissingTokenError, NoRoomError, Room, SpentError, TimedOutError, TooLongError, UnansweredError, UnknownOutcomeError, textOf } from "../foqradesh.js";
 
 const ALL = [0, 1, 2];
 const SPEC = { kind: "fallack", members: ALL, messages: 8, totalBytes: 4_096, window: 8 };
@@ -77,10 +77,11 @@ test("what two members say by turns is read in one order over many generations",
   }
 });
 
-test("what all say at once is read in one order, and each member's in its own", async () => {
+test("what all say at once is read in one order, and each member's in its own", async (context) => {
   const cluster = new Cluster();
   const rooms = roomsOf(cluster, { patience: 60 });
   const stop = new AbortController();
+  context.after(() => stop.abort());
   const heard = [[], [], []];
   const reading = rooms.map(async (room, node) => {
     for await (const { origin, generation, number, payload } of room.follow({ signal: stop.signal })) {
@@ -281,6 +282,36 @@ test("what comes behind all seals does not count", async () => {
   assertOneOrder(heard.slice(1), ["a", "b", "c"]);
 });
 
+test("what was said behind the seals is not taken as said, however far the room has gone on", async () => {
+  // The leader runs on, and was taken for crashed. It takes what node 2 says, whose answer is lost. Then generation 1 is dropped at node 2, which told the end.
+  for (const isRead of [true, false]) {
+    const cluster = new Cluster();
+    const rooms = roomsOf(cluster, { patience: 30 }, MAJORITY);
+    const heard = [[], []];
+    await rooms[2].say("a");
+    rooms[1].without(0);
+    await rooms[1].say("b");
+    let lost = 1;
+    cluster.fate = (node, text) => (node === 0 && text.startsWith("say") && lost-- > 0 ? "no reply" : "carry");
+    const error = await failing(rooms[2].say("c"), TimedOutError);
+    assert.deepEqual(numberOf(error), { generation: 0, number: 2 });
+    assert.deepEqual(cluster.payloads(2, 0).map((text) => text.at(-1)), ["a", "\x02", "\x02", "c"]);
+    for (let count = 0; count < 6; count += 1) await rooms[1].say(`${count}`);
+    if (isRead) for (const _ of [1, 2]) await hearAll(rooms.slice(1), heard, 1);
+    else await cluster.session(2).drop(7, { group: 1, generation: 1 });
+    assert.deepEqual(cluster.generations(2), [0, 2]);
+    if (isRead) assert.deepEqual(await rooms[2].say("c", { repeat: numberOf(error) }), { generation: 2, number: 3 });
+    else {
+      const unknown = await failing(rooms[2].say("c", { repeat: numberOf(error) }), UnknownOutcomeError);
+      assert.ok(unknown.cause instanceof SpentError);
+    }
+    assert.equal((await rooms[2].say("d")).generation, 2);
+    for (const _ of [1, 2]) await hearAll(rooms.slice(1), heard, 1);
+    if (isRead) assertOneOrder(heard, ["a", "b", "0", "1", "2", "3", "4", "5", "c", "d"]);
+    else assert.deepEqual(heard[1].map(({ text }) => text), ["a", "4", "5", "d"]);
+  }
+});
+
 test("the next leader crashes too", async () => {
   const cluster = new Cluster(4);
   const spec = { ...SPEC, members: [0, 1, 2, 3] };
@@ -412,6 +443,58 @@ test("a room that comes after a crash", async () => {
   const late = roomOf(cluster, 2);
   assert.deepEqual(await late.say("c"), { generation: 1, number: 3 });
   assert.deepEqual((await hear(late, 0.5)).map(({ text }) => text), ["a", "b", "c"]);
+});
+
+test("a leader crashes while all say and read", async (context) => {
+  for (let seed = 0; seed < Number(process.env.WALKS ?? 6); seed += 1) {
+    const draw = drawing(seed);
+    const cluster = new Cluster(4);
+    const spec = { ...SPEC, members: [0, 1, 2, 3], kind: draw() < 0.5 ? "fallack" : "fmajority" };
+    const rooms = roomsOf(cluster, { patience: 2 }, spec);
+    const heard = rooms.map(() => []);
+    const said = rooms.map(() => []);
+    const stop = new AbortController();
+    context.after(() => stop.abort());
+    const runs = ({ node }) => !cluster.down.has(node);
+    const reading = rooms.map(async (room, node) => {
+      for await (const { origin, generation, number, payload } of room.follow({ signal: stop.signal })) heard[node].push({ origin, generation, number, text: textOf(payload) });
+    });
+    const speaking = rooms.map(async (room, node) => {
+      for (let count = 0; count < 12; count += 1) {
+        let repeat;
+        for (let isSaid = false; !isSaid && runs(room); ) {
+          try {
+            await room.say(`${node}-${count}`, { repeat });
+            if (runs(room)) said[node].push(`${node}-${count}`);
+            isSaid = true;
+          } catch (error) {
+            if (!(error instanceof UnansweredError || error instanceof BadPlaceError || error instanceof NoRoomError)) throw error;
+            if (error instanceof UnansweredError && error.generation !== null) repeat = numberOf(error);
+            for (const gone of cluster.down) if (runs(room)) room.without(gone);
+            await sleep(0.05);
+          }
+        }
+        await sleep(draw() * 0.01);
+      }
+    });
+    const crashes = draw() < 0.5 ? [0] : [0, 1];
+    for (const node of crashes) plan(draw() * 0.08, () => cluster.crash(node));
+    plan(draw() * 0.1, () => cluster.hold("0-2", "0-3"));
+    plan(0.1 + draw() * 0.5, () => cluster.hold());
+    await Promise.all(speaking);
+    for (const room of rooms.filter(runs)) crashes.forEach((node) => room.without(node));
+    await sleep(200); // What asked a node that crashed is tried again ten times as late as it took to fail.
+    stop.abort();
+    await Promise.all(reading);
+    const running = rooms.filter(runs).map(({ node }) => node);
+    assert.deepEqual(running, [0, 1, 2, 3].filter((node) => !crashes.includes(node)));
+    assertOneOrder(running.map((node) => heard[node]), heard[running[0]].map(({ text }) => text));
+    const texts = heard[running[0]].map(({ text }) => text);
+    assert.equal(new Set(texts).size, texts.length, `seed ${seed}`);
+    for (const node of running) assert.deepEqual(texts.filter((text) => text.startsWith(`${node}-`)), said[node], `seed ${seed}`);
+    if (spec.kind === "fallack") for (const node of crashes) assert.ok(said[node].every((text) => texts.includes(text)), `seed ${seed}`);
+    assert.ok(running.every((node) => said[node].length === 12 && cluster.generations(node).length === 1), `seed ${seed}`);
+  }
 });
 
 /** Says and reads at random while nodes crash, and links hold back what they carry. */
