@@ -2519,6 +2519,18 @@ class LedSpeaker extends Speaker {
   }
 
   /**
+   * Starts the next generation, and closes this one. One whose leader crashed before anything stood there may not be made at each node yet. It is made there
+   * first: where it is not, nobody knows that its end has to be told.
+   * @param {Speech} speech
+   * @param {number} end
+   */
+  async goOn(speech, end) {
+    const { generation } = speech;
+    if (this.#isCut(generation) && this.#log(generation).place === 0) await this.led.start(generation, end);
+    await super.goOn(speech, end);
+  }
+
+  /**
    * Has nothing more count in a generation, by its leader's marker or by seals.
    * @param {number} generation
    * @param {number} end
@@ -2563,7 +2575,7 @@ class LedSpeaker extends Speaker {
       for (const log of logs) {
         const isLiving = await led.look(led.node, log.generation);
         log.isGone = isLiving === false;
-        if (isLiving === null) this.logs.delete(log.generation);
+        if (isLiving === null) [this.logs, led.ends].forEach((known) => known.delete(log.generation)); // The server was started anew.
       }
     }
     led.judge(this.#lowestFirst());
@@ -2622,7 +2634,7 @@ class LedSpeaker extends Speaker {
   async #sayEnds(generation, message, end) {
     const say = () => this.settled(message, { generation, number: 1 }, false);
     await say().catch(async (error) => {
-      if (!(error instanceof WrongPhaseError)) throw error;
+      if (!isOne(error, WrongPhaseError, NoGroupError)) throw error;
       await this.led.start(generation, end);
       await say();
     });
@@ -2801,12 +2813,11 @@ class LedSpeaker extends Speaker {
       await this.settled(message, named, false);
     } catch (error) {
       if (error instanceof UnknownOutcomeError) return named;
-      const isRefused = isOne(error, BadPlaceError, BudgetError, BytesError, WrongPhaseError);
-      if (isRefused || (error instanceof UnansweredError && !error.isUnknown)) this.open = null;
+      if (isOne(error, BadPlaceError, BudgetError, BytesError, WrongPhaseError, NoGroupError) || (error instanceof UnansweredError && !error.isUnknown)) this.open = null;
       if (error instanceof BadPlaceError) await this.#readUpTo(named, end, error);
       else if (isOne(error, BudgetError, BytesError)) speech.isFull = true;
-      else if (error instanceof WrongPhaseError && !speech.wasOpened) {
-        await this.led.start(generation, end);
+      else if (isOne(error, WrongPhaseError, NoGroupError) && !speech.wasOpened) {
+        await this.led.start(generation, end); // Somebody has begun it, and has not come as far as the leader's node.
         speech.wasOpened = true;
       } else throw error;
       return null;

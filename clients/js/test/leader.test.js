@@ -141,6 +141,19 @@ test("what cannot be is refused before anything is asked", async () => {
   assert.deepEqual(await room.say(new Uint8Array(4_000)), { generation: 0, number: 1 });
 });
 
+test("a generation that is half made is made and opened everywhere", async () => {
+  for (let steps = 0; steps < 7; steps += 1) {
+    const cluster = new Cluster();
+    const room = roomOf(cluster, 0);
+    for (let count = 0; count < 6; count += 1) await room.say(`${count}`);
+    const sessions = cluster.sessions();
+    for (const step of Array(steps).keys()) await sessions[step % 3][step < 3 ? "make" : "open"](7, { group: 1, generation: 1 }, SPEC);
+    assert.deepEqual(await roomOf(cluster, 0).say("6"), { generation: 1, number: 1 });
+    assert.deepEqual(await roomOf(cluster, 2).say("7"), { generation: 1, number: 2 });
+    assert.deepEqual((await hear(roomOf(cluster, 1), 1)).map(({ text }) => text), ["0", "1", "2", "3", "4", "5", "6", "7"]);
+  }
+});
+
 test("a guest reads, and says something where it has a session of each member's node", async () => {
   const cluster = new Cluster();
   const tokens = (node) => ({ member: Cluster.token(node), node });
@@ -310,6 +323,28 @@ test("what was said behind the seals is not taken as said, however far the room 
     if (isRead) assertOneOrder(heard, ["a", "b", "0", "1", "2", "3", "4", "5", "c", "d"]);
     else assert.deepEqual(heard[1].map(({ text }) => text), ["a", "4", "5", "d"]);
   }
+});
+
+test("a generation whose leader crashed before it was made at each node is sealed at each", async () => {
+  // Node 0 has begun generation 1, which it was to lead, and crashes. Whoever says the first message of generation 2 has to know of it.
+  const cluster = new Cluster();
+  const old = roomOf(cluster, 1, { leader: 2 });
+  for (let count = 0; count < 6; count += 1) await old.say(`${count}`);
+  for (const node of [0, 1]) await cluster.session(node).make(7, { group: 1, generation: 1 }, SPEC);
+  cluster.crash(0);
+  const [one, two] = [1, 2].map((node) => roomOf(cluster, node, { leader: 2 }));
+  one.without(0);
+  cluster.fate = (node, text) => (text.startsWith("say") && text.includes(" 7 1.2 04") ? "no request" : "carry");
+  await failing(one.say("a"), TimedOutError);
+  assert.equal(one.generation, 2);
+  cluster.fate = () => "carry";
+  two.without(0);
+  await two.say("b");
+  await one.say("c");
+  const heard = [[], []];
+  for (const _ of [1, 2]) await hearAll([one, two], heard, 1);
+  assertOneOrder(heard, ["0", "1", "2", "3", "4", "5", "b", "c"]);
+  assert.deepEqual(cluster.living().slice(1), [[2], [2]]);
 });
 
 test("the next leader crashes too", async () => {
