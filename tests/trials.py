@@ -193,7 +193,7 @@ TRIALS = (
           ("{python}", "{top}/examples/replicated_map.py", "{port}", "{gb_peer}"), programs=["gb_peer"], seconds=20, limit=200),
     Trial("javascript", "the tests of the JavaScript client, against gb_serve and gb_web",
           ("npm", "--offline", "--cache", "{room}/cache", "test", "--prefix", "{top}/clients/js"), programs=["gb_serve", "gb_web"],
-          needs=[command("npm"), has_node], seconds=10, variables=SERVED, bad="# SKIP"),
+          needs=[command("npm"), has_node], seconds=20, variables=SERVED, bad="# SKIP"),
     Trial("javascript-types", "the types of the JavaScript client, by tsc", ("tsc", "-p", "{top}/clients/js"), needs=[command("tsc")],
           seconds=10),
     Trial("readme", "the Python of README.md, against gb_serve", ("{python}", "{top}/tests/readme.py", "{gb_serve}", "{port}"),

@@ -47,6 +47,34 @@ from .rooms import Cluster
 
 ALL = (0, 1, 2)
 SPEC = Spec("fallack", ALL, 8, 4_096, 8)
+# The same text is in clients/js/test/leader.test.js: rooms of both packages may be one room's.
+WIRE = """\
+0 make 7 1 fallack 0,1,2 8 4096 8: ok
+1 make 7 1 fallack 0,1,2 8 4096 8: ok
+2 make 7 1 fallack 0,1,2 8 4096 8: ok
+0 open 7 1: ok
+1 open 7 1: ok
+2 open 7 1: ok
+0 say 7 1 0301000102030405060761 1: said 1
+1 make 7 1.1 fallack 0,1,2 8 4096 8: ok
+2 make 7 1.1 fallack 0,1,2 8 4096 8: ok
+1 open 7 1.1: ok
+2 open 7 1.1: ok
+1 say 7 1 02 1: said 1
+2 say 7 1 02: said 1
+1 say 7 1.1 04000000000001 1: said 1
+1 say 7 1.1 0301000102030405060762 2: said 2
+1 say 7 1.1 0302000102030405060730 3: said 3
+1 say 7 1.1 0302000102030405060731 4: said 4
+1 say 7 1.1 0302000102030405060732 5: said 5
+1 say 7 1.1 0302000102030405060733 6: said 6
+1 make 7 1.2 fallack 0,1,2 8 4096 8: ok
+2 make 7 1.2 fallack 0,1,2 8 4096 8: ok
+1 open 7 1.2: ok
+2 open 7 1.2: ok
+1 say 7 1.1 00 7: said 7
+2 say 7 1.2 0302000102030405060734 1: said 1
+"""
 EXAMPLES = pathlib.Path(__file__).resolve().parents[3] / "examples"
 
 
@@ -212,6 +240,21 @@ class CrashTests(Ordered):
         hear(rooms[1:], heard, 1.0)
         self.assert_one_order(heard, [b"a", b"b", b"c"])
         self.assertEqual(cluster.living()[1:], [[1], [1]])
+
+    def test_what_goes_over_the_wire(self) -> None:
+        cluster = timed()
+        with mock.patch("os.urandom", return_value=bytes(range(8))):
+            rooms = [room_of(cluster, node, patience=1.0) for node in ALL]
+        rooms[1].say(b"a")
+        cluster.crash(0)
+        self.assertRaises(UnansweredError, rooms[1].say, b"b")
+        rooms[1].exclude(0)
+        rooms[1].say(b"b")
+        for count in range(5):
+            rooms[2].say(str(count).encode())
+        heads = ("make", "open", "say")
+        asked = [it for it in cluster.asked if it[1].startswith(heads)]
+        self.assertEqual("".join(f"{node} {body}: {reply}\n" for node, body, reply in asked), WIRE)
 
     def test_what_the_leader_took_and_nobody_has(self) -> None:
         cluster = timed()
