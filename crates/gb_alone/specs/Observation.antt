@@ -1,4 +1,4 @@
--- What is seen of a group at its nodes: the replies to its commands, and its items that are carried.
+-- What is seen of a group at its nodes: the replies to its commands, and its carried items.
 use Rattle.std.specs.Prelude.{ℕ, zero, suc, List, [], ◌∷◌, ◌++◌, map, take}
 use Rattle.gb_types.specs.declared.{entry.Entry.Entry, reply.Reply.Reply}
 use Rattle.gb_alone.specs.Alone.{Group}

@@ -1,5 +1,5 @@
-//! What is seen of one group from outside, at each node: the replies to its commands, and the items that are carried to other nodes. The
-//! state that only the nodes hold is not part of it.
+//! What is seen of one group from outside, at each node: the replies to its commands, and the items that are carried to other nodes. State
+//! that only the nodes have is not part of it.
 ghost use Rattle.std.specs.Prelude.{◌≡◌};
 
 use gb_types::{Entries, Reply};
@@ -21,8 +21,8 @@ impl Model for NodeSeen {
 }
 
 impl NodeSeen {
-    /// Returns an observation of one node, which takes over both lists: `replies` to the group's commands, in order, and `carried`, the
-    /// items carried from this node to each node, node 0 first.
+    /// Returns an observation of one node, made of both lists: `replies` to the group's commands, in order, and `carried`, the items
+    /// carried from this node to each node, node 0 first.
     pub fn new(replies: Vec<Reply>, carried: Vec<Entries>) -> NodeSeen
         ensures { result ≡ record { replies = replies.items; carried = carried.items } }
     {

@@ -34,12 +34,13 @@ pub fn agreement()
     delivery();
 }
 
-/// A law, with nothing to run, of delivery in a group whose members all made it alike before the first message, and in which no member
-/// noticed a running member as crashed. In a phase each item arrives that one running member had queued for another before it. After one
-/// phase the logs of the running members hold each message that had been accepted at a running member before it, with all-ack and
-/// majority-ack after two. Except with best effort they then hold each message that had been in the log of a running member, and with
-/// all-ack and majority-ack each that had been in the log of any member. Members may say more meanwhile. With lazy and all-ack each running
-/// member must have noticed each stopped member before, and with majority-ack more than half of the members must run.
+/// A law, with nothing to run, of delivery in a group whose members all made it alike before the first message, and all send one version of
+/// packets. No running member drops the group, and no member notices a running member as crashed. In a phase each item arrives that one
+/// running member had queued for another before it. After one phase the logs of the running members hold each message that had been
+/// accepted at a running member before it, with all-ack and majority-ack after two. Except with best effort they then hold each message
+/// that had been in the log of a running member, and with all-ack and majority-ack each that had been in the log of any member. Members may
+/// say more meanwhile. With lazy and all-ack each running member must have noticed each stopped member before, and with majority-ack more
+/// than half of the members must run.
 pub fn delivery()
     ensures { IsDelivered }
 {
