@@ -533,7 +533,8 @@ impl Member {
         Ok(())
     }
 
-    /// Records that the node `q` is noticed: discards the items that wait for it, and makes the group's call.
+    /// Takes the notice of the node `q`. If the group is here and `q` is another member, discards the items that wait for `q` and makes the
+    /// group's call.
     pub(crate) fn notice(&mut self, alloc: Global, me: NodeId, q: NodeId) -> Result<(), OutOfMemory>
         ensures { OnOk result (self.new ≡ value_noticed me.number q (held_spec self.old.phase self.old.spec) self.old) }
     {
