@@ -5,7 +5,7 @@ use Rattle.gb_layer.specs.declared.call.Call.{Call}
 use Rattle.gb_layer.specs.Common.{delivers, broadcasts, log}
 use Rattle.gb_fifo.specs.Order.{ordered_after}
 
--- the delivered messages that an order hands up: all, or those in each origin's order (Cachin, Guerraoui, Rodrigues 2011, 3.9; Hadzilacos, Toueg 1994)
+-- the delivered messages that an order hands up: all, or each origin's in its order (Cachin, Guerraoui, Rodrigues 2011, 3.9; Hadzilacos, Toueg 1994)
 abbrev pub released : Order → List MsgId → List MsgId → List MsgId
 released Any earlier delivered = delivered
 released Fifo earlier delivered = ordered_after earlier delivered
