@@ -41,7 +41,6 @@ const BY_ITSELF: [&[u8]; 27] = [
 
 /// The same run, and another tenant's group has a message in each of the three frames. That group is in first-in first-out order, so the
 /// message that comes first waits.
-/// the message that comes first waits.
 const BESIDE: [&[u8]; 42] = [
     b"cluster 3 3",
     b"tenant 0 8 4 8 4096 4",
@@ -122,7 +121,6 @@ const FIFO: &[ToldAt] = &[
 ];
 
 /// Returns the run of these lines, if all is right in it, the logs that are fetched have these numbers of entries, and the run shows these
-/// steps of the tenant's group once it is open.
 /// steps of the tenant's group once it is open.
 fn told_by(
     alloc: Global,

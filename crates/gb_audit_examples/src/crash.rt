@@ -33,8 +33,6 @@ enum Act {
 /// Two groups' messages share a frame that comes twice. The frame back has a group's own message beside the relayed one, and acknowledges
 /// the first. The third node stops, and is noticed at the first, where the last group is made only then. Its message shares a frame with a
 /// message that another group relays. Then the second node stops, and one group's requests come there twice.
-/// acknowledges the first. The third node stops, and is noticed at the first, where the last group is made only then. Its
-/// message shares a frame with what another group relays. Then the second node stops, and one group asks there twice.
 const ACTS: [Act; 31] = [
     Act::Furnish(FIRST, 7),
     Act::Furnish(FIRST, 8),

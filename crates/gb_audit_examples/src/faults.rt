@@ -31,7 +31,6 @@ fn no_tape_sent_it(rt: HostRuntime) {
 }
 
 /// Two packets that crossed, and tapes on which each came before the other was sent. At the end, the third node's packet comes to the first node.
-/// the first node.
 const CROSSED: &[At] = &[
     (2, Step::Ack(0)),
     (0, Step::ComeUnsent(1)),

@@ -10,7 +10,6 @@ use std::rt::HostRuntime;
 use std::test::Fail;
 
 /// A group says two messages, and the second comes first. Its next generation is made at both nodes and dropped at one, and says nothing.
-/// nothing.
 const SILENT: [&[u8]; 24] = [
     b"cluster2 2 3 3,3",
     b"tenant 0 7 4 8 4096 4",

@@ -44,7 +44,6 @@ const MAY_BE_FULL: [Room; 5] = [
 
 /// The last step of each list is not legal: a fifth generation with the group and without it, a generation that is the group, a drop when
 /// no generation was made and one when none is left, and a tenant that is there already.
-/// nothing was made and one where nothing is left, and a tenant that is there.
 const MAY_NOT_HAPPEN: [&[Room]; 6] = [
     &[
         Room::Tenant,

@@ -11,7 +11,6 @@ use std::test::Fail;
 
 /// An origin stops when one of two nodes has its message. That node relays it to the third, which says a message itself. Each of the two
 /// hears the other between its ticks, and so notices the origin alone; then they have nothing more to pack.
-/// of the two hears the other between its ticks, and so notices the origin alone; then they have nothing more to pack.
 const SETTLED: [&[u8]; 35] = [
     b"cluster 3 3",
     b"tenant 0 7 4 8 4096 4",

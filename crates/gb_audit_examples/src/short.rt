@@ -21,7 +21,6 @@ fn short_of(reply: &Reply) -> Got {
 }
 
 /// Returns true if a group's replies at a node are exactly the wanted ones, in order. Of logs only the numbers of entries are compared.
-/// alone.
 fn are_replies(replies: &[Reply], wanted: &[Got]) -> bool {
     if replies.len() != wanted.len() {
         return false;

@@ -26,7 +26,6 @@ fn add_by_itself(alloc: Global, events: &mut Vec<Event>) -> Result<(), OutOfMemo
 
 /// Adds the events of the run with the other tenant, which keeps the first node busy: the second node says its message, packs it and takes
 /// the other node's before.
-/// the other's before.
 fn add_beside(alloc: Global, events: &mut Vec<Event>) -> Result<(), OutOfMemory> {
     furnish(events, SECOND, 7, spec())?;
     furnish(events, FIRST, 8, spec())?;

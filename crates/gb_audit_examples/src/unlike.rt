@@ -23,8 +23,6 @@ const LONG: &[u8] = &[b'a'; 1_025];
 /// Adds the events of a run. A group says a message at the second node that is too long there. At the first node it says the same message,
 /// then a short one. The frame with both comes to the second node, which discards the first message, and is acknowledged. If `is_shared`,
 /// another group says a message between them.
-/// message, then a short one. The frame with both comes to the second node, which lets the first message fall, and is
-/// acknowledged. If `is_shared`, another group says something between them.
 fn add_events(alloc: Global, is_shared: bool, events: &mut Vec<Event>) -> Result<(), OutOfMemory> {
     if is_shared {
         furnish(events, FIRST, 8, spec())?;

@@ -30,7 +30,6 @@ use std::sync::{Mutex, Wait};
 
 /// Some nodes of a cluster, each under a lock of its own, at the index of its number. Contracts see the plan, which nodes are here and the
 /// number of seats.
-/// here and the number of seats.
 #[derive(Drop)]
 pub struct Host<L: Tapes> {
     alloc: Global,

@@ -21,7 +21,6 @@ pub const WAITING: usize = 16_384;
 const _: () = prove!(WAITING == 16_384);
 
 /// Sends a node's entries to its recorder. Contracts see the node and all entries that were sent; memory does not hold them.
-/// them.
 #[derive(Drop)]
 pub struct Outlet<L: Tapes> {
     node: NodeId,

@@ -26,7 +26,6 @@ pub enum Taken {
 /// Takes the entries of a node, in order. Contracts see the node, the entries before the ring, and all entries that were taken: together
 /// they are at any moment a beginning of the node's past, and after the end all of it. A recorder that is dropped takes no more; once its
 /// ring is full, the node refuses each call.
-/// refuses each call.
 #[derive(Drop)]
 pub struct Recorder<L: Tapes> {
     node: NodeId,

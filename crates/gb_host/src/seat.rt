@@ -15,7 +15,6 @@ use std::marker::{Model, PhantomData};
 
 /// A caller: its number, the number of its calls at each node, its calls, and witnesses of each node's past. Memory holds the calls only if
 /// tapes are kept.
-/// calls only if tapes are kept.
 #[derive(Drop)]
 pub struct Seat<L: Tapes> {
     pub(crate) number: u32,

@@ -108,7 +108,6 @@ fn happen(cluster: &mut Cluster, event: &Event, given: &NodeAnswer) -> Result<()
 }
 
 /// Runs the events in a new cluster. `Err` at the first event whose answer is not its entry's, or for which there is no memory.
-/// which there is no memory.
 pub(crate) fn follow(
     cluster: &mut Cluster,
     events: &[Event],

@@ -4,7 +4,6 @@ use gb_types::{Addr, Spec};
 
 /// A group that was made at a node and lives there, or was dropped and its place was not taken since. A dropped group has only its address
 /// and the phase `Gone`.
-/// address and the phase `Gone`.
 #[derive(Drop)]
 pub struct GroupRow {
     pub address: Addr,
