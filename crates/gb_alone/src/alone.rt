@@ -1,4 +1,4 @@
-//! The model of a group by itself, computed plainly from its definition: its state at each node, and what is seen of it. It is slow, and
+//! The model of a group by itself, computed plainly from its definition: its state at each node, and the observation of it. It is slow, and
 //! meant for short lists of steps.
 ghost use Rattle.std.specs.Prelude.{◌≡◌, ◌≤◌, ◌-◌, [], IfOk, OnOk, length, map, take, replicate, slice_get, slice_index_or, slice_set};
 ghost use Rattle.gb_types.specs.declared.limits.TheConstants.{NODES as MOST};
@@ -148,11 +148,11 @@ fn seen_alone(
     all_seen(alloc, bounds.nodes, &group)
 }
 
-/// Returns what is seen, after `steps`, of the group `addr` by itself, without other tenants, links or frames, in a cluster of `plan`: for
-/// each node, the replies to the group's commands, and the items that are carried from it to each node. Takes memory and changes nothing.
-/// `Err` if memory runs out, or if a number would not fit: a say at a node that has said 65,535 messages, more than 2^64 - 1 carried items
-/// from one node to another, an acknowledged item whose place is above 2^64 - 1, or more than 2^64 - 1 other generations of the group's
-/// room that live.
+/// Returns the observation, after `steps`, of the group `addr` by itself, without other tenants, links or frames, in a cluster of `plan`:
+/// for each node, the replies to the group's commands, and the items that are carried from it to each node. Takes memory and changes
+/// nothing. `Err` if memory runs out, or if a number would not fit: a say at a node that has said 65,535 messages, more than 2^64 - 1
+/// carried items from one node to another, an acknowledged item whose place is above 2^64 - 1, or more than 2^64 - 1 other generations of
+/// the group's room that live.
 pub fn alone(
     alloc: Global,
     plan: &Plan,

@@ -1,11 +1,11 @@
-//! What is seen of one group from outside, at each node: the replies to its commands, and the items that are carried to other nodes. State
-//! that only the nodes have is not part of it.
+//! The observation of one group from outside, at each node: the replies to its commands, and the items that are carried to other nodes.
+//! State that only the nodes have is not part of it.
 ghost use Rattle.std.specs.Prelude.{◌≡◌};
 
 use gb_types::{Entries, Reply};
 use std::marker::Model;
 
-/// What is seen of a group at a node.
+/// The observation of a group at a node: its replies, and the items carried from there.
 #[derive(Drop)]
 pub struct NodeSeen {
     replies: Vec<Reply>,
@@ -44,7 +44,7 @@ impl NodeSeen {
     }
 }
 
-/// What is seen of a group at each node. Contracts see the list, node 0 first.
+/// The observation of a group at each node. Contracts see the list, node 0 first.
 #[derive(Drop)]
 pub struct Observation {
     nodes: Vec<NodeSeen>,
@@ -60,7 +60,7 @@ impl Model for Observation {
 }
 
 impl Observation {
-    /// Returns what is seen of the group at each node, node 0 first.
+    /// Returns the observation of the group at each node, node 0 first.
     pub fn nodes(&self) -> &[NodeSeen]
         ensures { result.now ≡ self.now }
     {

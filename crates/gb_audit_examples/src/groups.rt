@@ -125,7 +125,7 @@ fn each_group_is_what_it_is_alone(rt: HostRuntime) {
     assert!(rt; shown == Ok(true));
 }
 
-// What is seen of a group at two nodes: the second node's reply, and the payload of the item that the second node carries to the first.
+// The observation of a group at two nodes: the second node's reply, and the payload of the item that the second node carries to the first.
 #[derive(Clone, Copy)]
 struct Shape {
     refusal: Refusal,

@@ -1,4 +1,4 @@
-// What is seen of a group, in short.
+// The observation of a group, in short.
 use gb_alone::{NodeSeen, Observation};
 use gb_types::{Entries, Entry, Refusal, Reply};
 

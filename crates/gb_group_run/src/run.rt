@@ -1,4 +1,4 @@
-//! What is seen of a group by itself, computed by the slots of its nodes.
+//! The observation of a group by itself, computed by the slots of its nodes.
 ghost use Rattle.std.specs.Prelude.{◌≡◌, ◌-◌, ◌<◌, ◌≤◌, IfOk, OnOk, length, map, replicate, take, slice_get, slice_set};
 ghost use Rattle.gb_types.specs.declared.limits.TheConstants.{NODES as MOST};
 ghost use Rattle.gb_types.specs.Common.{bounds_of};
@@ -121,8 +121,8 @@ fn seen_by_slots(
     all_seen(alloc, bounds.nodes, group)
 }
 
-/// Returns what is seen, after `steps`, of the group `addr` by itself, without other tenants, links or frames, in a cluster of `plan`: for
-/// each node, the replies to the group's commands, and the items that are carried from it to each node. It is the result of
+/// Returns the observation, after `steps`, of the group `addr` by itself, without other tenants, links or frames, in a cluster of `plan`:
+/// for each node, the replies to the group's commands, and the items that are carried from it to each node. It is the result of
 /// `gb_alone::alone::alone`, in time linear in the steps and their payloads: each node that made the group runs a slot. Takes memory and
 /// changes nothing. `Err` if memory runs out, if a tenant's limits exceed those of the service, or if the steps are not legal: if more
 /// items are carried than wait, if items come or are acknowledged that were not carried, if the tenant is added twice, or if another

@@ -37,7 +37,7 @@ log_in None = []
 log_in (Some None) = []
 log_in (Some (Some x)) = x.log
 
--- what is seen of a group at a node, and from there towards another node
+-- the observation of a group at a node, and from there towards another node
 pub record Seen : Type 0 where
   -- the replies to its commands
   pub replies : List Reply
@@ -46,7 +46,7 @@ pub record Seen : Type 0 where
   -- the items queued for the other node: first those that are carried, then those that wait
   pub put : List Entry
 
--- what is seen of a group in a run: replies and carried items come from the events, log and waiting items from the nodes
+-- the observation of a group in a run: replies and carried items come from the events, log and waiting items from the nodes
 abbrev pub seen_in : Plan → List NodeStep → ClusterValue → Addr → NodeId → NodeId → Seen
 seen_in plan run v g a b = record {
   replies = replies_in a g (past_at a run);
@@ -54,7 +54,7 @@ seen_in plan run v g a b = record {
   put = group_items_of g (frames_to plan.cluster_key b.number (past_at a run)) ++ waiting_at (node_at v a) g b.number;
 }
 
--- what is seen of a group that is alone
+-- the observation of a group that is alone
 abbrev pub seen_alone : Group → ℕ → ℕ → Seen
 seen_alone group a b = record { replies = (group a).replies; log = log_of_member a (group a); put = (group a).put b }
 

@@ -16,7 +16,7 @@ use Rattle.gb_isolation.specs.Decides.{steps_at}
 use Rattle.gb_isolation.specs.Isolation.{seen_in, alone_in}
 use Rattle.gb_isolation.specs.Project.{project, group_items, is_noticed_at, is_own_request, made_with, is_fed, fed_run}
 
--- What was accepted.
+-- The accepted messages.
 
 -- the message that a request and its reply say, if they say one
 abbrev pub said_by : Action → Reply → List Accepted

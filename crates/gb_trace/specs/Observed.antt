@@ -1,4 +1,4 @@
--- What is seen of a group in a run, without state that only the nodes have.
+-- The observation of a group in a run, without state that only the nodes have.
 use Rattle.std.specs.Prelude.{◌≡◌, ◌≤◌, true, List, map}
 use Rattle.gb_types.specs.Common.{bounds_of}
 use Rattle.gb_types.specs.declared.{address.Addr.Addr, limits.TheConstants.NODES, node.NodeId.NodeId, plan.Plan.Plan}

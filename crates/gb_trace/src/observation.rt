@@ -1,4 +1,4 @@
-//! What is seen of a group in a run, computed plainly from its definition.
+//! The observation of a group in a run, computed plainly from its definition.
 ghost use Rattle.std.specs.Prelude.{◌≡◌, ◌≤◌, ◌++◌, reverse, IfOk, OnOk, map};
 ghost use Rattle.std.specs.Option.{option_copied};
 ghost use Rattle.gb_types.specs.declared.limits.TheConstants.{NODES as MOST};
@@ -172,8 +172,8 @@ fn seen_in(
     Ok(Observation::from(seen))
 }
 
-/// Returns what is seen of the group in a run, at each node of the plan: the replies to its commands, and its items that are
-/// carried. If there are more events than answers, or more answers than events, the surplus is ignored.
+/// Returns the observation of the group in a run, at each node of the plan: the replies to its commands, and its items that are carried. If
+/// there are more events than answers, or more answers than events, the surplus is ignored.
 pub fn observe(
     alloc: Global,
     plan: &Plan,
