@@ -203,9 +203,9 @@ module _ (law : AlikeTapesMergeAlike) (plan : Plan) (tapes copies : List (List T
   counts_all : sum (map fed_count tapes) ≡ sum (map fed_count copies)
   counts_all =
       ap sum (counts_same tapes copies are.count (λ a.
-        sym (fed_counted (tape_of tapes a))
-        ∙ (sym (redacts_count plan.admin_key (node_numbered a) [] (fed_of (tape_of tapes a)) (fed_of (tape_of copies a)) (redacts_fed plan.admin_key (node_numbered a) [] (tape_of tapes a) (tape_of copies a) (all_of a)))
-        ∙ fed_counted (tape_of copies a))))
+      sym (fed_counted (tape_of tapes a))
+      ∙ (sym (redacts_count plan.admin_key (node_numbered a) [] (fed_of (tape_of tapes a)) (fed_of (tape_of copies a)) (redacts_fed plan.admin_key (node_numbered a) [] (tape_of tapes a) (tape_of copies a) (all_of a)))
+      ∙ fed_counted (tape_of copies a))))
 
   events_same : length others ≡ length events
   events_same = (law plan (copied_plan plan) (fed_tapes tapes) (fed_tapes copies) events others alike m n).count
