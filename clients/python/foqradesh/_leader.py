@@ -20,7 +20,7 @@ from ._errors import (
     WrongPhaseError,
 )
 from ._generations import LAST_GENERATION, LIVING, MARKER, Pause, Plan, asked, between_tries
-from ._leader_log import SEAL, LedLog, LedNodes, decide, ends_message, said_message
+from ._leader_log import SEAL, LedLog, LedNodes, ends_message, said_message
 from ._reading import Ended, Reader, ReadLog
 from ._replies import Entry
 from ._speaking import AGAIN, RoomNumber, Speaker
@@ -51,8 +51,7 @@ class LedReader(Reader):
 
     def _show_all(self) -> None:
         logs = self._led_logs()
-        self._led.note_seals(logs)
-        decide(logs)
+        self._led.judge(logs)
         for log in logs:
             self.ready.extend(log.fresh())
             if not log.is_over():
@@ -182,9 +181,7 @@ class LedSpeaker(Speaker):
                 log.take(entry, nodes.spec)
             if not found.entries:
                 return False
-        every = [self._logs[it] for it in sorted(self._logs)]
-        nodes.note_seals(every)
-        decide(every)
+        nodes.judge([self._logs[it] for it in sorted(self._logs)])
         return True
 
     def _read_all(self) -> Plan[None]:
@@ -193,10 +190,19 @@ class LedSpeaker(Speaker):
             pass
 
     def _extend(self) -> Plan[None]:
-        """Read the next generation too, once the members go on to it."""
+        """Read the next generation too, once the members go on to it.
+
+        The one behind a generation that is not over is read too. It may have that one's end.
+        """
         if not self._logs:
             return
         nodes, newest = self._led, self._logs[max(self._logs)]
+        for generation in range(min(self._logs), newest.generation):
+            log = self._logs.get(generation)
+            if log is None or log.is_over() or generation + 1 in self._logs:
+                continue
+            if (yield from nodes.look(nodes.node, generation + 1)):
+                self._log(generation + 1)
         if newest.generation == LAST_GENERATION or not newest.is_left():
             return
         is_living = yield from nodes.look(nodes.node, newest.generation + 1)
@@ -245,16 +251,19 @@ class LedSpeaker(Speaker):
     def _ends_before(self, generation: int, end: float) -> Plan[Dict[int, int]]:
         """Close the generations before one, and return how many messages of the sealed ones count.
 
-        It goes down to one whose first message has the ends of those before it. It ends early if
-        another room has said the first message of this generation.
+        It goes down to one whose first message has the ends of those before it, or that was dropped
+        here, because its end and theirs were known then. It ends early if another room has said the
+        first message of this generation.
         """
         nodes, ends = self._led, {}
         for lower in range(generation - 1, max(-1, generation - 1 - LIVING), -1):
             if not (yield from nodes.look(nodes.node, lower)):
-                continue
+                return ends
             log = self._log(lower)
             while not log.is_over() and not self._has_first(generation):
                 yield from self._close(lower, end)
+                if log.is_over():
+                    break
                 cut = (yield from self._cut(lower, end)) if self._is_cut(lower) else None
                 if cut is not None:
                     ends[lower], first = cut

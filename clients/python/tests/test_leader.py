@@ -26,6 +26,7 @@ from foqradesh import (
     RoomEntry,
     RoomNumber,
     Spec,
+    SpentError,
     TimedOutError,
     TooLongError,
     UnansweredError,
@@ -36,7 +37,6 @@ from foqradesh._leader_log import (
     SEAL,
     LedLog,
     LedNodes,
-    decide,
     ends_message,
     read_ends,
     said_message,
@@ -151,7 +151,10 @@ class OrderTests(Ordered):
                 self.assertEqual([len(it) for it in cluster.living()], [1] * 3)
                 self.assertLessEqual(max(node.most for node in cluster.nodes), 3)
                 for room in rooms:
-                    self.assertLess(len(room._plans.nodes.marked), 20)
+                    nodes = room._plans.nodes
+                    assert isinstance(nodes, LedNodes)
+                    self.assertLess(len(nodes.marked), 20)
+                    self.assertLessEqual(len(nodes.ends), 16)
 
     def test_a_say_returns_when_it_stands_at_the_members_own_node(self) -> None:
         cluster = timed()
@@ -374,6 +377,48 @@ class CrashTests(Ordered):
         hear(rooms[1:], heard[1:], 1.0)
         self.assert_one_order(heard[1:], [b"a", b"b", b"c"])
 
+    def test_what_was_said_behind_the_seals_is_not_taken_as_said(self) -> None:
+        # The leader runs on, and was excluded. It takes node 2's message, whose reply is lost. Then
+        # generation 1, which says the end, is dropped at node 2.
+        for is_read in (True, False):
+            with self.subTest(is_read=is_read):
+                cluster = timed()
+                spec = Spec("fmajority", ALL, 8, 4_096, 8)
+                rooms = [room_of(cluster, node, spec, patience=30.0) for node in ALL]
+                heard: List[List[RoomEntry]] = [[], []]
+                rooms[2].say(b"a")
+                rooms[1].exclude(0)
+                rooms[1].say(b"b")
+                cluster.fate = lambda node, body: "no reply" if body.startswith("say") else "carry"
+                with self.assertRaises(TimedOutError) as caught:
+                    rooms[2].say(b"c")
+                self.assertEqual((caught.exception.generation, caught.exception.number), (0, 2))
+                cluster.fate = lambda node, body: "carry"
+                ends = [payload[-1:] for payload in cluster.payloads(2, 0)]
+                self.assertEqual(ends, [b"a", SEAL, SEAL, b"c"])
+                for count in range(6):
+                    rooms[1].say(str(count).encode())
+                if is_read:
+                    hear(rooms[1:], heard, 1.0)
+                    hear(rooms[1:], heard, 1.0)
+                else:
+                    cluster.client(2).drop(7, Generation(1, 1))
+                self.assertEqual(cluster.living()[2], [0, 2])
+                if is_read:
+                    self.assertEqual(rooms[2].say(b"c", repeat=RoomNumber(0, 2)), (2, 3))
+                else:
+                    with self.assertRaises(UnknownOutcomeError) as unknown:
+                        rooms[2].say(b"c", repeat=RoomNumber(0, 2))
+                    self.assertIsInstance(unknown.exception.__cause__, SpentError)
+                self.assertEqual(rooms[2].say(b"d").generation, 2)
+                hear(rooms[1:], heard, 1.0)
+                hear(rooms[1:], heard, 1.0)
+                if is_read:
+                    said = [b"a", b"b", *(str(count).encode() for count in range(6)), b"c", b"d"]
+                    self.assert_one_order(heard, said)
+                else:
+                    self.assertEqual([it.payload for it in heard[1]], [b"a", b"4", b"5", b"d"])
+
     def test_the_next_leader_crashes_too(self) -> None:
         cluster = timed(4)
         spec = Spec("fallack", (0, 1, 2, 3), 8, 4_096, 8)
@@ -543,11 +588,12 @@ class Walk:
 class LogTests(unittest.TestCase):
     """The messages of a log that count."""
 
-    def logs(self, count: int = 3) -> List[LedLog]:
-        """Return the logs of the first generations at node 2."""
+    @staticmethod
+    def logs() -> Tuple[LedNodes, List[LedLog]]:
+        """Return nodes of a room at node 2, and the logs of its first three generations there."""
         operations = {node: client.operations for node, client in timed().clients().items()}
         nodes = LedNodes(operations, 7, 1, SPEC, 2, 0)
-        return [LedLog(generation, nodes, 2) for generation in range(count)]
+        return nodes, [LedLog(generation, nodes, 2) for generation in range(3)]
 
     @staticmethod
     def fill(log: LedLog, leader: int, *messages: Tuple[int, bytes]) -> None:
@@ -562,42 +608,67 @@ class LogTests(unittest.TestCase):
             self.assertEqual(read_ends(message), {})
 
     def test_a_seal_holds_back_what_comes_behind_it(self) -> None:
-        log, later, _ = self.logs()
+        nodes, (log, later, _) = self.logs()
         a, b, c = (said_message(1, bytes(8), text) for text in (b"a", b"b", b"c"))
         self.fill(log, 0, (0, a), (1, SEAL), (0, b), (2, SEAL), (0, c), (2, SEAL))
         self.assertEqual((log.count(), log.sealed, log.is_left(), log.is_over()), (2, 2, True, False))
         self.assertEqual([it.payload for it in log.fresh()], [b"a", b"b"])
-        decide([log, later])
+        nodes.judge([log, later])
         self.assertFalse(log.is_decided)
         self.fill(later, 1, (1, ends_message({0: 3})))
-        decide([log, later])
+        nodes.judge([log, later])
         self.assertEqual((log.count(), log.is_over()), (3, True))
         self.assertEqual(log.fresh(), [RoomEntry(1, 0, 3, b"c")])
 
     def test_without_ends_the_marker_is_the_end(self) -> None:
-        log, later, _ = self.logs()
+        nodes, (log, later, _) = self.logs()
         self.fill(log, 0, (2, SEAL), (0, said_message(1, bytes(8), b"a")), (0, b"\0"))
         self.assertEqual((log.count(), log.is_over()), (0, False))
         self.fill(later, 1, (1, said_message(1, bytes(8), b"b")))
-        decide([log, later])
+        nodes.judge([log, later])
         self.assertEqual((log.count(), log.is_over()), (2, True))
 
     def test_a_generation_in_which_nothing_counts_decides_nothing(self) -> None:
-        first, second, third = self.logs()
+        nodes, (first, second, third) = self.logs()
         self.fill(first, 0, (0, said_message(1, bytes(8), b"a")), (2, SEAL))
         self.fill(second, 1, (2, SEAL), (1, ends_message({0: 0})))
         self.fill(third, 2, (2, ends_message({0: 1, 1: 0})))
-        decide([first, second, third])
+        nodes.judge([first, second, third])
         self.assertEqual((first.count(), first.is_over()), (1, True))
         self.assertEqual((second.count(), second.is_over()), (0, True))
-        first, second, third = self.logs()
+        nodes, (first, second, third) = self.logs()
         self.fill(first, 0, (0, said_message(1, bytes(8), b"a")), (2, SEAL))
         self.fill(second, 1, (1, b"\0"))
-        decide([first, second, third])
+        nodes.judge([first, second, third])
         self.assertFalse(first.is_over())
         self.fill(third, 2, (2, ends_message({0: 1})))
-        decide([first, second, third])
+        nodes.judge([first, second, third])
         self.assertTrue(first.is_over() and second.is_over())
+
+    def test_a_generation_whose_end_nothing_shows_is_skipped(self) -> None:
+        a, b = (said_message(1, bytes(8), text) for text in (b"a", b"b"))
+        for is_missing in (True, False):
+            with self.subTest(is_missing=is_missing):
+                nodes, (first, second, third) = self.logs()
+                self.fill(first, 0, (0, a), (0, b))
+                self.fill(third, 2, (2, a))
+                second.is_gone = True
+                logs = [first, third] if is_missing else [first, second, third]
+                nodes.judge(logs)
+                self.assertFalse(first.is_decided or first.is_over())
+                self.fill(first, 0, (2, SEAL), (0, b))
+                nodes.judge(logs)
+                self.assertEqual((first.is_gone, first.is_decided, first.count()), (True, False, 2))
+
+    def test_a_known_end_is_kept(self) -> None:
+        nodes, (log, later, third) = self.logs()
+        self.fill(later, 1, (1, ends_message({0: 2})))
+        self.fill(third, 2, (2, said_message(1, bytes(8), b"c")))
+        nodes.judge([log, later])
+        again = LedLog(0, nodes, 2)
+        self.fill(again, 0, *((0, said_message(1, bytes(8), text)) for text in (b"a", b"b", b"c")))
+        nodes.judge([again, third])
+        self.assertEqual((again.count(), again.is_over(), again.is_gone), (2, True, False))
 
 
 class AsyncOrderTests(unittest.IsolatedAsyncioTestCase):
