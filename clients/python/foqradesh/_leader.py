@@ -244,7 +244,7 @@ class LedSpeaker(Speaker):
         number, message = RoomNumber(generation, 1), ends_message(ends)
         try:
             yield from self._settled(message, number, repeated=False)
-        except WrongPhaseError:
+        except (WrongPhaseError, NoGroupError):
             yield from self._led.start(generation, end)
             yield from self._settled(message, number, repeated=False)
 
@@ -406,7 +406,8 @@ class LedSpeaker(Speaker):
         except (BudgetError, BytesError):
             self._open, self.speech.is_full = None, True
             return None
-        except WrongPhaseError:
+        except (WrongPhaseError, NoGroupError):
+            # A client has begun the generation, perhaps without the leader's node.
             self._open = None
             if self.speech.was_opened:
                 raise

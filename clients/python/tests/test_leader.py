@@ -195,6 +195,23 @@ class OrderTests(Ordered):
             room.say(b"+1", repeat=RoomNumber(0, error.number))
         self.assertEqual([it.payload for it in rooms[0].follow(idle=0.5)], [b"+1"] * 3)
 
+    def test_a_generation_that_is_half_made(self) -> None:
+        # It is made and opened at each node, also where the room's own member's node alone has it.
+        for steps in range(7):
+            with self.subTest(steps=steps):
+                cluster = timed()
+                room, clients = room_of(cluster, 0), cluster.clients()
+                for count in range(6):
+                    room.say(str(count).encode())
+                for node in ALL[:steps]:
+                    clients[node].make(7, Generation(1, 1), SPEC)
+                for node in ALL[: max(0, steps - 3)]:
+                    clients[node].open(7, Generation(1, 1))
+                self.assertEqual(room_of(cluster, 0).say(b"6"), (1, 1))
+                self.assertEqual(room_of(cluster, 2).say(b"7"), (1, 2))
+                heard = [it.payload for it in room_of(cluster, 1).follow(idle=1.0)]
+                self.assertEqual(heard, [str(count).encode() for count in range(8)])
+
     def test_what_cannot_be(self) -> None:
         cluster = timed()
         clients = cluster.clients()
@@ -418,6 +435,19 @@ class CrashTests(Ordered):
                     self.assert_one_order(heard, said)
                 else:
                     self.assertEqual([it.payload for it in heard[1]], [b"a", b"4", b"5", b"d"])
+
+    def test_the_next_generation_is_at_one_node_alone(self) -> None:
+        # The client that went on crashed too, before the next leader's node had the generation.
+        cluster = timed()
+        room = room_of(cluster, 2)
+        room.say(b"a")
+        cluster.crash(0)
+        cluster.client(2).make(7, Generation(1, 1), SPEC)
+        late = room_of(cluster, 2)
+        late.exclude(0)
+        self.assertEqual(late.say(b"b"), (1, 2))
+        self.assertEqual(cluster.payloads(1, 1)[0], ends_message({0: 1}))
+        self.assertEqual([it.payload for it in late.follow(idle=1.0)], [b"a", b"b"])
 
     def test_the_next_leader_crashes_too(self) -> None:
         cluster = timed(4)
