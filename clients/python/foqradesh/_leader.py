@@ -23,7 +23,7 @@ from ._generations import LAST_GENERATION, LIVING, MARKER, Pause, Plan, asked, b
 from ._leader_log import SEAL, LedLog, LedNodes, ends_message, said_message
 from ._reading import Ended, Reader, ReadLog
 from ._replies import Entry
-from ._speaking import AGAIN, RoomNumber, Speaker
+from ._speaking import AGAIN, RoomNumber, Speaker, Speech
 from ._words import LONGEST_PAYLOAD, MOST_ENTRIES
 
 
@@ -126,6 +126,17 @@ class LedSpeaker(Speaker):
         crashed = self._led.speaker(generation) in self._led.absent
         return crashed or self._log(generation).sealed is not None
 
+    def _go_on(self, speech: Speech, end: float) -> Plan[None]:
+        """Start the next generation, and close this one.
+
+        If this one's leader crashed before anything was said here, some nodes may lack it. It is
+        made there first, because a room at a node without it does not say its end.
+        """
+        generation = speech.generation
+        if self._is_cut(generation) and self._log(generation).place == 0:
+            yield from self._led.start(generation, end)
+        yield from super()._go_on(speech, end)
+
     def _close(self, generation: int, end: float) -> Plan[None]:
         """End the messages that count in a generation, by its leader's marker or by seals."""
         if self._log(generation).place == 0:
@@ -172,8 +183,9 @@ class LedSpeaker(Speaker):
             for log in logs[-LIVING:]:
                 is_living = yield from nodes.look(nodes.node, log.generation)
                 log.is_gone = is_living is False
-                if is_living is None:
+                if is_living is None:  # The server was started anew.
                     self._logs.pop(log.generation, None)
+                    nodes.ends.pop(log.generation, None)
         else:
             log = logs[-LIVING:][found.index]
             for entry in found.entries:

@@ -449,6 +449,32 @@ class CrashTests(Ordered):
         self.assertEqual(cluster.payloads(1, 1)[0], ends_message({0: 1}))
         self.assertEqual([it.payload for it in late.follow(idle=1.0)], [b"a", b"b"])
 
+    def test_a_generation_that_is_half_made_when_its_leader_crashes(self) -> None:
+        # Node 0 was to lead generation 1, which node 2 lacks. The room that says the first message
+        # of generation 2 has to know of it.
+        cluster = timed()
+        old, clients = room_of(cluster, 1, leader=2), cluster.clients()
+        for count in range(6):
+            old.say(str(count).encode())
+        for node in (0, 1):
+            clients[node].make(7, Generation(1, 1), SPEC)
+        cluster.crash(0)
+        rooms = [room_of(cluster, node, leader=2, patience=1.0) for node in (1, 2)]
+        rooms[0].exclude(0)
+        ends = f" 7 1.2 {ENDS.hex()}"
+        cluster.fate = lambda node, body: "no request" if ends in body else "carry"
+        self.assertRaises(TimedOutError, rooms[0].say, b"a")
+        self.assertEqual(rooms[0].generation, 2)
+        cluster.fate = lambda node, body: "carry"
+        rooms[1].exclude(0)
+        rooms[1].say(b"b")
+        rooms[0].say(b"c")
+        heard: List[List[RoomEntry]] = [[], []]
+        hear(rooms, heard, 1.0)
+        hear(rooms, heard, 1.0)
+        self.assert_one_order(heard, [*(str(count).encode() for count in range(6)), b"b", b"c"])
+        self.assertEqual(cluster.living()[1:], [[2], [2]])
+
     def test_the_next_leader_crashes_too(self) -> None:
         cluster = timed(4)
         spec = Spec("fallack", (0, 1, 2, 3), 8, 4_096, 8)
