@@ -115,8 +115,9 @@ class LedSpeaker(Speaker):
         log = self._logs.get(generation)
         if log is None:
             log = self._logs[generation] = LedLog(generation, self._led, self._led.node)
-            for old in [it for it in self._logs if it < generation - 2 * LIVING]:
-                del self._logs[old]
+            for old, known in list(self._logs.items()):
+                if old < generation - 2 * LIVING and known.is_over():
+                    del self._logs[old]
             self._others = {it: at for it, at in self._others.items() if it[1] in self._logs}
             self._seals = {it for it in self._seals if it[1] in self._logs}
         return log
@@ -468,11 +469,15 @@ class LedSpeaker(Speaker):
 
     def _wait_for(self, number: RoomNumber, message: bytes, end: float) -> Plan[bool]:
         log = self._log(number.generation)
-        while log.count() < number.number and not log.is_over():
+
+        def is_known() -> bool:
+            return log.count() >= number.number or log.is_over()
+
+        while not is_known():
             self._doubt = (number.generation, float("inf"))
             if not log.is_decided and self._led.speaker(log.generation) in self._led.absent:
                 yield from self._prepare(len(message), end)
-            elif not (yield from self._read(end)) and self._led.clock() >= end:
+            if not is_known() and not (yield from self._read(end)) and self._led.clock() >= end:
                 raise self._late("it", number.generation)
         if log.is_gone and log.count() < number.number:
             raise SpentError(f"{SpentError.text()}: {self._led.text(log.generation)}")

@@ -32,6 +32,7 @@ from foqradesh import (
     UnansweredError,
     UnknownOutcomeError,
 )
+from foqradesh._leader import LedSpeaker
 from foqradesh._leader_log import (
     ENDS,
     SEAL,
@@ -435,6 +436,54 @@ class CrashTests(Ordered):
                     self.assert_one_order(heard, said)
                 else:
                     self.assertEqual([it.payload for it in heard[1]], [b"a", b"4", b"5", b"d"])
+
+    def test_a_say_is_repeated_many_generations_later(self) -> None:
+        # The ends of the latest 16 generations are known.
+        for later, is_known in ((45, True), (120, False)):
+            with self.subTest(later=later):
+                cluster = timed()
+                spec = Spec("fmajority", ALL, 8, 4_096, 8)
+                rooms = [room_of(cluster, node, spec, patience=1_000.0) for node in ALL]
+                heard: List[List[RoomEntry]] = [[], []]
+                rooms[2].say(b"a")
+                rooms[1].exclude(0)
+                rooms[1].say(b"b")
+                cluster.fate = lambda node, body: "no reply" if body.startswith("say") else "carry"
+                self.assertRaises(TimedOutError, rooms[2].say, b"c")
+                cluster.fate = lambda node, body: "carry"
+                said = [b"a", b"b", *(str(count).encode() for count in range(later)), b"c"]
+                for text in said[2:-1]:
+                    rooms[1].say(text)
+                    hear(rooms[1:], heard)
+                hear(rooms[1:], heard, 1.0)
+                newest = cluster.living()[1][0]
+                self.assertEqual(cluster.living()[1:], [[newest], [0, newest]])
+                begun = cluster.clock()
+                if is_known:
+                    number = rooms[2].say(b"c", repeat=RoomNumber(0, 2))
+                    self.assertGreaterEqual(number.generation, newest)
+                else:
+                    with self.assertRaises(UnknownOutcomeError) as caught:
+                        rooms[2].say(b"c", repeat=RoomNumber(0, 2))
+                    self.assertIsInstance(caught.exception.__cause__, SpentError)
+                    rooms[2].say(b"c")
+                self.assertLess(cluster.clock() - begun, 1.0)
+                hear(rooms[1:], heard, 1.0)
+                self.assert_one_order(heard, said)
+
+    def test_a_wait_for_what_nothing_shows_ends_in_time(self) -> None:
+        cluster = timed()
+        room = room_of(cluster, 2, patience=1.0)
+        room.join()
+        cluster.held = {(0, 1), (0, 2)}
+        self.assertRaises(UnknownOutcomeError, room.say, b"a")
+        room.exclude(0)
+        begun = cluster.clock()
+        with mock.patch.object(LedSpeaker, "_prepare", side_effect=[iter(()) for _ in range(9)]):
+            with self.assertRaises(UnknownOutcomeError) as caught:
+                room.say(b"a", repeat=RoomNumber(0, 1))
+        self.assertIsInstance(caught.exception.__cause__, TimedOutError)
+        self.assertLess(cluster.clock() - begun, 1.1)
 
     def test_the_next_generation_is_at_one_node_alone(self) -> None:
         # The client that went on crashed too, before the next leader's node had the generation.
