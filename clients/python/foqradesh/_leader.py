@@ -420,7 +420,7 @@ class LedSpeaker(Speaker):
             self._open, self.speech.is_full = None, True
             return None
         except (WrongPhaseError, NoGroupError):
-            # A client has begun the generation, perhaps without the leader's node.
+            # A client has begun the generation, and may not have made it at the leader's node.
             self._open = None
             if self.speech.was_opened:
                 raise

@@ -437,6 +437,27 @@ class CrashTests(Ordered):
                 else:
                     self.assertEqual([it.payload for it in heard[1]], [b"a", b"4", b"5", b"d"])
 
+    def test_a_generation_between_is_read_for_an_end(self) -> None:
+        # The room speaks in generation 2, because its reader has read the one before to its end.
+        cluster = timed()
+        spec = Spec("fmajority", ALL, 8, 4_096, 8)
+        rooms = [room_of(cluster, node, spec, patience=30.0) for node in ALL]
+        rooms[2].say(b"a")
+        rooms[1].exclude(0)
+        rooms[1].say(b"b")
+        cluster.fate = lambda node, body: "no reply" if body.startswith("say") else "carry"
+        self.assertRaises(TimedOutError, rooms[2].say, b"c")
+        cluster.fate = lambda node, body: "carry"
+        for count in range(6):
+            rooms[1].say(str(count).encode())
+        self.assertEqual(len(list(rooms[2].follow(idle=1.0, drops=False))), 8)
+        self.assertEqual(cluster.living()[2], [0, 1, 2])
+        nodes = rooms[2]._plans.nodes
+        assert isinstance(nodes, LedNodes)
+        self.assertEqual(nodes.ends, {0: 1})
+        nodes.ends.clear()  # As if many generations had ended since.
+        self.assertEqual(rooms[2].say(b"c", repeat=RoomNumber(0, 2)), (2, 3))
+
     def test_a_say_is_repeated_many_generations_later(self) -> None:
         # The ends of the latest 16 generations are known.
         for later, is_known in ((45, True), (120, False)):
