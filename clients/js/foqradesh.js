@@ -2810,10 +2810,9 @@ class LedSpeaker extends Speaker {
     const named = { generation, number: this.#log(generation).messages.length + 1 };
     this.open = { named, message };
     try {
-      await this.settled(message, named, false);
+      await this.#sayNumbered(named, message, end, false);
     } catch (error) {
-      if (error instanceof UnknownOutcomeError) return named;
-      if (isOne(error, BadPlaceError, BudgetError, BytesError, WrongPhaseError, NoGroupError) || (error instanceof UnansweredError && !error.isUnknown)) this.open = null;
+      if (isOne(error, BadPlaceError, BudgetError, BytesError, WrongPhaseError, NoGroupError) || (error instanceof UnansweredError && error.generation === null)) this.open = null;
       if (error instanceof BadPlaceError) await this.#readUpTo(named, end, error);
       else if (isOne(error, BudgetError, BytesError)) speech.isFull = true;
       else if (isOne(error, WrongPhaseError, NoGroupError) && !speech.wasOpened) {
@@ -2845,15 +2844,34 @@ class LedSpeaker extends Speaker {
    */
   async #isSaidBefore(named, message, end) {
     try {
-      if (!this.#isCut(named.generation)) await this.settled(message, named, true);
+      if (!this.#isCut(named.generation)) await this.#sayNumbered(named, message, end, true);
     } catch (error) {
-      if (isOne(error, BadPlaceError, BudgetError, BytesError, TooLongError, WrongPhaseError)) {
-        this.open = null;
-        return false;
-      }
-      if (!(error instanceof UnknownOutcomeError)) throw error;
+      if (!isOne(error, BadPlaceError, BudgetError, BytesError, TooLongError, WrongPhaseError)) throw error;
+      this.open = null;
+      return false;
     }
     return this.#counts(named, message, end);
+  }
+
+  /**
+   * Says a message by the leader, with this number. Throws a refusal if it was not said. Without an error it was said, or may be. If its answer was lost and the
+   * leader's node has not opened the generation, the generation is started and the message said again.
+   * @param {RoomNumber} named
+   * @param {Uint8Array} message
+   * @param {number} end
+   * @param {boolean} isRepeated
+   */
+  async #sayNumbered(named, message, end, isRepeated) {
+    try {
+      return void (await this.settled(message, named, isRepeated));
+    } catch (error) {
+      if (!(error instanceof UnknownOutcomeError)) throw error;
+      if (!isOne(error.cause, WrongPhaseError, NoGroupError)) return;
+    }
+    await this.#inDoubt(named, this.led.start(named.generation, end));
+    await this.settled(message, named, true).catch((error) => {
+      if (!(error instanceof UnknownOutcomeError)) throw error;
+    });
   }
 
   /**
@@ -2862,20 +2880,33 @@ class LedSpeaker extends Speaker {
    * @param {Uint8Array} message
    * @param {number} end
    */
-  async #counts({ generation, number }, message, end) {
+  async #counts(named, message, end) {
     let until = this.end();
     try {
-      const counts = await this.#waitFor({ generation, number }, message, end);
+      const counts = await this.#inDoubt(named, this.#waitFor(named, message, end));
       [until, this.open] = [-Infinity, null];
       return counts;
+    } finally {
+      this.doubt = { generation: named.generation, until };
+    }
+  }
+
+  /**
+   * Returns what a promise returns. Throws UnknownOutcomeError of the message if it fails.
+   * @template T
+   * @param {RoomNumber} named
+   * @param {Promise<T>} promise
+   * @returns {Promise<T>}
+   */
+  async #inDoubt({ generation, number }, promise) {
+    try {
+      return await promise;
     } catch (error) {
       if (!(error instanceof FoqradeshError)) throw error;
       const unknown = new UnknownOutcomeError(`message ${number} of ${this.led.text(generation)} may count: ${error.message}`, number, { cause: error });
       unknown.generation = generation;
       unknown.node = error instanceof UnansweredError ? error.node : null;
       throw unknown;
-    } finally {
-      this.doubt = { generation, until };
     }
   }
 
@@ -2991,7 +3022,8 @@ export class Room {
    *
    * With a leader a payload has 4,086 bytes at most, and `repeat` is for the last say of the same room, else RangeError is thrown. Where a member crashed, the error
    * has its node as `node`: give that to `without`, and say the message again, with `repeat` if the error has a `generation`. If it led, the others seal its
-   * generation, and the next leader goes on. UnknownOutcomeError: the message was said, and is not delivered here yet. It may pass.
+   * generation, and the next leader goes on. UnknownOutcomeError: the message was said or may be, and is not delivered here yet. It may pass. If its `cause` is
+   * SpentError it does not: the generation that tells it was dropped here.
    * @param {Payload} payload
    * @param {{ repeat?: RoomNumber }} options
    * @returns {Promise<RoomNumber>}

@@ -1,8 +1,8 @@
 // Rooms with a leader, against a cluster in memory: one order at all members, also where leaders crash.
 import assert from "node:assert/strict";
 import { test } from "node:test";
-import { Cluster, drawing, plan, sleep } from "./cluster.js";
-import { BadPlaceError, BytesError, MissingTokenError, NoRoomError, Room, SpentError, TimedOutError, TooLongError, UnansweredError, UnknownOutcomeError, textOf } from "../foqradesh.js";
+import { Cluster, clock, drawing, plan, sleep } from "./cluster.js";
+import { BadPlaceError, BytesError, ConnectionFailedError, MissingTokenError, NoRoomError, Room, SpentError, TimedOutError, TooLongError, UnansweredError, UnknownOutcomeError, textOf } from "../foqradesh.js";
 
 const ALL = [0, 1, 2];
 const SPEC = { kind: "fallack", members: ALL, messages: 8, totalBytes: 4_096, window: 8 };
@@ -41,6 +41,20 @@ async function failing(promise, kind) {
   return error;
 }
 const numberOf = (error) => ({ generation: error.generation, number: error.said });
+
+/** Returns a new room of node 0, whose generation 1 these nodes have made, and none has opened. */
+async function halfMade(cluster, nodes) {
+  const room = roomOf(cluster, 0);
+  for (let count = 0; count < 6; count += 1) await room.say(`${count}`);
+  for (const node of nodes) await cluster.session(node).make(7, { group: 1, generation: 1 }, SPEC);
+  return roomOf(cluster, 0, { patience: 5 });
+}
+
+/** Has what a room says next have this fate, and nothing else. */
+function loseSay(cluster, fate) {
+  let lost = 1;
+  cluster.fate = (node, text) => (/^say .* 03/.test(text) && lost-- > 0 ? fate : "carry");
+}
 
 test("who leads", async () => {
   const cluster = new Cluster();
@@ -151,6 +165,79 @@ test("a generation that is half made is made and opened everywhere", async () =>
     assert.deepEqual(await roomOf(cluster, 0).say("6"), { generation: 1, number: 1 });
     assert.deepEqual(await roomOf(cluster, 2).say("7"), { generation: 1, number: 2 });
     assert.deepEqual((await hear(roomOf(cluster, 1), 1)).map(({ text }) => text), ["0", "1", "2", "3", "4", "5", "6", "7"]);
+  }
+});
+
+/** Says a message through a leader whose answer is lost, until it is known where to repeat it; at once if it is sent again. Returns what says it again. */
+async function losing(cluster, room, text, fate) {
+  loseSay(cluster, fate);
+  if (fate === "lose reply") return () => room.say(text);
+  const repeat = numberOf(await failing(room.say(text), TimedOutError));
+  assert.deepEqual(repeat, { generation: 1, number: 1 });
+  return () => room.say(text, { repeat });
+}
+
+test("an answer that is lost in a generation that is half made", async () => {
+  // What is said again is refused: the leader's node lacks the generation, or it is not open there.
+  for (const made of [[0], ALL]) {
+    for (const fate of ["no request", "no reply", "lose reply"]) {
+      const cluster = new Cluster();
+      const say = await losing(cluster, await halfMade(cluster, made), "6", fate);
+      assert.deepEqual(await say(), { generation: 1, number: 1 });
+      assert.deepEqual(await roomOf(cluster, 2).say("7"), { generation: 1, number: 2 });
+      assert.deepEqual((await hear(roomOf(cluster, 2), 1)).map(({ text }) => text), ["0", "1", "2", "3", "4", "5", "6", "7"]);
+    }
+  }
+});
+
+test("another room says something while this one starts a generation in which its answer was lost", async () => {
+  for (const fate of ["no reply", "lose reply"]) {
+    const cluster = new Cluster();
+    const other = roomOf(cluster, 2);
+    const say = await losing(cluster, await halfMade(cluster, ALL), "7", fate);
+    const fates = cluster.fate;
+    cluster.fate = async (node, text) => {
+      if (text.startsWith("make")) {
+        cluster.fate = fates;
+        assert.deepEqual(await other.say("6"), { generation: 1, number: 1 });
+      }
+      return fates(node, text);
+    };
+    assert.deepEqual(await say(), { generation: 1, number: 2 });
+    assert.deepEqual((await hear(roomOf(cluster, 1), 1)).map(({ text }) => text), ["0", "1", "2", "3", "4", "5", "6", "7"]);
+  }
+});
+
+test("a crash while an answer is lost in a generation that is half made", async () => {
+  for (const fate of ["no reply", "lose reply"]) {
+    const cluster = new Cluster();
+    const room = await halfMade(cluster, [0]);
+    const say = await losing(cluster, room, "6", fate);
+    cluster.crash(2);
+    const error = await failing(say(), UnknownOutcomeError);
+    assert.deepEqual([numberOf(error), error.node], [{ generation: 1, number: 1 }, 2]);
+    assert.ok(error.cause instanceof ConnectionFailedError);
+    room.without(2);
+    assert.deepEqual(await room.say("6", { repeat: numberOf(error) }), { generation: 1, number: 1 });
+    assert.deepEqual((await hear(room, 1)).map(({ text }) => text), ["0", "1", "2", "3", "4", "5", "6"]);
+  }
+});
+
+test("a leader that crashes when its half made generation is started", async () => {
+  for (const fate of ["no reply", "lose reply"]) {
+    const cluster = new Cluster();
+    const room = await halfMade(cluster, ALL);
+    const say = await losing(cluster, room, "6", fate);
+    const fates = cluster.fate;
+    cluster.fate = (node, text) => {
+      if (node === 2 && text.startsWith("open")) cluster.crash(1);
+      return fates(node, text);
+    };
+    const error = await failing(say(), ConnectionFailedError);
+    assert.deepEqual([numberOf(error), error.node], [{ generation: 1, number: 1 }, 1]);
+    room.without(1);
+    assert.deepEqual(await room.say("6", { repeat: numberOf(error) }), { generation: 2, number: 2 });
+    assert.deepEqual((await hear(room, 1)).map(({ text }) => text), ["0", "1", "2", "3", "4", "5", "6"]);
   }
 });
 

@@ -2,7 +2,7 @@
 
 from __future__ import annotations
 
-from typing import Dict, List, Optional, Sequence, Set, Tuple
+from typing import Dict, List, Optional, Sequence, Set, Tuple, TypeVar
 
 from ._errors import (
     BadPlaceError,
@@ -25,6 +25,8 @@ from ._reading import Ended, Reader, ReadLog
 from ._replies import Entry
 from ._speaking import AGAIN, RoomNumber, Speaker, Speech
 from ._words import LONGEST_PAYLOAD, MOST_ENTRIES
+
+T = TypeVar("T")
 
 
 class LedReader(Reader):
@@ -407,7 +409,7 @@ class LedSpeaker(Speaker):
         number = RoomNumber(generation, len(self._log(generation).messages) + 1)
         self._open = (number, message)
         try:
-            yield from self._settled(message, number, repeated=False)
+            yield from self._say_numbered(number, message, end, repeated=False)
         except BadPlaceError:
             self._open = None
             while len(self._log(generation).messages) < number.number:
@@ -428,10 +430,8 @@ class LedSpeaker(Speaker):
             yield from self._led.start(generation, end)
             speech.was_opened = True
             return None
-        except UnknownOutcomeError:
-            pass
         except UnansweredError as error:
-            if not error.is_unknown:
+            if error.generation is None:
                 self._open = None
             raise
         return number
@@ -440,13 +440,31 @@ class LedSpeaker(Speaker):
         """Find out whether a message counts whose reply was lost."""
         if not self._is_cut(number.generation):
             try:
-                yield from self._settled(message, number, repeated=True)
+                yield from self._say_numbered(number, message, end, repeated=True)
             except (BadPlaceError, BudgetError, BytesError, TooLongError, WrongPhaseError):
                 self._open = None
                 return False
-            except UnknownOutcomeError:
-                pass
         return (yield from self._counts(number, message, end))
+
+    def _say_numbered(
+        self, number: RoomNumber, message: bytes, end: float, *, repeated: bool
+    ) -> Plan[None]:
+        """Say a message by the leader, with this number. Raises a refusal if it was not said.
+
+        Without an error it was said, or may be. If its reply was lost and the leader's node has not
+        opened the generation, the generation is started and the message said again.
+        """
+        try:
+            yield from self._settled(message, number, repeated=repeated)
+            return
+        except UnknownOutcomeError as error:
+            if not isinstance(error.__cause__, (WrongPhaseError, NoGroupError)):
+                return
+        yield from self._in_doubt(number, self._led.start(number.generation, end))
+        try:
+            yield from self._settled(message, number, repeated=True)
+        except UnknownOutcomeError:
+            pass
 
     def _counts(self, number: RoomNumber, message: bytes, end: float) -> Plan[bool]:
         """Wait until it is known whether a said message counts, that is, has this number.
@@ -455,17 +473,22 @@ class LedSpeaker(Speaker):
         """
         until = self.end()
         try:
-            counts = yield from self._wait_for(number, message, end)
+            counts = yield from self._in_doubt(number, self._wait_for(number, message, end))
             until, self._open = float("-inf"), None
             return counts
+        finally:
+            self._doubt = (number.generation, until)
+
+    def _in_doubt(self, number: RoomNumber, plan: Plan[T]) -> Plan[T]:
+        """Return what a plan returns. Raises UnknownOutcomeError of the message if it fails."""
+        try:
+            return (yield from plan)
         except FoqradeshError as error:
             text = f"message {number.number} of {self._led.text(number.generation)} may count: {error}"
             unknown = UnknownOutcomeError(text, number=number.number)
             unknown.generation = number.generation
             unknown.node = error.node if isinstance(error, UnansweredError) else None
             raise unknown from error
-        finally:
-            self._doubt = (number.generation, until)
 
     def _wait_for(self, number: RoomNumber, message: bytes, end: float) -> Plan[bool]:
         log = self._log(number.generation)

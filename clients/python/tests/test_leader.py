@@ -20,6 +20,7 @@ from foqradesh import (
     AsyncRoom,
     BadPlaceError,
     BytesError,
+    ConnectionFailedError,
     Generation,
     NoRoomError,
     Room,
@@ -35,6 +36,7 @@ from foqradesh import (
 from foqradesh._leader import LedSpeaker
 from foqradesh._leader_log import (
     ENDS,
+    SAID,
     SEAL,
     LedLog,
     LedNodes,
@@ -93,6 +95,27 @@ def room_of(
     room = Room(cluster.clients(), 7, 1, spec, node=node, leader=leader, patience=patience)
     room._sleep = cluster.sleep
     return room
+
+
+def half_made(cluster: Cluster, nodes: Sequence[int]) -> Room:
+    """Return a new room at node 0, whose generation 1 these nodes have made, and not opened."""
+    room = room_of(cluster, 0)
+    for count in range(6):
+        room.say(str(count).encode())
+    for node in nodes:
+        cluster.client(node).make(7, Generation(1, 1), SPEC)
+    return room_of(cluster, 0)
+
+
+def lose_say(cluster: Cluster, fate: str) -> None:
+    """Let the next message of a room have this fate, and nothing else."""
+    fates = [fate]
+
+    def draw(node: int, body: str) -> str:
+        is_said = body.startswith("say") and f" {SAID.hex()}" in body
+        return fates.pop() if is_said and fates else "carry"
+
+    cluster.fate = draw
 
 
 class Ordered(unittest.TestCase):
@@ -212,6 +235,96 @@ class OrderTests(Ordered):
                 self.assertEqual(room_of(cluster, 2).say(b"7"), (1, 2))
                 heard = [it.payload for it in room_of(cluster, 1).follow(idle=1.0)]
                 self.assertEqual(heard, [str(count).encode() for count in range(8)])
+
+    def test_a_reply_that_is_lost_in_a_generation_that_is_half_made(self) -> None:
+        # The say is refused when it is repeated: the leader's node lacks the generation, or it is
+        # not open there.
+        for made in (ALL[:1], ALL):
+            for fate in ("no request", "no reply", "lose reply"):
+                with self.subTest(made=made, fate=fate):
+                    cluster = timed()
+                    late = half_made(cluster, made)
+                    lose_say(cluster, fate)
+                    repeat: Optional[RoomNumber] = None
+                    if fate != "lose reply":
+                        self.assertRaises(TimedOutError, late.say, b"6")
+                        repeat = RoomNumber(1, 1)
+                    self.assertEqual(late.say(b"6", repeat=repeat), (1, 1))
+                    self.assertEqual(room_of(cluster, 2).say(b"7"), (1, 2))
+                    heard = [it.payload for it in room_of(cluster, 2).follow(idle=1.0)]
+                    self.assertEqual(heard, [str(count).encode() for count in range(8)])
+
+    def test_a_number_that_another_message_has_in_a_generation_that_is_half_made(self) -> None:
+        # Another room says a message while this one starts the generation.
+        for fate in ("no reply", "lose reply"):
+            with self.subTest(fate=fate):
+                cluster = timed()
+                late, other = half_made(cluster, ALL), room_of(cluster, 2)
+                lose_say(cluster, fate)
+                repeat: Optional[RoomNumber] = None
+                if fate != "lose reply":
+                    self.assertRaises(TimedOutError, late.say, b"7")
+                    repeat = RoomNumber(1, 1)
+                fates = cluster.fate
+
+                def before_it(node: int, body: str) -> str:
+                    if body.startswith("make"):
+                        cluster.fate = fates
+                        self.assertEqual(other.say(b"6"), (1, 1))
+                    return fates(node, body)
+
+                cluster.fate = before_it
+                self.assertEqual(late.say(b"7", repeat=repeat), (1, 2))
+                heard = [it.payload for it in room_of(cluster, 1).follow(idle=1.0)]
+                self.assertEqual(heard, [str(count).encode() for count in range(8)])
+
+    def test_a_crash_while_a_reply_is_lost_in_a_generation_that_is_half_made(self) -> None:
+        for fate in ("no reply", "lose reply"):
+            with self.subTest(fate=fate):
+                cluster = timed()
+                late = half_made(cluster, ALL[:1])
+                lose_say(cluster, fate)
+                repeat: Optional[RoomNumber] = None
+                if fate != "lose reply":
+                    self.assertRaises(TimedOutError, late.say, b"6")
+                    repeat = RoomNumber(1, 1)
+                cluster.crash(2)
+                with self.assertRaises(UnknownOutcomeError) as caught:
+                    late.say(b"6", repeat=repeat)
+                error = caught.exception
+                self.assertEqual((error.generation, error.number, error.node), (1, 1, 2))
+                self.assertIsInstance(error.__cause__, ConnectionFailedError)
+                late.exclude(2)
+                self.assertEqual(late.say(b"6", repeat=RoomNumber(1, 1)), (1, 1))
+                heard = [it.payload for it in late.follow(idle=1.0)]
+                self.assertEqual(heard, [str(count).encode() for count in range(7)])
+
+    def test_a_leader_that_crashes_when_its_half_made_generation_is_started(self) -> None:
+        for fate in ("no reply", "lose reply"):
+            with self.subTest(fate=fate):
+                cluster = timed()
+                late = half_made(cluster, ALL)
+                lose_say(cluster, fate)
+                repeat: Optional[RoomNumber] = None
+                if fate != "lose reply":
+                    self.assertRaises(TimedOutError, late.say, b"6")
+                    repeat = RoomNumber(1, 1)
+                fates = cluster.fate
+
+                def after_it(node: int, body: str) -> str:
+                    if node == 2 and body.startswith("open"):
+                        cluster.crash(1)
+                    return fates(node, body)
+
+                cluster.fate = after_it
+                with self.assertRaises(ConnectionFailedError) as caught:
+                    late.say(b"6", repeat=repeat)
+                error = caught.exception
+                self.assertEqual((error.generation, error.number, error.node), (1, 1, 1))
+                late.exclude(1)
+                self.assertEqual(late.say(b"6", repeat=RoomNumber(1, 1)), (2, 2))
+                heard = [it.payload for it in late.follow(idle=1.0)]
+                self.assertEqual(heard, [str(count).encode() for count in range(7)])
 
     def test_what_cannot_be(self) -> None:
         cluster = timed()
