@@ -2268,7 +2268,7 @@ class LedNodes extends Nodes {
       const isMissing = later.generation !== next;
       const first = isMissing ? null : later.first();
       if (first !== null) this.ends.set(log.generation, readEnds(first).get(log.generation) ?? null);
-      else if (isMissing || later.isGone) log.isGone ||= log.sealed !== null;
+      else if (isMissing || later.isLost()) log.isSkipped = log.sealed !== null;
       else if (later.isOver()) continue;
       break;
     }
@@ -2312,6 +2312,8 @@ class LedLog extends ReadLog {
      * @type {number | null}
      */
     this.sealed = null;
+    /** It is sealed, and no later generation here tells any more how it ends. */
+    this.isSkipped = false;
     /** Whether a later generation tells how this one ends. */
     this.isDecided = false;
     /**
@@ -2335,6 +2337,11 @@ class LedLog extends ReadLog {
     } else if (origin === this.node && areEqual(payload, SEAL)) this.sealed ??= this.messages.length;
   }
 
+  /** Returns true if it was dropped here, or is passed over. */
+  isLost() {
+    return this.isGone || this.isSkipped;
+  }
+
   /** Returns true if the members go on to the next generation. */
   isLeft() {
     return this.isGone || this.last !== null || this.sealed !== null;
@@ -2353,10 +2360,10 @@ class LedLog extends ReadLog {
     if (!this.isDecided) [this.isDecided, this.end] = [true, end];
   }
 
-  /** Returns true if all messages that count were read. */
+  /** Returns true if all messages that count were read, or the others cannot be known here. */
   isOver() {
     const end = Math.min(this.last ?? Infinity, this.end ?? Infinity);
-    return this.isGone || this.count() >= end;
+    return this.isLost() || this.count() >= end;
   }
 
   /** Returns the first message that counts and is no marker, if one is known, or null. */
@@ -2387,8 +2394,9 @@ class LedReader extends Reader {
     super(nodes, speaker);
     this.led = nodes;
     /**
-     * How many messages of the leader count in a generation that was sealed and read.
-     * @type {Map<number, number>}
+     * How many messages of the leader each other node has in the end, in a generation that was sealed and read: those that count; null: it is passed over, so as
+     * many as this node.
+     * @type {Map<number, number | null>}
      */
     this.counts = new Map();
   }
@@ -2426,7 +2434,7 @@ class LedReader extends Reader {
 
   /** @param {ReadLog} log */
   needed(log) {
-    if (log instanceof LedLog && log.place !== log.messages.length) this.counts.set(log.generation, log.count());
+    if (log instanceof LedLog && log.place !== log.messages.length) this.counts.set(log.generation, log.isSkipped ? null : log.count());
     return log.place;
   }
 
@@ -2434,21 +2442,33 @@ class LedReader extends Reader {
   async keepUp() {}
 
   /**
-   * Finds out whether a node has all messages that count. In a generation that was sealed other messages stand too, and in another place at each node.
+   * Finds out whether a node has all messages that count, or that stand here. In a generation that was sealed other messages stand too, and in another place at
+   * each node.
    * @param {number} node
    * @param {Ended} ended
    * @returns {Promise<boolean>}
    */
   async hasAll(node, ended) {
-    const count = this.counts.get(ended.generation);
-    if (count === undefined) return super.hasAll(node, ended);
-    const log = new LedLog(ended.generation, this.led, node);
-    while (log.messages.length < count) {
-      const entries = await this.led.ask(node, (it) => it.fetch(this.led.tenant, this.led.name(log.generation), log.place));
-      if (entries.length === 0) return false;
+    const known = this.counts.get(ended.generation);
+    if (known === undefined) return super.hasAll(node, ended);
+    const count = known ?? (await this.#held(this.led.node, ended.generation, this.led.spec.messages));
+    return (await this.#held(node, ended.generation, count)) >= count;
+  }
+
+  /**
+   * Returns how many messages of the leader stand in a node's log. It may end at `most`.
+   * @param {number} node
+   * @param {number} generation
+   * @param {number} most
+   */
+  async #held(node, generation, most) {
+    const log = new LedLog(generation, this.led, node);
+    while (log.messages.length < most) {
+      const entries = await this.led.ask(node, (it) => it.fetch(this.led.tenant, this.led.name(generation), log.place));
+      if (entries.length === 0) break;
       this.take(log, entries);
     }
-    return true;
+    return log.messages.length;
   }
 }
 
@@ -2746,7 +2766,7 @@ class LedSpeaker extends Speaker {
       if (this.#log(generation).place === 0) await this.#readAll();
       if (!this.#isCut(generation)) await this.#begin(generation, end);
       const log = this.#log(generation);
-      if (log.isGone) {
+      if (log.isLost()) {
         this.speech = null;
         continue;
       }
@@ -2923,7 +2943,7 @@ class LedSpeaker extends Speaker {
       if (!log.isDecided && this.led.absent.has(log.leader)) await this.#prepare(message.length, end);
       if (!isKnown() && !(await this.#read(end)) && now() >= end) throw this.#late("it", generation);
     }
-    if (log.isGone && log.count() < number) throw new SpentError(`refused 3 Spent: ${this.led.text(generation)}`);
+    if (log.isLost() && log.count() < number) throw new SpentError(`refused 3 Spent: ${this.led.text(generation)}`);
     return log.count() >= number && areEqual(log.messages[number - 1], message);
   }
 }
@@ -3037,7 +3057,8 @@ export class Room {
    *
    * It begins with the oldest generation that lives at the node, of the 16 up to the newest. Each member's messages come in the order of their generations.
    * Within a generation they have the order in which the node delivered them. A generation that was read to its end is dropped at this node, once each other
-   * running member's node has its whole log; with `drops` false, and by a guest, nothing is dropped. It connects again where a connection ended.
+   * running member's node has its whole log; with `drops` false, and by a guest, nothing is dropped. With a leader a sealed generation is passed over if the one
+   * that tells its end was dropped here, and is then treated as read to its end. It connects again where a connection ended.
    * @param {{ idle?: number, drops?: boolean, signal?: AbortSignal }} options
    * @returns {AsyncGenerator<RoomEntry, void, void>}
    */

@@ -412,6 +412,34 @@ test("what was said behind the seals is not taken as said, however far the room 
   }
 });
 
+test("a sealed generation that is passed over is dropped", async () => {
+  // A room keeps generation 0, as its say is in doubt, and drops the one that tells its end. Then it crashes, or speaks.
+  for (const isNew of [true, false]) {
+    const cluster = new Cluster();
+    const rooms = roomsOf(cluster, { patience: 30 }, MAJORITY);
+    await rooms[2].say("a");
+    rooms[1].without(0);
+    await rooms[1].say("b");
+    loseSay(cluster, "no reply");
+    await failing(rooms[2].say("c"), TimedOutError);
+    for (let count = 0; count < 6; count += 1) await rooms[1].say(`${count}`);
+    if (isNew) {
+      for (const _ of [1, 2]) await hearAll(rooms.slice(1), [[], []], 1);
+      rooms[2] = roomOf(cluster, 2, {}, MAJORITY);
+    } else await cluster.session(2).drop(7, { group: 1, generation: 1 });
+    assert.deepEqual(cluster.generations(2), [0, 2]);
+    const heard = [[], []];
+    for (const _ of [1, 2]) await hearAll(rooms.slice(1), heard, 1);
+    assert.deepEqual(heard[1].map(({ text }) => text), ["a", "4", "5"]);
+    if (!isNew) {
+      assert.deepEqual(cluster.living().slice(1), [[2], [0, 2]]);
+      await rooms[2].say("d");
+      await hearAll(rooms.slice(1), heard, 1);
+    }
+    assert.deepEqual(cluster.living().slice(1), [[2], [2]]);
+  }
+});
+
 test("a generation whose leader crashed before it was made at each node is sealed at each", async () => {
   // Node 0 has begun generation 1, which it was to lead, and crashes. Whoever says the first message of generation 2 has to know of it.
   const cluster = new Cluster();
@@ -501,15 +529,17 @@ test("what goes over the wire is what the Python package says", async (context) 
 });
 
 /** Makes and opens generations by hand. Returns what says a text of hexadecimal digits there, and what reads at node 2 what is new. */
-async function byHand(generations) {
+async function byHand(generations, spec = SPEC) {
   const cluster = new Cluster();
   const sessions = cluster.sessions();
   for (let generation = 0; generation < generations; generation += 1) {
-    for (const node of ALL) await sessions[node].make(7, { group: 1, generation }, SPEC);
+    for (const node of ALL) await sessions[node].make(7, { group: 1, generation }, spec);
     for (const node of ALL) await sessions[node].open(7, { group: 1, generation });
   }
-  const reader = roomOf(cluster, 2);
+  const reader = roomOf(cluster, 2, {}, spec);
   return {
+    cluster,
+    reader,
     say: (node, generation, text) => sessions[node].say(7, { group: 1, generation }, Buffer.from(text, "hex")),
     drop: (node, generation) => sessions[node].drop(7, { group: 1, generation }),
     read: async () => (await hear(reader, 0.5)).map(({ origin, generation, number, text }) => `${origin}: ${generation}.${number} ${text}`),
@@ -553,6 +583,28 @@ test("a generation whose end nothing tells any more is passed over", async () =>
   await drop(2, 1);
   await say(2, 2, `${SAID}61`);
   assert.deepEqual(await read(), ["1: 2.1 a"]);
+});
+
+test("a generation that is passed over is dropped when each node has its messages", async () => {
+  // Node 1 lacks messages that stand behind the seal at node 2. They may count, and node 2 has to relay them. One comes only after the generation was passed over.
+  const { cluster, reader, say, read, drop } = await byHand(3, MAJORITY);
+  reader.without(0);
+  cluster.hold("0-1", "2-1");
+  await say(2, 0, SEAL);
+  await say(0, 0, `${SAID}61`);
+  await drop(2, 1);
+  assert.deepEqual(await read(), []);
+  assert.deepEqual([cluster.payloads(1, 0).length, cluster.generations(2)], [0, [0, 2]]);
+  const relayed = cluster.nodes[2].living.get("7 1").waiting.get(1);
+  await say(0, 0, `${SAID}62`);
+  const late = relayed.pop();
+  assert.deepEqual(late, { origin: 0, number: 2 });
+  cluster.hold("0-1");
+  assert.deepEqual(await read(), []);
+  assert.deepEqual([cluster.payloads(1, 0).length, cluster.generations(2)], [2, [0, 2]]);
+  relayed.push(late);
+  assert.deepEqual(await read(), []);
+  assert.deepEqual([cluster.payloads(1, 0).length, cluster.generations(2)], [3, [2]]);
 });
 
 test("a room that comes after a crash", async () => {

@@ -36,9 +36,9 @@ class LedReader(Reader):
         """Make a reader that has read nothing."""
         super().__init__(nodes, speaker)
         self._led = nodes
-        # The number of the leader's messages that count, for each generation that was sealed and
-        # read.
-        self._counts: Dict[int, int] = {}
+        # How many of the leader's messages each other node has in the end, for each generation that
+        # was sealed and read: those that count. None: it is skipped, so as many as this node has.
+        self._counts: Dict[int, Optional[int]] = {}
 
     def _new_log(self, generation: int) -> LedLog:
         return LedLog(generation, self._led, self._led.node)
@@ -65,7 +65,7 @@ class LedReader(Reader):
 
     def _needed(self, log: ReadLog) -> int:
         if isinstance(log, LedLog) and log.place != len(log.messages):
-            self._counts[log.generation] = log.count()
+            self._counts[log.generation] = None if log.is_skipped else log.count()
         return log.place
 
     def keep_up(self) -> Plan[None]:
@@ -73,23 +73,30 @@ class LedReader(Reader):
         yield from ()
 
     def _has_all(self, node: int, ended: Ended) -> Plan[bool]:
-        """Find out whether a node has all messages of a generation that count.
+        """Find out whether a node has all messages of a generation that count, or that are here.
 
         A generation that was sealed has other messages too, at another index at each node.
         """
-        count = self._counts.get(ended.generation)
-        if count is None:
+        generation = ended.generation
+        if generation not in self._counts:
             return (yield from super()._has_all(node, ended))
-        log = LedLog(ended.generation, self._led, node)
-        words, name = self._led.words[node], self._led.name(ended.generation)
-        while len(log.messages) < count:
+        count = self._counts[generation]
+        if count is None:
+            count = yield from self._held(self._led.node, generation, self._led.spec.messages)
+        return (yield from self._held(node, generation, count)) >= count
+
+    def _held(self, node: int, generation: int, most: int) -> Plan[int]:
+        """Return how many of the leader's messages a node's log has. It may stop at `most`."""
+        log = LedLog(generation, self._led, node)
+        words, name = self._led.words[node], self._led.name(generation)
+        while len(log.messages) < most:
             entries = yield from asked(
                 node, words.fetch(self._led.tenant, name, log.place, MOST_ENTRIES)
             )
             if not entries:
-                return False
+                break
             self._take(log, entries)
-        return True
+        return len(log.messages)
 
 
 class LedSpeaker(Speaker):
@@ -356,7 +363,7 @@ class LedSpeaker(Speaker):
             if not self._is_cut(generation):
                 yield from self._begin(generation, end)
             speech, log = self.speech, self._log(generation)
-            if log.is_gone:
+            if log.is_lost():
                 self.speech = None
                 continue
             speech.next, speech.used = len(log.messages) + 1, log.used
@@ -502,6 +509,6 @@ class LedSpeaker(Speaker):
                 yield from self._prepare(len(message), end)
             if not is_known() and not (yield from self._read(end)) and self._led.clock() >= end:
                 raise self._late("it", number.generation)
-        if log.is_gone and log.count() < number.number:
+        if log.is_lost() and log.count() < number.number:
             raise SpentError(f"{SpentError.text()}: {self._led.text(log.generation)}")
         return log.count() >= number.number and log.messages[number.number - 1] == message

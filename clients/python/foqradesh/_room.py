@@ -156,6 +156,9 @@ class Room(RoomBase):
         the order in which the node delivered them. A generation that was never made here, or that
         another client has dropped, is skipped.
 
+        With a leader a sealed generation is skipped too if the one that shows its end was dropped
+        here. Then it is treated as read to its end.
+
         A generation that was read to its end is dropped at this node, once the entry behind it is
         asked for and each other running member's node has its whole log: a drop discards the
         messages that wait for others. With `drops` False nothing is dropped; all readers of one

@@ -571,6 +571,68 @@ class CrashTests(Ordered):
         nodes.ends.clear()  # As if many generations had ended since.
         self.assertEqual(rooms[2].say(b"c", repeat=RoomNumber(0, 2)), (2, 3))
 
+    def test_a_sealed_generation_that_is_skipped_is_dropped(self) -> None:
+        # A room keeps generation 0, because its say is in doubt, and drops the one that shows its
+        # end. Then it crashes, or speaks.
+        for is_new in (True, False):
+            with self.subTest(is_new=is_new):
+                cluster = timed()
+                spec = Spec("fmajority", ALL, 8, 4_096, 8)
+                rooms = [room_of(cluster, node, spec, patience=30.0) for node in ALL]
+                heard: List[List[RoomEntry]] = [[], []]
+                rooms[2].say(b"a")
+                rooms[1].exclude(0)
+                rooms[1].say(b"b")
+                lose_say(cluster, "no reply")
+                self.assertRaises(TimedOutError, rooms[2].say, b"c")
+                for count in range(6):
+                    rooms[1].say(str(count).encode())
+                if is_new:
+                    hear(rooms[1:], heard, 1.0)
+                    hear(rooms[1:], heard, 1.0)
+                    rooms[2] = room_of(cluster, 2, spec)
+                else:
+                    cluster.client(2).drop(7, Generation(1, 1))
+                self.assertEqual(cluster.living()[2], [0, 2])
+                heard = [[], []]
+                hear(rooms[1:], heard, 1.0)
+                hear(rooms[1:], heard, 1.0)
+                self.assertEqual([it.payload for it in heard[1]], [b"a", b"4", b"5"])
+                if not is_new:
+                    self.assertEqual(cluster.living()[1:], [[2], [0, 2]])
+                    rooms[2].say(b"d")
+                    hear(rooms[1:], heard, 1.0)
+                self.assertEqual(cluster.living()[1:], [[2], [2]])
+
+    def test_a_generation_that_is_skipped_is_dropped_when_each_node_has_its_messages(self) -> None:
+        # Node 1 lacks messages that are behind the seal at node 2. They may count, and node 2 has
+        # to relay them. One comes only after the generation was skipped.
+        cluster = timed()
+        spec = Spec("fmajority", ALL, 8, 4_096, 8)
+        clients = cluster.clients()
+        for generation in range(3):
+            for node in ALL:
+                clients[node].make(7, Generation(1, generation), spec)
+                clients[node].open(7, Generation(1, generation))
+        cluster.held = {(0, 1), (2, 1)}
+        clients[2].say(7, 1, SEAL)
+        clients[0].say(7, 1, said_message(2, bytes(8), b"a"))
+        clients[2].drop(7, Generation(1, 1))
+        room = room_of(cluster, 2, spec)
+        room.exclude(0)
+        self.assertEqual(list(room.follow(idle=1.0)), [])
+        self.assertEqual((cluster.payloads(1, 0), cluster.living()[2]), ([], [0, 2]))
+        relayed = cluster.nodes[2].living[7, Generation(1, 0)].waiting[1]
+        late = said_message(2, bytes(8), b"b")
+        clients[0].say(7, 1, late)
+        self.assertEqual((relayed.pop(), cluster.payloads(2, 0)[-1]), ((0, 2), late))
+        cluster.held = {(0, 1)}
+        self.assertEqual(list(room.follow(idle=1.0)), [])
+        self.assertEqual((len(cluster.payloads(1, 0)), cluster.living()[2]), (2, [0, 2]))
+        relayed.append((0, 2))
+        self.assertEqual(list(room.follow(idle=1.0)), [])
+        self.assertEqual((len(cluster.payloads(1, 0)), cluster.living()[2]), (3, [2]))
+
     def test_a_say_is_repeated_many_generations_later(self) -> None:
         # The ends of the latest 16 generations are known.
         for later, is_known in ((45, True), (120, False)):
@@ -897,7 +959,9 @@ class LogTests(unittest.TestCase):
                 self.assertFalse(first.is_decided or first.is_over())
                 self.fill(first, 0, (2, SEAL), (0, b))
                 nodes.judge(logs)
-                self.assertEqual((first.is_gone, first.is_decided, first.count()), (True, False, 2))
+                self.assertTrue(first.is_skipped and first.is_over())
+                self.assertFalse(first.is_gone or first.is_decided)
+                self.assertEqual(first.count(), 2)
 
     def test_a_known_end_is_kept(self) -> None:
         nodes, (log, later, third) = self.logs()
