@@ -99,6 +99,20 @@ class LedReader(Reader):
         return len(log.messages)
 
 
+class SpokenLog(LedLog):
+    """The log of a generation in which a member speaks.
+
+    `others` are the logs that were read at other nodes, because it is sealed. `seals` are the nodes
+    whose members have said the seal.
+    """
+
+    def __init__(self, generation: int, nodes: LedNodes) -> None:
+        """Make one of which nothing was read."""
+        super().__init__(generation, nodes, nodes.node)
+        self.others: Dict[int, LedLog] = {}
+        self.seals: Set[int] = set()
+
+
 class LedSpeaker(Speaker):
     """A member that says its messages through the leader."""
 
@@ -107,11 +121,7 @@ class LedSpeaker(Speaker):
         super().__init__(nodes, patience)
         self._led = nodes
         self._identity = identity
-        # The logs of generations at this member's node, and at others if one was sealed.
-        self._logs: Dict[int, LedLog] = {}
-        self._others: Dict[Tuple[int, int], LedLog] = {}
-        # The seals that were said, by node and generation.
-        self._seals: Set[Tuple[int, int]] = set()
+        self._logs: Dict[int, SpokenLog] = {}
         # The last message that was said, if it is not known whether it counts.
         self._open: Optional[Tuple[RoomNumber, bytes]] = None
 
@@ -119,16 +129,14 @@ class LedSpeaker(Speaker):
         """Return the node that leads the generation in which the member speaks, or None."""
         return None if self.speech is None else self._led.speaker(self.speech.generation)
 
-    def _log(self, generation: int) -> LedLog:
+    def _log(self, generation: int) -> SpokenLog:
         """Return the log of a generation here. Those that are long over are forgotten."""
         log = self._logs.get(generation)
         if log is None:
-            log = self._logs[generation] = LedLog(generation, self._led, self._led.node)
+            log = self._logs[generation] = SpokenLog(generation, self._led)
             for old, known in list(self._logs.items()):
                 if old < generation - 2 * LIVING and known.is_over():
                     del self._logs[old]
-            self._others = {it: at for it, at in self._others.items() if it[1] in self._logs}
-            self._seals = {it for it in self._seals if it[1] in self._logs}
         return log
 
     def _is_cut(self, generation: int) -> bool:
@@ -151,18 +159,19 @@ class LedSpeaker(Speaker):
         """End the messages that count in a generation, by its leader's marker or by seals."""
         if self._log(generation).place == 0:
             yield from self._read_all()
-        if self._log(generation).is_over():
+        log = self._log(generation)
+        if log.is_over():
             return
         if not self._is_cut(generation):
             yield from self._led.mark(generation, end)
             return
         for node in self._led.sealing(generation):
-            if (node, generation) not in self._seals:
+            if node not in log.seals:
                 try:
                     yield from self._led.say_last(node, generation, SEAL, end)
                 except NoGroupError:
                     pass
-                self._seals.add((node, generation))
+                log.seals.add(node)
 
     def _is_started(self, generation: int, end: float, is_spare: bool) -> Plan[bool]:
         """Take a begun generation as started: its leader can say something only then."""
@@ -306,12 +315,10 @@ class LedSpeaker(Speaker):
         """
         longest: List[bytes] = []
         for node in self._led.sealing(generation):
-            if node == self._led.node:
-                log = self._log(generation)
-            else:
-                log = self._others.setdefault(
-                    (node, generation), LedLog(generation, self._led, node)
-                )
+            log: LedLog = self._log(generation)
+            if node != self._led.node:
+                new = LedLog(generation, self._led, node)
+                log = self._log(generation).others.setdefault(node, new)
                 yield from self._read_other(log, node, end)
             if log.is_gone:  # It was dropped there, so all that count are here too.
                 yield from self._read_all()

@@ -633,6 +633,25 @@ class CrashTests(Ordered):
         self.assertEqual(list(room.follow(idle=1.0)), [])
         self.assertEqual((len(cluster.payloads(1, 0)), cluster.living()[2]), (3, [2]))
 
+    def test_a_server_that_was_started_anew_is_sealed_again(self) -> None:
+        cluster = timed()
+        room = room_of(cluster, 1, Spec("fmajority", ALL, 8, 4_096, 8))
+        room.join()
+        cluster.crash(0)
+        room.exclude(0)
+        seal = f"say 7 1 {SEAL.hex()} 1"
+        lost = (2, "say")
+        cluster.fate = lambda node, body: "no request" if (node, body[:3]) == lost else "carry"
+        with self.assertRaises(TimedOutError) as caught:
+            room.say(b"a")
+        self.assertEqual((caught.exception.generation, caught.exception.node), (None, 2))
+        self.assertEqual(cluster.texts("say", 1), [seal])
+        cluster.fate = lambda node, body: "carry"
+        cluster.nodes[1].living.clear()
+        cluster.nodes[1].greatest.clear()
+        self.assertEqual(room.say(b"a"), (1, 2))
+        self.assertEqual(cluster.texts("say", 1)[1], seal)
+
     def test_a_say_is_repeated_many_generations_later(self) -> None:
         # The ends of the latest 16 generations are known.
         for later, is_known in ((45, True), (120, False)):
