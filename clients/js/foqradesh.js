@@ -2510,7 +2510,7 @@ class LedSpeaker extends Speaker {
   #log(generation) {
     const known = this.logs.get(generation) ?? new SpokenLog(generation, this.led, this.led.node);
     if (!this.logs.has(generation)) {
-      for (const old of [...this.logs.keys()]) if (old < generation - 2 * LIVING) this.logs.delete(old);
+      for (const [old, log] of [...this.logs]) if (old < generation - 2 * LIVING && log.isOver()) this.logs.delete(old);
       this.logs.set(generation, known);
     }
     return known;

@@ -440,6 +440,57 @@ test("a sealed generation that is passed over is dropped", async () => {
   }
 });
 
+test("a say is repeated many generations later", async () => {
+  // The ends of the latest 16 generations are known.
+  for (const [later, isKnown] of [[45, true], [120, false]]) {
+    const cluster = new Cluster();
+    const rooms = roomsOf(cluster, { patience: 1_000 }, MAJORITY);
+    const heard = [[], []];
+    await rooms[2].say("a");
+    rooms[1].without(0);
+    await rooms[1].say("b");
+    loseSay(cluster, "no reply");
+    const repeat = numberOf(await failing(rooms[2].say("c"), TimedOutError));
+    assert.deepEqual(repeat, { generation: 0, number: 2 });
+    const said = Array.from({ length: later }, (_, count) => `${count}`);
+    for (const text of said) {
+      await rooms[1].say(text);
+      await hearAll(rooms.slice(1), heard);
+    }
+    await hearAll(rooms.slice(1), heard, 1);
+    const [newest] = cluster.generations(1);
+    assert.deepEqual(cluster.living().slice(1), [[newest], [0, newest]]);
+    const begun = clock();
+    if (isKnown) assert.ok((await rooms[2].say("c", { repeat })).generation >= newest);
+    else {
+      const error = await failing(rooms[2].say("c", { repeat }), UnknownOutcomeError);
+      assert.ok(error.cause instanceof SpentError);
+      await rooms[2].say("c");
+    }
+    assert.ok(clock() - begun < 1);
+    await hearAll(rooms.slice(1), heard, 1);
+    assertOneOrder(heard, ["a", "b", ...said, "c"]);
+  }
+});
+
+test("a server that was started anew is sealed again", async () => {
+  const cluster = new Cluster();
+  const room = roomOf(cluster, 1, {}, MAJORITY);
+  await room.join();
+  cluster.crash(0);
+  room.without(0);
+  cluster.fate = (node, text) => (node === 2 && text.startsWith("say") ? "no request" : "carry");
+  const error = await failing(room.say("a"), TimedOutError);
+  assert.deepEqual([error.generation, error.node], [null, 2]);
+  const sealed = () => cluster.texts("say").filter(({ node, text }) => node === 1 && text === "say 7 1 02 1").length;
+  assert.equal(sealed(), 1);
+  cluster.fate = () => "carry";
+  cluster.nodes[1].living.clear();
+  cluster.nodes[1].greatest.clear();
+  assert.deepEqual(await room.say("a"), { generation: 1, number: 2 });
+  assert.equal(sealed(), 2);
+});
+
 test("a generation whose leader crashed before it was made at each node is sealed at each", async () => {
   // Node 0 has begun generation 1, which it was to lead, and crashes. Whoever says the first message of generation 2 has to know of it.
   const cluster = new Cluster();
