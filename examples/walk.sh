@@ -1,7 +1,8 @@
 #!/usr/bin/env bash
 # A walk through the service: starts a cluster of three nodes that send packets of version 3, takes in a tenant, makes a chat group
-# of all three, says something at each, reads the log at each, and stops the cluster. It runs gb_serve and gb_ctl, which `./install`
-# puts into bin/; SERVE and CTL name others. Word: the base port, 42000 if not given.
+# of all three, says something at each, reads the log at each, goes on to the group's next generation, drops the first one, and stops
+# the cluster. It runs gb_serve and gb_ctl, which `./install` puts into bin/; SERVE and CTL name others. Word: the base port, 42000
+# if not given.
 set -euo pipefail
 top=$(cd "$(dirname "$0")/.." && pwd)
 port=${1:-42000}
@@ -23,8 +24,7 @@ admin=$(key)
 printf '%s\n%s\n' "$(key)" "$admin" >"$work/server.keys"
 printf 'admin %s\ntenant %s\n' "$admin" "$(key)" >"$work/client.keys"
 
-# Each node serves six connections, and each line of gb_ctl below is one; then the cluster stops by itself.
-"$serve" --nodes 3 --version 3 --base-port "$port" --sessions 6 <"$work/server.keys" >"$work/printed" &
+"$serve" --nodes 3 --version 3 --base-port "$port" <"$work/server.keys" >"$work/printed" &
 server=$!
 for _ in {1..100}; do
     [ -s "$work/printed" ] && break
@@ -52,8 +52,33 @@ ask 2 say 7 1 'good morning' --text
 sleep 1
 for node in 0 1 2; do
     ask "$node" fetch 7 1 0 16 --text
-    ask "$node" shut 7 1
 done
+
+room() { # LINE STEP WORDS..: does a step in the room at all its nodes, and does it again until it prints the line, ten seconds at most
+    local line=$1 printed=
+    shift
+    for _ in {1..50}; do
+        printed=$("$ctl" --port "$port" --secrets "$work/client.keys" room "$@" --nodes 0,1,2) || break
+        if grep -qx "$line" <<<"$printed"; then
+            echo "$printed"
+            return
+        fi
+        sleep 0.2
+    done
+    echo "room $*: no line '$line' in: $printed"
+    exit 1
+}
+# Nothing was said in the next generation when it is asked for again, so it is found again.
+room 'next 1.1' next 7 1 fallack 100 4096 100
+room 'next 1.1' next 7 1 fallack 100 4096 100
+room 'generation 1: kept, member 0 has not ended it' drop 7 1
+for node in 0 1 2; do # each member's marker ends the first generation
+    ask "$node" say 7 1 00
+done
+room 'generation 1: over' drop 7 1
+room 'node 2: 7:1.1:fallack:0,1,2:100:4096:100:open:0' status 7 1
+ask 0 say 7 1.1 'on we go' --text
+ask 0 shutdown
 wait "$server"
 server=
 tail -n 1 "$work/printed"

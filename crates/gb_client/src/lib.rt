@@ -12,11 +12,13 @@ pub mod fault;
 pub mod need;
 pub mod operating;
 pub mod request;
+pub mod room;
 pub mod secrets;
 pub mod show;
 pub mod task;
 
 pub use fault::ClientFault;
 pub use operating::{Page, Row};
+pub use room::Room;
 pub use secrets::Secrets;
 pub use task::{Asked, Choice, Errand, Server, Task};

@@ -10,6 +10,7 @@ ghost use Rattle.gb_spelling.specs.declared.command_words.CommandHead.{CommandHe
 use crate::fault::ClientFault;
 use crate::need::need_of;
 use crate::request::request_text;
+use crate::room::Room;
 use crate::secrets::Secrets;
 use gb_cap::Need;
 use gb_session::Head;
@@ -91,6 +92,13 @@ pub enum Errand<'a> {
     Drop(Vec<NodeId>, Asked<'a>),
     /// Compare what a group was made with at the nodes.
     Check(Vec<NodeId>, Addr),
+    /// Print what the nodes list of a room.
+    RoomStatus(Vec<NodeId>, Room),
+    /// Make the next generation of a room at the nodes, and then open it at them. The words are those of `make`, in which the room's number
+    /// alone names the group.
+    RoomNext(Vec<NodeId>, Room, Asked<'a>),
+    /// Drop the generations of a room that are over at the nodes.
+    RoomDrop(Vec<NodeId>, Room),
     /// Print the figures of a node.
     Status(NodeId),
     /// Print the groups that were made at a node.
@@ -100,8 +108,8 @@ pub enum Errand<'a> {
 }
 
 impl Errand<'_> {
-    /// Returns a list of the nodes that the errand names, in order: one node, or for a group that is made, dropped or checked all its
-    /// nodes. `Err` if memory runs out.
+    /// Returns a list of the nodes that the errand names, in order: one node, or for a room, and for a group that is made, dropped or
+    /// checked, all its nodes. `Err` if memory runs out.
     pub fn nodes(&self, alloc: Global) -> Result<Vec<NodeId>, OutOfMemory>
         ensures { IfOk result (λ nodes. nodes.items ≡ nodes_named self.now) }
     {
@@ -113,7 +121,12 @@ impl Errand<'_> {
             | Errand::Status(node)
             | Errand::List(node)
             | Errand::Shutdown(node) => Ok(Vec::from_slice(alloc, &[*node])?),
-            Errand::Group(nodes, _) | Errand::Drop(nodes, _) | Errand::Check(nodes, _) => {
+            Errand::Group(nodes, _)
+            | Errand::Drop(nodes, _)
+            | Errand::Check(nodes, _)
+            | Errand::RoomStatus(nodes, _)
+            | Errand::RoomNext(nodes, _, _)
+            | Errand::RoomDrop(nodes, _) => {
                 Ok(Vec::from_slice(alloc, nodes.as_slice())?)
             }
         }

@@ -48,7 +48,8 @@ impl Nodes for Script {
     }
 }
 
-const SECRETS: Secrets = Secrets {
+/// The keys of the administrator and of a tenant.
+pub const SECRETS: Secrets = Secrets {
     admin: Some([0x22; 32]),
     tenant: Some([0x33; 32]),
     token: None,

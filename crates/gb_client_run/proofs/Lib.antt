@@ -4,4 +4,5 @@ pub mod ExportLemmas
 pub mod ImportLemmas
 mod ListingLemmas
 mod RunningLemmas
+pub mod RoomLemmas
 mod SecretTextLemmas

@@ -14,6 +14,9 @@ obeyed_done asks secrets base log (errands.Import node asked choice) old new inp
 obeyed_done asks secrets base log (errands.Group nodes asked) old new input rest before after status has = has
 obeyed_done asks secrets base log (errands.Drop nodes asked) old new input rest before after status has = has
 obeyed_done asks secrets base log (errands.Check nodes addr) old new input rest before after status has = has
+obeyed_done asks secrets base log (errands.RoomStatus nodes room) old new input rest before after status has = has
+obeyed_done asks secrets base log (errands.RoomNext nodes room asked) old new input rest before after status has = has
+obeyed_done asks secrets base log (errands.RoomDrop nodes room) old new input rest before after status has = has
 obeyed_done asks secrets base log (errands.Status node) old new input rest before after status has = has
 obeyed_done asks secrets base log (errands.List node) old new input rest before after status has = has
 obeyed_done asks secrets base log (errands.Shutdown node) old new input rest before after status has = has

@@ -5,4 +5,5 @@ pub mod Following
 pub mod Groups
 pub mod Importing
 pub mod Listing
+pub mod Rooms
 pub mod Running

@@ -17,6 +17,7 @@ fn asked_of<'a, 'b>(task: &'a Task<'b>) -> Option<&'a Asked<'b>> {
         Task::At(_, Errand::Import(_, asked, _)) => Some(asked),
         Task::At(_, Errand::Group(_, asked)) => Some(asked),
         Task::At(_, Errand::Drop(_, asked)) => Some(asked),
+        Task::At(_, Errand::RoomNext(_, _, asked)) => Some(asked),
         _ => None,
     }
 }

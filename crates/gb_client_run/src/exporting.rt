@@ -17,8 +17,9 @@ use gb_types::{Entry, Reply};
 use std::alloc::Global;
 use std::io::Write;
 
-// The reply of a member to a fetch from a place on. `NoReply`: what came is no reply.
-fn fetch_from<N: Nodes>(
+/// Fetches at most 16 entries of the log of the group at `member` from the place `place` on, and returns the reply. `Err` with the fault if
+/// it could not be asked or had no reply, and with `NoReply` if what came is no reply.
+pub fn fetch_from<N: Nodes>(
     alloc: Global,
     nodes: &mut N,
     member: Member<'_>,

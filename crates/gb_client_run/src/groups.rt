@@ -1,5 +1,7 @@
 //! Requests on a group at all its nodes: it is made everywhere before it is opened anywhere, and it is dropped everywhere.
-ghost use Rattle.std.specs.Prelude.{◌≡◌, ◌⊎◌, List, map, Ok, IfOk};
+ghost use Rattle.std.specs.Prelude.{◌≡◌, ◌⊎◌, List, map, take, Ok, IfOk};
+ghost use Rattle.gb_session.specs.declared.head.Head.{Head};
+ghost use Rattle.gb_spelling.specs.declared.command_words.CommandHead.{CommandHead};
 ghost use Rattle.gb_client_run.specs.Asked.{Exchange, HasAsked};
 ghost use Rattle.gb_client_run.specs.Groups.{HasDoneAt, HasDoneAll, HasMadeAndOpened, outcome_status};
 
@@ -18,7 +20,7 @@ use gb_session::Head;
 use gb_spelling::CommandHead;
 use gb_spelling::number::put_number;
 use gb_spelling::request_words::read_address;
-use gb_types::{Addr, NodeId, Refusal, Reply};
+use gb_types::{Addr, NodeId, OutOfMemory, Refusal, Reply};
 use std::alloc::Global;
 use std::io::Write;
 
@@ -30,6 +32,27 @@ pub enum Outcome {
     Before,
     Refused(Refusal),
     Failed(ClientFault),
+}
+
+impl From<ClientFault> for Outcome {
+    ghost use Rattle.gb_client_run.specs.declared.groups.Outcome.TheVariants.{Failed as HasFailed};
+
+    ghost from_gives = { λ fault outcome. outcome ≡ HasFailed fault };
+
+    fn from(fault: ClientFault) -> Outcome {
+        Outcome::Failed(fault)
+    }
+}
+
+impl From<OutOfMemory> for Outcome {
+    ghost use Rattle.gb_client.specs.declared.fault.ClientFault.TheVariants.{OutOfMemory as NoMemory};
+    ghost use Rattle.gb_client_run.specs.declared.groups.Outcome.TheVariants.{Failed as HasFailed};
+
+    ghost from_gives = { λ _ outcome. outcome ≡ HasFailed NoMemory };
+
+    fn from(_error: OutOfMemory) -> Outcome {
+        Outcome::Failed(ClientFault::OutOfMemory)
+    }
 }
 
 // Returns true if a node that refuses a request so may have done it before.
@@ -168,8 +191,8 @@ fn put_outcome(
     Ok(())
 }
 
-// The line of a node: what came of a request there.
-fn outcome_line(
+/// Returns the line of a node: what came of a request with this head there. `Err` with `OutOfMemory`.
+pub fn outcome_line(
     alloc: Global,
     node: NodeId,
     head: Head,
@@ -197,8 +220,8 @@ fn print_not_asked<W: Write>(
     Ok(())
 }
 
-// The exit status for what came of a request.
-fn outcome_status(outcome: Outcome) -> u8
+/// Returns the exit status for what came of a request: 0 if it is done, 1 after a refusal, and otherwise that of the fault.
+pub fn outcome_status(outcome: Outcome) -> u8
     ensures { result ≡ outcome_status outcome }
 {
     match outcome {
@@ -253,6 +276,25 @@ pub fn ask_each<N: Nodes, W: Write>(
         }
     }
     Ok(0)
+}
+
+/// Returns the request that opens the group which the request `make` names by its first two words. `Err` with `Words` if it has fewer,
+/// and with `OutOfMemory`.
+pub fn open_of<'a>(alloc: Global, make: &Asked<'a>) -> Result<Asked<'a>, ClientFault>
+    ensures head { IfOk result (λ opening. opening.head ≡ Head.Group CommandHead.Open) }
+    ensures words { IfOk result (λ opening. map (λ word. word.now) opening.words.items ≡ take 2 (map (λ word. word.now) make.now.words.items)) }
+{
+    let [tenant, group, ..] = make.words.as_slice() else {
+        return Err(ClientFault::Words);
+    };
+    let mut words: Vec<&'a str> = Vec::new(alloc);
+    words.push(*tenant)?;
+    words.push(*group)?;
+    Ok(Asked {
+        head: Head::Group(CommandHead::Open),
+        words,
+        is_text: false,
+    })
 }
 
 /// Makes a group at each node of `members` by the request `make`, then opens it at each by `opening`, and prints a line for each node

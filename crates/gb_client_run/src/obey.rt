@@ -4,32 +4,18 @@ ghost use Rattle.gb_client_run.specs.Running.{HasObeyed};
 
 use crate::checking::check_group;
 use crate::exporting::export;
-use crate::groups::{drop_group, make_group};
+use crate::groups::{drop_group, make_group, open_of};
 use crate::listing::{print_list, print_status, shut_down};
 use crate::nodes::Nodes;
 use crate::once::ask_once;
+use crate::room_drop::drop_over;
+use crate::room_next::go_on;
+use crate::room_status::print_room;
 use crate::target::{Member, Target};
 use gb_client::{Asked, ClientFault, Errand};
-use gb_session::Head;
-use gb_spelling::CommandHead;
 use gb_types::NodeId;
 use std::alloc::Global;
 use std::io::Write;
-
-// The request that opens the group that another request names.
-fn open_of<'a>(alloc: Global, make: &Asked<'a>) -> Result<Asked<'a>, ClientFault> {
-    let [tenant, group, ..] = make.words.as_slice() else {
-        return Err(ClientFault::Words);
-    };
-    let mut words: Vec<&'a str> = Vec::new(alloc);
-    words.push(*tenant)?;
-    words.push(*group)?;
-    Ok(Asked {
-        head: Head::Group(CommandHead::Open),
-        words,
-        is_text: false,
-    })
-}
 
 // Makes a group by the words of `make`, and opens it.
 fn obey_group<N: Nodes, W: Write>(
@@ -87,6 +73,21 @@ pub fn obey<N: Nodes, W: Write>(
         ),
         Errand::Check(members, addr) => {
             check_group(alloc, nodes, target, members.as_slice(), *addr, writer)
+        }
+        Errand::RoomStatus(members, room) => {
+            print_room(alloc, nodes, target, members.as_slice(), *room, writer)
+        }
+        Errand::RoomNext(members, room, make) => go_on(
+            alloc,
+            nodes,
+            target,
+            members.as_slice(),
+            *room,
+            make,
+            writer,
+        ),
+        Errand::RoomDrop(members, room) => {
+            drop_over(alloc, nodes, target, members.as_slice(), *room, writer)
         }
         Errand::Status(node) => print_status(alloc, nodes, target, *node, writer),
         Errand::List(node) => print_list(alloc, nodes, target, *node, writer),

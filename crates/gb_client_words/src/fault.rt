@@ -29,6 +29,9 @@ pub enum PlanFault {
     /// What a token is asked for is not spelt as it is to be.
     #[error("token takes admin, tenant T or member T G")]
     Need,
+    /// What is done in a room is not spelt as it is to be.
+    #[error("room takes status T G, drop T G or next T G KIND MSGS BYTES WINDOW")]
+    Room,
     /// The tenant is no number of two bytes.
     #[error("T takes a number from 0 to 65535 without leading zeros")]
     Tenant,

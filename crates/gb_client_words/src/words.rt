@@ -4,7 +4,7 @@ use clap::builder::ValueParser;
 use clap::{Arg, ArgAction, ArgMatches, Command};
 use gb_cap::Need;
 use gb_client::task::LISTED;
-use gb_client::{Asked, Choice, Errand, Server, Task};
+use gb_client::{Asked, Choice, Errand, Room, Server, Task};
 use gb_session::Head;
 use gb_spelling::CommandHead;
 use gb_spelling::members_word::read_members;
@@ -76,6 +76,42 @@ const MEMBERS: ArgWords = ArgWords {
     name: "MEMBERS",
     help: "the nodes of the group, numbers from 0 to 31, rising, with commas: 0,1,2",
     form: Form::Word,
+};
+
+const STEP: ArgWords = ArgWords {
+    name: "STEP",
+    help: "status, next or drop",
+    form: Form::Word,
+};
+
+const ROOM: ArgWords = ArgWords {
+    name: "G",
+    help: "the number of the room, whose groups G, G.1, G.2 .. are its generations",
+    form: Form::Word,
+};
+
+const NEXT_KIND: ArgWords = ArgWords {
+    name: "KIND",
+    help: "for next: how messages are broadcast, as for group",
+    form: Form::OptionalWord,
+};
+
+const NEXT_MSGS: ArgWords = ArgWords {
+    name: "MSGS",
+    help: "for next: how many messages each member may say in a generation, 1 to 1024",
+    form: Form::OptionalWord,
+};
+
+const NEXT_BYTES: ArgWords = ArgWords {
+    name: "BYTES",
+    help: "for next: how many payload bytes each member may say in a generation, 0 to 65536",
+    form: Form::OptionalWord,
+};
+
+const NEXT_WINDOW: ArgWords = ArgWords {
+    name: "WINDOW",
+    help: "for next: how many own messages of a member may be unfinished at once, 1 to 1024",
+    form: Form::OptionalWord,
 };
 
 const GROUPS: ArgWords = ArgWords {
@@ -186,6 +222,12 @@ const NODES_OF_GROUP: ArgWords = ArgWords {
     form: Form::Required("NODES"),
 };
 
+const NODES_OF_ROOM: ArgWords = ArgWords {
+    name: "nodes",
+    help: "the nodes of the room's members, numbers from 0 to 31, rising, with commas: 0,1,2",
+    form: Form::Required("NODES"),
+};
+
 const NODES_TO_DROP: ArgWords = ArgWords {
     name: "nodes",
     help: "drop it at these nodes, and not at the one of --node: 0,1,2",
@@ -236,6 +278,7 @@ enum Purpose {
     Group,
     Drop,
     Check,
+    Room,
     Status,
     List,
     Shutdown,
@@ -297,6 +340,21 @@ static SUBCOMMANDS: &[SubcommandWords] = &[
         purpose: Purpose::Drop,
         about: "Drops a group for good, with its log: at the node, or at several",
         args: &[T, G, NODES_TO_DROP],
+    },
+    SubcommandWords {
+        name: "room",
+        purpose: Purpose::Room,
+        about: "Lists a room's generations at its nodes, makes and opens the next one, or drops those that are over",
+        args: &[
+            STEP,
+            T,
+            ROOM,
+            NEXT_KIND,
+            NEXT_MSGS,
+            NEXT_BYTES,
+            NEXT_WINDOW,
+            NODES_OF_ROOM,
+        ],
     },
     SubcommandWords {
         name: "say",
@@ -405,8 +463,8 @@ fn with_subcommands<'a>(
 /// What the help says behind the options.
 static AFTER: &str =
     "Secrets are lines `admin KEY`, `tenant KEY` or `token TOKEN`, each with 64 hexadecimal digits. \
-The token of a request is the one that is given, or else is made of the key: of the administrator's for tenant, check, status, list and \
-shutdown, of the tenant's for all else.\n\n\
+The token of a request is the one that is given, or else is made of the key: of the administrator's for tenant, check, room status, status, \
+list and shutdown, of the tenant's for all else.\n\n\
 A first group of two members, with the keys in the file keys:\n  \
 gb_ctl --port 42000 --node 0 --secrets keys tenant 7 4 8 4096 4\n  \
 gb_ctl --port 42000 --node 1 --secrets keys tenant 7 4 8 4096 4\n  \
@@ -566,6 +624,43 @@ fn check_task<'a>(alloc: Global, matches: &ArgMatches<'a>) -> Result<Errand<'a>,
     Ok(Errand::Check(nodes, addr))
 }
 
+// The room that words name.
+fn room<'a>(matches: &ArgMatches<'a>) -> Result<Room, PlanFault> {
+    let tenant = matches.get_str("T").ok_or(PlanFault::Tenant)?;
+    let number = matches.get_str("G").ok_or(PlanFault::Group)?;
+    Ok(Room {
+        tenant: read_u16(tenant.as_bytes()).ok_or(PlanFault::Tenant)?,
+        number: read_u16(number.as_bytes()).ok_or(PlanFault::Group)?,
+    })
+}
+
+// What is done in a room at its nodes. The words of the next generation are those of `make`, with the nodes as its members.
+fn room_task<'a>(
+    alloc: Global,
+    matches: &ArgMatches<'a>,
+    args: &[ArgWords],
+) -> Result<Errand<'a>, PlanFault> {
+    let (Some(nodes), Some(members)) = (nodes(alloc, matches)?, matches.get_str("nodes")) else {
+        return Err(PlanFault::Nodes);
+    };
+    let room = room(matches)?;
+    let given = given(alloc, matches, args)?;
+    match given.as_slice() {
+        ["status", _, _] => Ok(Errand::RoomStatus(nodes, room)),
+        ["drop", _, _] => Ok(Errand::RoomDrop(nodes, room)),
+        ["next", tenant, number, kind, msgs, bytes, window] => {
+            let words = [*tenant, *number, *kind, members, *msgs, *bytes, *window];
+            let asked = Asked {
+                head: Head::Group(CommandHead::Make),
+                words: Vec::from_slice(alloc, &words)?,
+                is_text: false,
+            };
+            Ok(Errand::RoomNext(nodes, room, asked))
+        }
+        _ => Err(PlanFault::Room),
+    }
+}
+
 // What a subcommand asks of a server.
 fn errand<'a>(
     alloc: Global,
@@ -577,6 +672,7 @@ fn errand<'a>(
         Purpose::Group => return group_task(alloc, matches, subcommand.args),
         Purpose::Drop => return drop_task(alloc, node, matches, subcommand.args),
         Purpose::Check => return check_task(alloc, matches),
+        Purpose::Room => return room_task(alloc, matches, subcommand.args),
         _ => {}
     }
     let node = node.ok_or(PlanFault::NoNode)?;

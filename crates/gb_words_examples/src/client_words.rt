@@ -4,10 +4,11 @@ use gb_cap::Need;
 use gb_client::blame::blame;
 use gb_client::fault::fault_status;
 use gb_client::operating::{list_body, status_body, stop_body};
+use gb_client::room::ask_group;
 use gb_client::secrets::read_secrets;
 use gb_client::show::token_line;
 use gb_client::task::{fetch_of, request_of};
-use gb_client::{Asked, ClientFault, Errand, Secrets, Task};
+use gb_client::{Asked, ClientFault, Errand, Room, Secrets, Task};
 use gb_client_words::Plan;
 use gb_client_words::words::{command, plan_of};
 use gb_session::Head;
@@ -51,7 +52,9 @@ fn body_of(alloc: Global, secrets: &Secrets, errand: &Errand<'_>) -> Result<Vec<
         Errand::Import(_, _, _) => Ok(Vec::from_slice(alloc, b"import")?),
         Errand::Group(nodes, asked) => at_last(alloc, secrets, nodes.as_slice(), asked),
         Errand::Drop(nodes, asked) => at_last(alloc, secrets, nodes.as_slice(), asked),
-        Errand::Check(_, _) | Errand::List(_) => {
+        Errand::RoomNext(nodes, _, asked) => at_last(alloc, secrets, nodes.as_slice(), asked),
+        Errand::RoomDrop(nodes, room) => look_at_first(alloc, secrets, nodes.as_slice(), *room),
+        Errand::Check(_, _) | Errand::RoomStatus(_, _) | Errand::List(_) => {
             let token = secrets.token_for(Need::Admin)?;
             Ok(list_body(alloc, &token, 0)?)
         }
@@ -77,6 +80,20 @@ fn at_last(
         return Err(ClientFault::Words);
     };
     request_of(alloc, secrets, *node, asked)
+}
+
+// The body of a fetch of nothing from a room's first generation, at the first of some nodes.
+fn look_at_first(
+    alloc: Global,
+    secrets: &Secrets,
+    nodes: &[NodeId],
+    room: Room,
+) -> Result<Vec<u8>, ClientFault> {
+    let Some(node) = nodes.first() else {
+        return Err(ClientFault::Words);
+    };
+    let words = [b"0".as_slice(), b"0".as_slice()];
+    ask_group(alloc, secrets, *node, CommandHead::Fetch, room.at(0), &words)
 }
 
 // What is told of words that were read.
@@ -172,6 +189,12 @@ const REQUESTS: &[(&str, &str)] = &[
     ("check --nodes 0,1,2 7 1", "list 0 64"),
     ("check --nodes 0,1 7 1.4294967295", "list 0 64"),
     ("check --nodes 0,1 7 1.0", "!2"),
+    ("room status 7 1 --nodes 0,1,2", "list 0 64"),
+    ("room drop --nodes 0,1,2 7 65535", "fetch 7 65535 0 0"),
+    (
+        "room next 7 1 fbeb 8 4096 4 --nodes 0,1",
+        "make 7 1 fbeb 0,1 8 4096 4",
+    ),
     ("list", "list 0 64"),
     ("status", "status"),
     ("shutdown", "stop"),
@@ -180,6 +203,19 @@ const REQUESTS: &[(&str, &str)] = &[
     ("group --nodes 0,32 7 1 fbeb 8 4096 4", "!2"),
     ("group --nodes 0,1 7 1 fbeb 0,1 8 4096 4", "!2"),
     ("drop --nodes , 7 1", "!2"),
+    ("room status 7 1", "!2"),
+    ("room status 7 1.1 --nodes 0,1", "!2"),
+    ("room status 65536 1 --nodes 0,1", "!2"),
+    ("room status 7 65536 --nodes 0,1", "!2"),
+    ("room status 7 1 --nodes 1,0", "!2"),
+    ("room status 7 1 beb --nodes 0,1", "!2"),
+    ("room drop 7 1 beb 8 4096 4 --nodes 0,1", "!2"),
+    ("room next 7 1 --nodes 0,1", "!2"),
+    ("room next 7 1 beb 8 4096 --nodes 0,1", "!2"),
+    ("room next 7 1 beb 8 4096 4 4 --nodes 0,1", "!2"),
+    ("room next 7 1 bob 8 4096 4 --nodes 0,1", "!2"),
+    ("room open 7 1 --nodes 0,1", "!2"),
+    ("room 7 1 --nodes 0,1", "!2"),
     ("check --nodes 0,1 7 65536", "!2"),
     ("list 0", "!2"),
     ("say 7 1 ja", "!2"),
@@ -317,6 +353,8 @@ const WITHOUT: &[(&str, bool)] = &[
     ),
     ("gb_ctl --port 42000 --secrets s import 7 1", false),
     ("gb_ctl --port 42000 check --nodes 0,1 7 1", true),
+    ("gb_ctl --port 42000 room drop --nodes 0,1 7 1", true),
+    ("gb_ctl room drop --nodes 0,1 7 1", false),
 ];
 
 #[test]
