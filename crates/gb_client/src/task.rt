@@ -126,9 +126,7 @@ impl Errand<'_> {
             | Errand::Check(nodes, _)
             | Errand::RoomStatus(nodes, _)
             | Errand::RoomNext(nodes, _, _)
-            | Errand::RoomDrop(nodes, _) => {
-                Ok(Vec::from_slice(alloc, nodes.as_slice())?)
-            }
+            | Errand::RoomDrop(nodes, _) => { Ok(Vec::from_slice(alloc, nodes.as_slice())?) }
         }
     }
 }

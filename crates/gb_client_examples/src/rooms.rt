@@ -303,7 +303,8 @@ fn generations_that_are_over_are_dropped(rt: HostRuntime) {
 #[test]
 fn wrong_words_of_a_generation_ask_nothing(rt: HostRuntime) {
     let words = "room next 7 1 bob 8 4096 4 --nodes 0,1";
-    let told = "gb_ctl: KIND is 'bob', and takes one of beb, lazy, eager, allack, majority, fbeb, flazy, feager, fallack and fmajority\n";
+    let told =
+        "gb_ctl: KIND is 'bob', and takes one of beb, lazy, eager, allack, majority, fbeb, flazy, feager, fallack and fmajority\n";
     let held = ends_so(rt.alloc(), words, &SECRETS, "", &(&[], "", 2), Some(told));
     assert!(rt; held);
 }

@@ -54,7 +54,9 @@ fn has_ended(entries: &[Entry], node: NodeId) -> bool
     ensures { result ≡ true → HasEnded entries.now node }
 {
     'entries: for entry in entries {
-        if is_marker(entry, node) && count_up_to(entries, node, entry.seq) == usize::from(entry.seq) {
+        if is_marker(entry, node)
+            && count_up_to(entries, node, entry.seq) == usize::from(entry.seq)
+        {
             return true;
         }
     }

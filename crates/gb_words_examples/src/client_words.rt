@@ -93,7 +93,14 @@ fn look_at_first(
         return Err(ClientFault::Words);
     };
     let words = [b"0".as_slice(), b"0".as_slice()];
-    ask_group(alloc, secrets, *node, CommandHead::Fetch, room.at(0), &words)
+    ask_group(
+        alloc,
+        secrets,
+        *node,
+        CommandHead::Fetch,
+        room.at(0),
+        &words,
+    )
 }
 
 // What is told of words that were read.
