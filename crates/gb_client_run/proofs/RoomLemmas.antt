@@ -26,8 +26,8 @@ each_more P Q nodes i d node before here lt is weaker all one =
     let R : NodeId → Type 0 = λ n. Has (Q n) (here ++ before) in
     subst (All R) (ap (λ n. take i nodes ++ n ∷ []) is ∙ sym (take_more nodes i d lt))
     (All-append R (take i nodes) (node ∷ [])
-      (All-weaker (λ n. Has (P n) before) R (λ n has. Has-behind (Q n) here before (Has-weaker (P n) (Q n) (weaker n) before has)) (take i nodes) all)
-      (All-cons R node [] (Has-front (Q node) here before one) (All-nil R)))
+    (All-weaker (λ n. Has (P n) before) R (λ n has. Has-behind (Q n) here before (Has-weaker (P n) (Q n) (weaker n) before has)) (take i nodes) all)
+    (All-cons R node [] (Has-front (Q node) here before one) (All-nil R)))
 
 -- which generations a node has made, while it is asked: those below `low` are, and from `high` on none is
 pub record Counting {S : Type 0} (asks : S → ℕ → List ℕ → List ℕ → S → Type 0) (secrets : Secrets) (base : ℕ) (room : Room) (node : NodeId) (known : ℕ) (old new : S) (low high : ℕ) : Type 0 where
@@ -70,7 +70,7 @@ pub counting_down : {S : Type 0} (asks : S → ℕ → List ℕ → List ℕ →
 counting_down asks secrets base room node known old mid new low high at addr look so_far is here no = record {
   told = here.exchange ∷ so_far.told;
   has_asked = (mid, so_far.has_asked, here.told);
-  made = elim so_far.made [ | inl same ↦ inl same | inr made ↦ inr (inr made) ];
+  made = elim so_far.made [ inl same ↦ inl same | inr made ↦ inr (inr made) ];
   absent = λ lt. inl (subst (λ a. AsksOn secrets base node Fetch a (codes "0" ∷ codes "0" ∷ []) here.exchange) is here.asked_so, here.reply_is ∙ ap (λ l. reply_spelling (reply_of l)) (is_absent look no));
 }
 
@@ -106,9 +106,9 @@ counted_at_next asks secrets base room nodes i d node old mid new known count lt
     | inl same ↦ elim so_far.made [
       | inl none ↦ inl (same ∙ none)
       | inr made ↦ inr (Has-behind (HasMade secrets base room count) here.told so_far.told (subst (λ n. Has (HasMade secrets base room n) so_far.told) (sym same) made))
-      ]
+    ]
     | inr made ↦ inr (Has-front (HasMade secrets base room count) here.told so_far.told made)
-    ];
+  ];
   no_more = each_more (HasNoMore secrets base room known) (HasNoMore secrets base room count) nodes i d node so_far.told here.told lt is
       (λ n x has. (has.0, still has.0 has.1, has.2))
       so_far.no_more
@@ -117,6 +117,7 @@ counted_at_next asks secrets base room nodes i d node old mid new known count lt
   where
     still : (next : ℕ) → next ≤ known → next ≤ count
     still next small = omega (arith, small, more)
+
     same_count : count ≤ count
     same_count = omega arith
 
@@ -139,7 +140,7 @@ pub unused_at_next : {S : Type 0} (asks : S → ℕ → List ℕ → List ℕ �
 unused_at_next asks secrets base nodes i d node addr old mid new lt is so_far (reply, here, used) = record {
   told = here.exchange ∷ so_far.told;
   has_asked = (mid, so_far.has_asked, here.told);
-  nowhere = each_more (IsUse secrets base addr false) (IsUse secrets base addr false) nodes i d node so_far.told (here.exchange ∷ []) lt is (λ n x use. use) so_far.nowhere (inl (reply, here.asked_so, here.reply_is, used));
+  nowhere = each_more (IsUse secrets base addr false) (IsUse secrets base addr false) nodes i d node so_far.told (here.exchange ∷ []) lt is (λ n x same. same) so_far.nowhere (inl (reply, here.asked_so, here.reply_is, used));
 }
 
 pub used_here : {S : Type 0} (asks : S → ℕ → List ℕ → List ℕ → S → Type 0) (secrets : Secrets) (base : ℕ) (nodes rest : List NodeId) (node : NodeId) (addr : Addr) (old mid new : S)
@@ -219,20 +220,20 @@ found_first asks secrets base room nodes old new count counted none = record {
 pub found_behind : {S : Type 0} (asks : S → ℕ → List ℕ → List ℕ → S → Type 0) (secrets : Secrets) (base : ℕ) (room : Room) (nodes : List NodeId) (old mid new : S) (count : ℕ) (addr : Addr) (used : Bool)
     → HasCountedAll asks secrets base room nodes old mid count → count ≢ 0 → addr ≡ generation_of room (count - 1) → HasUseSomewhere asks secrets base nodes addr mid new used → used ≡ true
     → HasFound asks secrets base room nodes old new count
-found_behind asks secrets base room nodes old mid new count addr used counted some is use yes = record {
+found_behind asks secrets base room nodes old mid new count addr used counted some is uses yes = record {
   count = count;
   between = mid;
   counted = counted;
-  is_next = inr (count - 1, used, omega (arith, some), subst (λ a. HasUseSomewhere asks secrets base nodes a mid new used) is use, rw yes refl);
+  is_next = inr (count - 1, used, omega (arith, some), subst (λ a. HasUseSomewhere asks secrets base nodes a mid new used) is uses, rw yes refl);
 }
 
 -- it was not
 pub found_last : {S : Type 0} (asks : S → ℕ → List ℕ → List ℕ → S → Type 0) (secrets : Secrets) (base : ℕ) (room : Room) (nodes : List NodeId) (old mid new : S) (count : ℕ) (addr : Addr) (used : Bool)
     → HasCountedAll asks secrets base room nodes old mid count → count ≢ 0 → addr ≡ generation_of room (count - 1) → HasUseSomewhere asks secrets base nodes addr mid new used → used ≡ false
     → HasFound asks secrets base room nodes old new (count - 1)
-found_last asks secrets base room nodes old mid new count addr used counted some is use no = record {
+found_last asks secrets base room nodes old mid new count addr used counted some is uses no = record {
   count = count;
   between = mid;
   counted = counted;
-  is_next = inr (count - 1, used, omega (arith, some), subst (λ a. HasUseSomewhere asks secrets base nodes a mid new used) is use, rw no refl);
+  is_next = inr (count - 1, used, omega (arith, some), subst (λ a. HasUseSomewhere asks secrets base nodes a mid new used) is uses, rw no refl);
 }
