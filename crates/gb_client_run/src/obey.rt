@@ -1,4 +1,4 @@
-//! One errand at a server: what a client is told to do there is done, and what comes of it is printed.
+//! One errand at a server: the client does it there, and prints the result.
 ghost use Rattle.std.specs.Prelude.{IfOk};
 ghost use Rattle.gb_client_run.specs.Running.{HasObeyed};
 
@@ -30,7 +30,7 @@ fn obey_group<N: Nodes, W: Write>(
     make_group(alloc, nodes, target, members, make, &open, writer)
 }
 
-/// Does one errand at the server of `target`, over `nodes`, and prints what comes of it to `writer`. Returns the exit status: 0 if it is
+/// Does one errand at the server of `target`, over `nodes`, and prints the result to `writer`. Returns the exit status: 0 if it is
 /// done, 1 if a node refused or nodes differ, and otherwise that of the fault at a node. `Err` with the fault that ended it, and with
 /// `Words` for `Follow` and `Import`, which are done by `following::follow`, with a connection of its own, and by `importing::import`,
 /// which takes a text.
