@@ -26,7 +26,6 @@ GENERATIONS = 4  # that live at once in a room at a node
 ROOMS = 1_024  # of all tenants of a node
 WINDOW = 64  # frames of a link
 ENTRIES = 16  # of a fetch
-LONGEST = max(limits.payload for limits in vectors.LIMITS.values())  # payload of any version
 # How many words stand behind the first word of a line.
 WORDS = {'tenant': [6], 'make': [8], 'open': [3], 'shut': [3], 'drop': [3], 'say': [4, 5], 'fetch': [5], 'forge': [3], 'pack': [2], 'again': [3],
          'ack': [2], 'arrive': [1], 'noise': [2], 'tick': [1], 'stop': [1]}
@@ -293,8 +292,8 @@ class Node:
         """What a packing takes of the walk; it moves the cursor and takes the items away."""
         walk = list(self.walk(to))
         sizes = [item_size(self.version, item.payload) for _, item in walk]
-        # Where the first item is longer than the room, there is room for the longest of any version.
-        room = self.room if not walk or sizes[0] <= self.room else item_size(self.version, bytes(LONGEST))
+        # Where the first item is longer than the room, there is room for it alone.
+        room = max(self.room, sizes[0]) if walk else self.room
         count = 0
         while count < len(walk) and sum(sizes[:count + 1]) <= room:
             count += 1

@@ -1,5 +1,5 @@
 -- The state of a node after each event, and its answer.
-use Rattle.std.specs.Prelude.{ℕ, ◌≡◌, ◌%◌, min, ◌⊎◌, ◌&&◌, not, Bool, true, List, [], ◌∷◌, length, filter, fold, Option, Some, None, IfSome, option_map, Result, Ok, Err, slice_index_or, slice_set, nat_eq, nat_lt, if◌then◌else◌}
+use Rattle.std.specs.Prelude.{ℕ, ◌≡◌, ◌%◌, max, min, ◌⊎◌, ◌&&◌, not, Bool, true, List, [], ◌∷◌, length, filter, fold, Option, Some, None, IfSome, option_map, Result, Ok, Err, slice_index_or, slice_set, nat_eq, nat_lt, if◌then◌else◌}
 use Rattle.std.specs.FinSet as set
 use Rattle.gb_types.specs.Common.{message_of, rising}
 use Rattle.gb_types.specs.declared.{limits.TheConstants.NODES, node.NodeId.NodeId, refusal.Refusal.TheVariants.Stopped, refusal.Refusal.TheVariants.OutOfMemory, reply.Reply.Reply, reply.Reply.TheVariants.Refused, request.Action.Action, version.Version.Version}
@@ -8,7 +8,7 @@ use Rattle.gb_frame.specs.Common.{room_of, Content, reading, packet_text, IsPack
 use Rattle.gb_link.specs.Common.{Received, base_of, mask_of, admission, taken, SendWindow, new_window, has_room, pushed, frame_again, freed, covers}
 use Rattle.gb_link.specs.declared.{receiver.Admission.Admission, receiver.Admission.TheVariants.First, receiver.Admission.TheVariants.Seen, receiver.Admission.TheVariants.Outside}
 use Rattle.gb_detect.specs.Watch.{due, after_heard, after_tick}
-use Rattle.gb_table.specs.Common.{batch, longest_item, NothingWaits, Visit, items, TableValue, table_came, table_done, table_noticed, table_packed, TakesMemory, table_reply, table_did}
+use Rattle.gb_table.specs.Common.{batch, first_size, walk_to, NothingWaits, items, TableValue, table_came, table_done, table_noticed, table_packed, TakesMemory, table_reply, table_did}
 use Rattle.gb_node.specs.NodeValue.{NodeValue}
 use Rattle.gb_node.specs.declared.{answer.NodeAnswer.NodeAnswer, answer.PacketAnswer.PacketAnswer, answer.Good.Good, answer.Frame.Frame, answer.Sent.Sent as SentValue, answer.Ticked.TheVariants.Noticed, answer.Ticked.TheVariants.Refused as TickRefused, answer.Halted.TheVariants.Done as HaltDone, answer.Halted.TheVariants.Refused as HaltRefused, event.NodeEvent.NodeEvent, answer.PacketAnswer.TheVariants.Good as TakenGood, answer.PacketAnswer.TheVariants.Fault, answer.PacketAnswer.TheVariants.Refused as TakenRefused, answer.Sent.TheVariants.Packet as SentPacket, answer.Sent.TheVariants.Nothing, answer.Sent.TheVariants.Refused as SentRefused}
 use Rattle.gb_node.specs.declared.answer.NodeAnswer.TheVariants.{Reply as Replied, Taken, Sent, Ticked, Halted}
@@ -48,14 +48,9 @@ batch_to room t b = items t.groups.rows (batch t.version b.number room t.groups)
 abbrev pub own_room : NodeValue → ℕ
 own_room v = min v.room (room_of v.table.version)
 
--- the most bytes of a batch, or, where nothing fits into them, those of the longest item
-abbrev pub room_or_longest : Version → ℕ → List Visit → ℕ
-room_or_longest version room [] = longest_item version
-room_or_longest version room (v ∷ vs) = room
-
--- the most bytes of the next batch for a node
+-- the most bytes of the next batch for a node: those of its first item alone, where that is longer than a batch may be by the plan
 abbrev pub room_to : NodeValue → NodeId → ℕ
-room_to v b = room_or_longest v.table.version (own_room v) (batch v.table.version b.number (own_room v) v.table.groups)
+room_to v b = max (own_room v) (first_size v.table.version (walk_to b.number v.table.groups))
 
 abbrev pub unless_empty : List Item → Option (List Item)
 unless_empty [] = None

@@ -31,7 +31,7 @@ use gb_frame::reading::{decode, decode_known};
 use gb_frame::{Head, PacketFault, PacketView};
 use gb_link::Receiver;
 use gb_table::{Listing, Table};
-use gb_types::limits::{NODES, PAYLOAD, SILENCE_MAX, SILENCE_MIN};
+use gb_types::limits::{NODES, SILENCE_MAX, SILENCE_MIN};
 use gb_types::{NodeId, OutOfMemory, Refusal, Reply, Request, Version};
 use std::alloc::Global;
 use std::marker::Model;
@@ -290,13 +290,8 @@ impl Node {
         ensures fits { result.bytes ≤ result.most }
         ensures none { result.count ≡ 0 → NothingWaits to.number self.now.table.groups }
     {
-        let version = self.table.version();
-        let most = self.room.min(room(version));
-        let (count, bytes) = self.table.measure(to, most);
-        if count > 0 {
-            return Measured { most, count, bytes };
-        }
-        let most = version.limits().item_header + PAYLOAD;
+        let own = self.room.min(room(self.table.version()));
+        let most = own.max(self.table.first_size(to));
         let (count, bytes) = self.table.measure(to, most);
         Measured { most, count, bytes }
     }

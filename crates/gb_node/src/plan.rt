@@ -14,8 +14,8 @@ pub struct NodePlan {
     pub silence: u16,
     /// How many rooms its tenants may reserve in all: 1,024 at most.
     pub places: u16,
-    /// The maximum number of bytes of the items in a packet; no more than a packet of the version has room for. A packet whose first
-    /// item is longer may have as many bytes of items as the longest item of the version.
+    /// The maximum number of bytes of the items in a packet; no more than a packet of the version has room for. Where the
+    /// first item that waits is longer, the packet has that item alone.
     pub room: u16,
     /// The key of the packets between the cluster's nodes.
     pub cluster_key: Key,

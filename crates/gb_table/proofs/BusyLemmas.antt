@@ -2,10 +2,10 @@
 use Rattle.gb_types.specs.Common.{◌≡◌, ℕ, suc, zero, ◌+◌, ◌-◌, ◌≤◌, ◌<◌, ◌≢◌, min, List, [], length, get_or, drop, refl, ap, sym, ◌∙◌, arith, inl, inr, Some, None, subst, ◌∷◌, set, cases_lt, cases_eq, get_or_past, get_or-set_same, get_or-set_other, length-set, set-get_or, length-drop, get_or_default, limits_of, sum_by}
 use Rattle.gb_types.specs.declared.{entry.Entry.Entry, version.Version.Version}
 use Rattle.gb_table.specs.SlotsValue.{Row, row_at, counters, no_entry, no_row}
-use Rattle.gb_table.specs.Packing.{Visit, walk, queue, queues, took, first_place, visit, size, fit}
+use Rattle.gb_table.specs.Packing.{Visit, walk, queue, queues, took, first_place, first_size, visit, size, fit}
 use Rattle.gb_table.specs.PlaceSet.{has, IsNext}
 use Rattle.gb_table.specs.Busy.{IsBusy}
-use Rattle.gb_table.proofs.WalkLemmas.{walk_idle, walk_wrap, walk_none, first_of_gives, length-queues, nothing_past, empty, queues_at}
+use Rattle.gb_table.proofs.WalkLemmas.{walk_gives, walk_idle, walk_wrap, walk_none, first_of_gives, length-queues, nothing_past, empty, queues_at}
 use Rattle.gb_table.proofs.TakingLemmas.{queues-set, queue-took}
 use Rattle.gb_table.specs.Ahead.{visits, ahead, IsActive, IsTurn}
 use Rattle.gb_table.proofs.AheadLemmas.{length-ahead, ahead-step, ahead-wrap, ahead-start, get_or-ahead, look_gives, Measured, measured_stop, measured_more}
@@ -234,3 +234,23 @@ pub nothing_fits : (version : Version) (room : ℕ) (vs : List Visit) → first_
 unfolding fit
 nothing_fits version room [] none = (refl, refl)
 nothing_fits version room (v ∷ vs) none = cc
+
+-- where the walk visits no place it has no first item
+pub none_first : (version : Version) (vs : List Visit) → None ≡ first_place vs → 0 ≡ first_size version vs
+none_first version [] none = refl
+none_first version (v ∷ vs) none = cc
+
+-- the first item of the walk is the first that waits at the first place
+pub size_first : (version : Version) (dest from p : ℕ) (rows : List Row) → p < length rows → 0 < length (queue dest (row_at rows p)) → walk p (queues dest rows) ≡ walk from (queues dest rows)
+    → (limits_of version).item_header + length (get_or (queue dest (row_at rows p)) 0 no_entry).payload ≡ first_size version (walk from (queues dest rows))
+size_first version dest from p rows within busy same =
+    let n = length-queues dest rows in
+    by (queue dest (row_at rows p)) refl busy (queues_at dest rows p (row_at rows p) within (row_here rows p within))
+  where
+    by : (q : List Entry) → queue dest (row_at rows p) ≡ q → 0 < length q → get_or (queues dest rows) p [] ≡ queue dest (row_at rows p)
+        → (limits_of version).item_header + length (get_or (queue dest (row_at rows p)) 0 no_entry).payload ≡ first_size version (walk from (queues dest rows))
+    by [] is some here = absurd (omega (arith, some))
+    by (x ∷ q) is some here =
+        let n = length-queues dest rows in
+        ap (λ (r : List Entry). (limits_of version).item_header + length (get_or r 0 no_entry).payload) is
+        ∙ sym (ap (first_size version) (sym same ∙ walk_gives p x q (queues dest rows) (omega (arith, n, within)) (here ∙ is)))

@@ -1,56 +1,34 @@
--- If there is room for the longest message, a batch without items means that nothing waits. The items of a batch are no longer than the messages
--- of the groups.
-use Rattle.gb_types.specs.Common.{◌≡◌, ℕ, zero, suc, ◌<◌, ◌≤◌, List, [], ◌∷◌, length, map, Option, Some, None, refl, sym, ap, ◌∙◌, arith, Bool, true, false, ◌-◌, ◌&&◌, not, cond, ltb, nat_le, drop, filter, option_map, slice_get, if◌then◌else◌, All, AllByRecursion, All-from_recursion, eq-eqb, ltb-true, le-ltb, le-leb, leb-true, get_or_default}
+-- If there is room for the first item of the walk, a batch without items means that nothing waits. The items of a batch are no longer
+-- than the messages of the groups.
+use Rattle.gb_types.specs.Common.{◌≡◌, ℕ, zero, suc, ◌<◌, ◌≤◌, List, [], ◌∷◌, length, map, Option, Some, None, refl, sym, ap, ◌∙◌, arith, Bool, true, false, ◌-◌, ◌&&◌, not, ltb, nat_le, drop, filter, option_map, if◌then◌else◌, All, AllByRecursion, All-from_recursion, le-ltb, le-leb, leb-true, get_or_default}
 use Rattle.std.specs.FinSet as nodes
-use Rattle.gb_types.specs.declared.{entry.Entry.Entry, limits.TheConstants.PAYLOAD, message.MsgId.MsgId, version.Version.Version}
+use Rattle.gb_types.specs.declared.{entry.Entry.Entry, message.MsgId.MsgId, version.Version.Version}
 use Rattle.gb_frame.specs.declared.item.Item.{Item}
 use Rattle.gb_rules.specs.Common.{payload_in, entry_in, is_other}
 use Rattle.gb_slot.specs.Common.{taken_for, SlotState}
 use Rattle.gb_table.specs.SlotsValue.{Row, row_at, no_row, IsShort, AreShort}
 use Rattle.gb_table.specs.GroupsValue.{GroupsValue, cursor_for, walk_to, batch}
-use Rattle.gb_table.specs.Packing.{Visit, visit, placed, fit, size, is_at, queue, queue_of, queues, items}
+use Rattle.gb_table.specs.Packing.{Visit, visit, placed, fit, first_size, size, is_at, queue, queue_of, queues, items}
 use Rattle.gb_table.specs.AtAddress.{place_of}
 use Rattle.gb_table.specs.Rooms.{is_passed}
 use Rattle.gb_table.proofs.GroupLemmas.{or_waiting}
-use Rattle.gb_table.specs.OneGroup.{slot_for, longest_item, NothingWaits, waiting_in}
+use Rattle.gb_table.specs.OneGroup.{slot_for, NothingWaits, waiting_in}
 use Rattle.gb_table.proofs.AddressLemmas.{place_is}
-use Rattle.gb_table.proofs.StepLemmas.{waiting_fits}
 use Rattle.gb_table.proofs.WalkLemmas.{length-queues, queues_at}
-use Rattle.gb_table.proofs.FrontLemmas.{Const, AllPass, is_below, walk_below, walk_of, walk_passes, batch_passes}
+use Rattle.gb_table.proofs.FrontLemmas.{Const, AllPass, walk_of, walk_passes, batch_passes}
 
--- what waits in a group whose messages are short is short
-first_short : (dest : ℕ) (o : Option SlotState) → IsShort PAYLOAD o → (x : Entry) (xs : List Entry) → queue_of dest o ≡ x ∷ xs → length x.payload ≤ PAYLOAD
-first_short dest None short x xs e = absurd (cc)
-first_short dest (Some s) short x xs e = waiting_fits PAYLOAD s dest 0 x short (ap (λ ys. slice_get ys 0) e)
-
-module _ (version : Version) (dest room : ℕ) (t : GroupsValue) (short : AreShort PAYLOAD t.rows) (enough : longest_item version ≤ room) where
+module _ (version : Version) (dest room : ℕ) (t : GroupsValue) (enough : first_size version (walk_to dest t) ≤ room) where
   at_place : (p : ℕ) → p < length t.rows → filter (is_at p) (walk_to dest t) ≡ map (visit p) (queue dest (row_at t.rows p))
   at_place p within =
       let l = length-queues dest t.rows in
       walk_of p (cursor_for dest t) (queues dest t.rows) (omega (arith, l, within))
       ∙ ap (map (visit p)) (queues_at dest t.rows p (row_at t.rows p) within (get_or_default t.rows p no_row (row_at t.rows p) within))
 
-  -- the first of the walk has room
-  fits : (v : Visit) (vs : List Visit) → walk_to dest t ≡ v ∷ vs → size version v ≤ room
-  fits v vs e =
-      let below : Const (is_below (length (queues dest t.rows))) true (v ∷ vs) = (rw e at (walk_below (cursor_for dest t) (queues dest t.rows))) in
-      let l = length-queues dest t.rows in
-      let within : v.place < length t.rows = let b = ltb-true v.place (length (queues dest t.rows)) below.0 in omega (arith, b, l) in
-      by (queue dest (row_at t.rows v.place)) refl (sym (ap (λ b. cond b (v ∷ filter (is_at v.place) vs) (filter (is_at v.place) vs)) (eq-eqb v.place v.place refl)) ∙ (ap (filter (is_at v.place)) (sym e) ∙ at_place v.place within))
-    where
-      by : (q : List Entry) → queue dest (row_at t.rows v.place) ≡ q → v ∷ filter (is_at v.place) vs ≡ map (visit v.place) (queue dest (row_at t.rows v.place)) → size version v ≤ room
-      by [] is same = let none : v ∷ filter (is_at v.place) vs ≡ [] = same ∙ ap (map (visit v.place)) is in absurd (cc)
-      by (x ∷ xs) is same =
-          let some : v ∷ filter (is_at v.place) vs ≡ visit v.place x ∷ map (visit v.place) xs = same ∙ ap (map (visit v.place)) is in
-          let first : v ≡ visit v.place x = cc in
-          let l = ap (λ (w : Visit). length w.item.payload) first in
-          let s = first_short dest (row_at t.rows v.place).slot (short.each v.place) x xs is in
-          omega (arith, l, s, enough)
-
   some_fit : (v : Visit) (vs : List Visit) → walk_to dest t ≡ v ∷ vs → length (batch version dest room t) ≡ 0 → ⊥
   unfolding fit
   some_fit v vs e none =
-      let room_for : ltb room (size version v) ≡ false = le-ltb room (size version v) (fits v vs e) in
+      let first = ap (first_size version) e in
+      let room_for : ltb room (size version v) ≡ false = le-ltb room (size version v) (omega (arith, first, enough)) in
       let long = ap (λ ws. length (fit version room ws)) e ∙ ap (λ b. length (if b then [] else v ∷ fit version (room - size version v) vs)) room_for in
       omega (arith, long, none)
 

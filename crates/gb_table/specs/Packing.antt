@@ -34,6 +34,11 @@ walk cursor qs = in_turns (from_place cursor (placed 0 qs))
 abbrev pub size : Version → Visit → ℕ
 size version v = (limits_of version).item_header + length v.item.payload
 
+-- the bytes that the first item of a walk takes in a packet of the version; 0 if nothing waits
+abbrev pub first_size : Version → List Visit → ℕ
+first_size version [] = 0
+first_size version (v ∷ vs) = size version v
+
 -- the longest front of a walk whose items have at most `room` bytes in all
 unfoldable pub fit : Version → ℕ → List Visit → List Visit
 fit version room [] = []

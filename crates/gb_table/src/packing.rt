@@ -7,7 +7,7 @@ ghost use Rattle.gb_table.specs.Busy.{IsBusy};
 ghost use Rattle.gb_table.specs.PlaceSet.{IsSummary};
 ghost use Rattle.gb_table.specs.SlotsValue.{HaveCounters, AreNamed, row_at, no_entry, IsShort};
 ghost use Rattle.gb_types.specs.declared.limits.TheConstants.{PLACES, PAYLOAD};
-ghost use Rattle.gb_table.specs.Packing.{queues, walk, size, fit, gave, new_cursor, room_after, items, first_place, queue, first_entry, took, item_of};
+ghost use Rattle.gb_table.specs.Packing.{queues, walk, size, first_size, fit, gave, new_cursor, room_after, items, first_place, queue, first_entry, took, item_of};
 ghost use Rattle.gb_table.specs.Fair.{IsFront, IsLongest};
 ghost use Rattle.gb_table.specs.GroupsValue.{walk_to, batch, packed};
 ghost use Rattle.gb_table.specs.OneGroup.{longest_item, NothingWaits};
@@ -228,15 +228,29 @@ impl Groups {
         self.measure_busy(busy.words(), summary, version, dest, from, room)
     }
 
+    /// Returns the number of bytes that the next item for `dest` takes as text of `version`: the first of the walk. Returns 0 if
+    /// nothing waits for `dest`. Changes nothing.
+    pub fn first_size(&self, version: Version, dest: NodeId) -> usize
+        ensures size { result ≡ first_size version (walk_to dest.number self.now) }
+        ensures longest { result ≤ longest_item version }
+    {
+        let from = self.cursors[dest.index()];
+        let Some(place) = self.next_place(dest, from) else {
+            return 0;
+        };
+        let (payload, _) = self.measure_at(place, dest, 0);
+        version.limits().item_header + payload
+    }
+
     /// Returns two numbers: how many items the next batch for `dest` has, as text of `version` in at most `room` bytes, and the
-    /// number of their bytes. `room` is at most 65,535. Changes nothing. If `room` holds the longest message, 0 items means that
+    /// number of their bytes. `room` is at most 65,535. Changes nothing. If `room` holds the next item for `dest`, 0 items means that
     /// nothing waits for `dest`.
     pub fn measure(&self, version: Version, dest: NodeId, room: usize) -> (u16, usize)
         requires { room ≤ 65535 }
         ensures count { result.0 ≡ length (batch version dest.number room self.now) }
         ensures bytes { result.1 ≡ sum_by (size version) (batch version dest.number room self.now) }
         ensures most { result.1 ≤ room }
-        ensures none { result.0 ≡ 0 → longest_item version ≤ room → NothingWaits dest.number self.now }
+        ensures none { result.0 ≡ 0 → first_size version (walk_to dest.number self.now) ≤ room → NothingWaits dest.number self.now }
     {
         let from = self.cursors[dest.index()];
         self.measure_walk(version, dest, from, room)

@@ -14,7 +14,7 @@ ghost use Rattle.gb_table.specs.OneGroup.{group_in, group_reply, longest_item, N
 ghost use Rattle.gb_table.specs.Rooms.{others_living};
 ghost use Rattle.gb_table.specs.GroupRows.{used};
 ghost use Rattle.gb_table.specs.GroupsValue.{walk_to, batch};
-ghost use Rattle.gb_table.specs.Packing.{items, size};
+ghost use Rattle.gb_table.specs.Packing.{first_size, items, size};
 ghost use Rattle.gb_table.specs.TableValue.{new_table, reserve_for, table_came, table_done, table_noticed, table_packed};
 ghost use Rattle.gb_cap.specs.declared.token.Need.TheVariants.{Admin};
 ghost use Rattle.gb_table.specs.Admission.{is_token, is_command_token};
@@ -439,14 +439,23 @@ impl Table {
         self.groups.notice(who);
     }
 
+    /// Returns the number of bytes that the next message for node `dest` takes in a packet, and 0 if nothing waits for `dest`. Changes
+    /// nothing.
+    pub fn first_size(&self, dest: NodeId) -> usize
+        ensures size { result ≡ first_size self.now.version (walk_to dest.number self.now.groups) }
+        ensures longest { result ≤ longest_item self.now.version }
+    {
+        self.groups.first_size(self.version, dest)
+    }
+
     /// Returns the number of messages in the next batch for node `dest`, and the number of bytes that they take, at most `room`. `room`
-    /// is at most 65,535. If `room` is enough for the longest message, 0 messages mean that nothing waits for `dest`. Changes nothing.
+    /// is at most 65,535. If `room` is enough for the next message, 0 messages mean that nothing waits for `dest`. Changes nothing.
     pub fn measure(&self, dest: NodeId, room: usize) -> (u16, usize)
         requires { room ≤ 65535 }
         ensures count { result.0 ≡ length (batch self.now.version dest.number room self.now.groups) }
         ensures bytes { result.1 ≡ sum_by (size self.now.version) (batch self.now.version dest.number room self.now.groups) }
         ensures most { result.1 ≤ room }
-        ensures none { result.0 ≡ 0 → longest_item self.now.version ≤ room → NothingWaits dest.number self.now.groups }
+        ensures none { result.0 ≡ 0 → first_size self.now.version (walk_to dest.number self.now.groups) ≤ room → NothingWaits dest.number self.now.groups }
     {
         self.groups.measure(self.version, dest, room)
     }

@@ -18,7 +18,7 @@ pub struct Plan {
     /// How many rooms the tenants of a node may reserve in all: 1,024 at most.
     pub places: u16,
     /// The most bytes of the items of a packet; no more than a packet of the sender's version has room for. Where the first item that
-    /// waits is longer than this, the packet may hold as many bytes of items as the longest message takes.
+    /// waits is longer than this, the packet has that item alone.
     pub room: u16,
     /// The key of the packets between the nodes.
     pub cluster_key: [u8; 32],

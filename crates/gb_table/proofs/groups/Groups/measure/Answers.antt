@@ -1,6 +1,4 @@
-use Rattle.gb_types.specs.Common.{length, ap, subst, sym, ◌∙◌, arith, sum_by}
-use Rattle.gb_types.specs.declared.limits.TheConstants.{PAYLOAD}
-use Rattle.gb_table.specs.SlotsValue.{AreShort}
+use Rattle.gb_types.specs.Common.{length, ap, sym, ◌∙◌, arith, sum_by}
 use Rattle.gb_table.specs.Packing.{queues, walk, size, fit}
 use Rattle.gb_table.specs.GroupsValue.{GroupsValue, walk_to}
 use Rattle.gb_table.proofs.BatchLemmas.{fit-fits}
@@ -22,4 +20,4 @@ returns-clause-most c = let fits = fit-fits c.args.version c.args.room (walk_to 
 
 pub returns-clause-none : goal.returns-clause-none
 returns-clause-none c none enough =
-    nothing_waits c.args.version c.args.dest.number c.args.room c.args.self.now (subst (λ (t : GroupsValue). AreShort PAYLOAD t.rows) c.self.view_is c.self.invariant.0.short) enough (sym (returns-clause-count c) ∙ none)
+    nothing_waits c.args.version c.args.dest.number c.args.room c.args.self.now enough (sym (returns-clause-count c) ∙ none)
