@@ -9,8 +9,8 @@ use Rattle.gb_keys.specs.Keys.{run_key}
 use Rattle.gb_server.specs.{Behaviour.beat_of, Behaviour.rates_by, Told.places}
 use Rattle.gb_keys.specs.declared.keys.Keys.{Keys}
 
--- the host of nodes of a cluster, with keys; each node sends the version of the file, and packets are tagged under the key of the run; what
--- happens goes through rings where records are wanted
+-- the host of nodes of a cluster, with keys; each node sends the version of the file, and packets are tagged under the key of the run; the events go
+-- through rings if records are wanted
 abbrev pub host_of : ClusterFile → Keys → Bool → HostPlan
 host_of file keys records = record {
   cluster = record { nodes = length file.nodes.items; versions = replicate NODES file.version; silence = file.silence; places = places; room = file.room; cluster_key = run_key keys.cluster file.run; admin_key = keys.admin };
@@ -18,7 +18,7 @@ host_of file keys records = record {
   ring = records;
 }
 
--- what file and words tell of the loop, in microseconds, with a limit of connections; the ticks wait for the other nodes
+-- the options of the loop by file and words, in microseconds, with a limit of connections; the ticks wait for the other nodes
 pub record ArePeerOptions (file : ClusterFile) (plan : PeerPlan) (most : ℕ) (options : LoopOptions) : Type 0 where
   pub tick : options.tick ≡ file.tick * 1000
   pub beat : options.beat ≡ beat_of file.tick file.silence

@@ -97,7 +97,7 @@ The second line of the file keys is the administrator's key, which gb_ctl wants.
 Exit status: 0 when all connections were served, or the server was ended in order, and, with --tape, its tapes were merged; 1 for a fault, 2 for \
 words that are refused.";
 
-// Returns the plan of words that `clap` took. `None` if their version does not exist or cannot name their number of nodes, if their
+// Returns the plan of words that `clap` accepted. `None` if their version does not exist or cannot name their number of nodes, if their
 // text for the status is no address, or if their texts for the limits of tenants give none.
 fn plan_of(matches: &ArgMatches<'_>) -> Option<ServePlan>
     requires { IsGiven (rows_of (found_of matches.now)) }
@@ -145,15 +145,15 @@ fn plan_of(matches: &ArgMatches<'_>) -> Option<ServePlan>
     })
 }
 
-// Returns false if a plan wants records beside tapes or without a folder.
+// Returns false if a plan wants records together with tapes or without a folder.
 fn may_record(plan: &ServePlan, has_dir: bool) -> bool
     ensures { result ≡ may_record plan.now.records plan.now.tape has_dir }
 {
     !plan.records || !plan.tape && has_dir
 }
 
-// Returns what words name and tell that `clap` took. `None` if they are no plan, want records beside tapes or without a folder, want
-// none of them on the disk, or if the path of their folder is empty.
+// Returns the folder and the plan of words that `clap` accepted. `None` if they give no plan, if they want records together with tapes or
+// without a folder, if they have `--sync` without `--record`, or if the path of their folder is empty.
 fn words_of<'a>(matches: &ArgMatches<'a>) -> Option<ServeWords<'a>>
     requires { IsGiven (rows_of (found_of matches.now)) }
     ensures read { IfSome result (IsReadOf (rows_of (found_of matches.now))) }
@@ -174,10 +174,10 @@ fn words_of<'a>(matches: &ArgMatches<'a>) -> Option<ServeWords<'a>>
     Some(ServeWords { dir, plan })
 }
 
-/// Returns what the words of gb_serve's command line tell a server to do: a plan, and the folder for records. The first word is the
-/// program's name. `Err` with `Refused` if `clap` refuses the words, their version does not exist or cannot name their number of nodes,
-/// their text for the status is no address, their texts for the limits of tenants give none, they want records beside tapes or without a
-/// folder, `--sync` stands without `--record`, or the path of their folder is empty. `Err` with `OutOfMemory` if there is no memory.
+/// Returns the plan and the folder for records that the words of gb_serve's command line give a server. The first word is the program's
+/// name. `Err` with `Refused` if `clap` refuses the words, their version does not exist or cannot name their number of nodes, their text
+/// for the status is no address, their texts for the limits of tenants give none, they want records together with tapes or without a
+/// folder, they have `--sync` without `--record`, or the path of their folder is empty. `Err` with `OutOfMemory` if there is no memory.
 pub fn read_words<'a>(alloc: Global, words: &'a [&'a str]) -> Result<ServeWords<'a>, WordFault>
     ensures given { IfOk result (λ read. IsReadOf (matches_of serve_app (map (λ word. word.now) words.entry.now)) read) }
     ensures within { IfOk result (λ read. IsWithin read.plan) }
@@ -197,7 +197,7 @@ pub fn read_words<'a>(alloc: Global, words: &'a [&'a str]) -> Result<ServeWords<
     }
 }
 
-// Returns why words that `clap` took are no plan. It is empty if they are one.
+// Returns the reason why words that `clap` accepted are no plan. It is empty if they are one.
 fn plan_refusal(alloc: Global, matches: &ArgMatches<'_>) -> Result<String, AllocError> {
     let nodes = matches.get_one::<u8>("nodes").unwrap_or(0);
     let byte = matches.get_one::<u8>("packet-version").unwrap_or(VERSION);
@@ -221,7 +221,7 @@ fn plan_refusal(alloc: Global, matches: &ArgMatches<'_>) -> Result<String, Alloc
     record_refusal(alloc, matches)
 }
 
-// Returns why records cannot be kept as they are wanted. It is empty if they can, or if none are wanted and the folder has a path.
+// Returns the reason why records cannot be kept as they are wanted. It is empty if they can, or if none are wanted and the folder has a path.
 fn record_refusal(alloc: Global, matches: &ArgMatches<'_>) -> Result<String, AllocError> {
     if !matches.get_flag("record") {
         return folder_refusal(alloc, matches);
@@ -239,7 +239,7 @@ fn record_refusal(alloc: Global, matches: &ArgMatches<'_>) -> Result<String, All
     folder_refusal(alloc, matches)
 }
 
-/// Returns the text that says why the words of gb_serve's command line are refused. It is empty if they are a plan. `Err` if there is
+/// Returns the text with the reason why the words of gb_serve's command line are refused. It is empty if they are a plan. `Err` if there is
 /// no memory.
 pub fn refusal_text(alloc: Global, words: &[&str]) -> Result<String, AllocError> {
     match command(alloc)?.try_get_matches_from(words) {
@@ -248,7 +248,7 @@ pub fn refusal_text(alloc: Global, words: &[&str]) -> Result<String, AllocError>
     }
 }
 
-/// Returns the text that the words of gb_serve's command line ask for: the help, or, if the word behind the program's name is `-V`, the
+/// Returns the text that the words of gb_serve's command line ask for: the help, or, if the word after the program's name is `-V`, the
 /// program's name and version. `Ok(None)` if they ask for neither. `Err` if there is no memory.
 pub fn asked_text(alloc: Global, words: &[&str]) -> Result<Option<String>, AllocError>
     ensures taken { takes serve_app (map (λ word. word.now) words.entry.now) ≡ true → IfOk result (λ text. text ≡ None) }

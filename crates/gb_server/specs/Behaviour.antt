@@ -1,11 +1,11 @@
--- How the loops of a server behave.
+-- The behaviour of a server's loops.
 use Rattle.std.specs.Prelude.{◌≡◌, ℕ, ◌*◌, ◌/◌, ◌-◌, ◌^◌, ◌==◌, if◌then◌else◌, nat_lt, map, Option, Some, None}
 use Rattle.gb_loop.specs.declared.options.LoopOptions.{LoopOptions}
 use Rattle.gb_loop.specs.declared.{rates.Rate.Rate, rates.RateLimits.RateLimits, rates.TenantRate.TenantRate}
 use Rattle.gb_serve_words.specs.declared.{limits.NamedLimit.NamedLimit, limits.TenantLimit.TenantLimit, limits.TenantLimits.TenantLimits}
 use Rattle.gb_serve_words.specs.declared.plan.ServePlan.{ServePlan}
 
--- after how many microseconds without anything sent to a node it is sent a sign of life, by the milliseconds of a tick and the ticks of silence
+-- the microseconds without a packet to a node after which it is sent a sign of life, by the milliseconds of a tick and the ticks of silence
 abbrev pub beat_of : ℕ → ℕ → ℕ
 beat_of tick silence = if nat_lt silence 8 then tick * 1000 / 2 else tick * 1000 * (silence / 8)
 
@@ -18,13 +18,13 @@ abbrev pub row_by : Option NamedLimit → Option TenantRate
 row_by None = None
 row_by (Some named) = Some (record { tenant = named.tenant; rate = rate_by named.limit })
 
--- how much each tenant may ask
+-- the rates of the tenants
 abbrev pub rates_by : TenantLimits → RateLimits
 rates_by limits = record { each = rate_by limits.each; named = map row_by limits.named }
 
--- what the words tell of the loops, in microseconds, with a limit of connections at each node; a sign of life comes
--- eight times in the silence that makes a node noticed, or, for a silence below 8 ticks, twice a tick; a message comes whole within
--- ten seconds while nothing was admitted of a connection, and within a minute later; the ticks wait for nobody; tenants have the limits of the words
+-- the options that the words give to the loops, in microseconds, with a limit of connections at each node; a sign of life is sent
+-- eight times in the silence that makes a node noticed, or, for a silence below 8 ticks, twice a tick; a message must be whole within
+-- ten seconds while nothing was admitted of a connection, and later within a minute; ticks wait for nothing; tenants have the limits of the words
 pub record AreOptions (plan : ServePlan) (most : ℕ) (options : LoopOptions) : Type 0 where
   pub tick : options.tick ≡ plan.tick * 1000
   pub beat : options.beat ≡ beat_of plan.tick plan.silence

@@ -15,10 +15,10 @@ use std::io::{ErrorKind, Write};
 use std::os::unix::fs::{DirBuilderExt, OpenOptionsExt};
 use std::{fs, io, str};
 
-/// What became of a record.
+/// The reason why a record is not there or not whole.
 #[derive(Clone, Copy, Debug, PartialEq, Eq)]
 pub enum RecordTrouble {
-    /// It was there before: the node has begun in this run.
+    /// The record was there before: the node has begun in this run.
     There,
     /// It could not be made.
     Unmade,
@@ -26,7 +26,7 @@ pub enum RecordTrouble {
     Unwritten,
 }
 
-/// Why there are no records.
+/// The reason why there are no records.
 #[derive(Clone, Copy, Debug, PartialEq, Eq)]
 pub enum RecordFault {
     Trouble(RecordTrouble),
@@ -39,14 +39,14 @@ impl From<OutOfMemory> for RecordFault {
     }
 }
 
-/// Where records are kept, and how.
+/// The folder of the records, their run, and how they are written.
 #[derive(Clone, Copy)]
 pub struct RecordPlace<'a> {
     /// The path of the folder.
     pub dir: &'a str,
     /// The number of the run.
     pub run: u64,
-    /// What was written is on the disk before the flush returns.
+    /// If true, a flush returns only when the written bytes are on the disk.
     pub syncs: bool,
 }
 
@@ -57,7 +57,7 @@ pub struct RecordFile {
     pub node: NodeId,
     file: File,
     syncs: bool,
-    // Something was written since it was last seen that all is on the disk.
+    // True if bytes were written since all bytes were last known to be on the disk.
     is_dirty: bool,
 }
 
@@ -76,7 +76,7 @@ impl Write for RecordFile {
     }
 }
 
-/// The file of a record, whose length is noted on a board.
+/// The file of a record, which stores its length on a board.
 #[derive(Drop)]
 pub struct CountedFile<'a> {
     file: RecordFile,
@@ -85,7 +85,7 @@ pub struct CountedFile<'a> {
 }
 
 impl<'a> CountedFile<'a> {
-    /// Returns this file of a record, to which nothing was written yet by what is noted on the board.
+    /// Returns this file of a record with a board, on which it stores the length 0.
     pub fn new(file: RecordFile, board: &'a Board) -> CountedFile<'a> {
         board.put_record(file.node, 0);
         CountedFile {
@@ -95,7 +95,7 @@ impl<'a> CountedFile<'a> {
         }
     }
 
-    /// Returns the file of the record.
+    /// Returns the file of the record, without the board.
     pub fn into_file(self) -> RecordFile {
         let CountedFile {
             file,
@@ -137,14 +137,14 @@ pub fn record_name(
     Ok(name)
 }
 
-/// Makes the folder `dir` if it is not there, and those above it that are not. Its owner alone may read what is made so.
+/// Makes the folder `dir` if it is not there, and those above it that are not. Only their owner may read the folders that it makes.
 pub fn make_folder<F: Files>(files: &F, dir: &str) {
     let mut builder = DirBuilder::new();
     builder.recursive(true).mode(0o700);
     let _ = builder.create(files, dir);
 }
 
-// Makes a file that was not there, which its owner alone may read.
+// Makes and returns a file that was not there, which its owner alone may read.
 fn make<F: Files<File = File>>(files: &F, name: &str) -> Result<File, RecordTrouble> {
     let mut options = OpenOptions::new();
     options.write(true).create_new(true).mode(0o600);
@@ -157,7 +157,7 @@ fn make<F: Files<File = File>>(files: &F, name: &str) -> Result<File, RecordTrou
     }
 }
 
-// Returns what the first line of a node's record says.
+// Returns the content of the first line of a node's record.
 fn head_of(plan: &HostPlan, node: NodeId) -> RecordHead
     ensures { result ≡ record { node = node; nodes = plan.now.cluster.nodes; silence = plan.now.cluster.silence; places = plan.now.cluster.places; version = version_at plan.now.cluster.versions node.number; room = plan.now.cluster.room } }
 {
@@ -171,7 +171,7 @@ fn head_of(plan: &HostPlan, node: NodeId) -> RecordHead
     }
 }
 
-// Writes the first line, and sees that it is on the disk.
+// Writes the first line, and waits until it is on the disk. Returns true if both succeeded.
 fn begin(alloc: Global, file: &mut File, head: &RecordHead) -> bool {
     write_head(alloc, file, head).is_ok() && file.sync_all().is_ok()
 }
@@ -239,7 +239,7 @@ pub fn open_records<F: Files<File = File>>(
     Ok(records)
 }
 
-/// Removes the file of a node's record from the folder of `place`. What cannot be removed stays.
+/// Removes the file of a node's record from the folder of `place`. A file that cannot be removed stays.
 pub fn remove_record<F: Files<File = File>>(
     files: &F,
     alloc: Global,
@@ -254,7 +254,7 @@ pub fn remove_record<F: Files<File = File>>(
     }
 }
 
-/// Sees that the names in a folder are on the disk. A system that does not do so for folders is passed over.
+/// Waits until the names in a folder are on the disk. Does nothing if the system cannot do so for folders.
 pub fn settle_folder<F: Files>(files: &F, dir: &str) {
     if let Ok(folder) = OpenOptions::new().read(true).open(files, dir) {
         let _ = folder.sync_all();

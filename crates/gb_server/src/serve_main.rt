@@ -48,7 +48,7 @@ const ROOM: u16 = 16_345;
 
 const _: () = prove!(ROOM == 16_345);
 
-// The host of a plan in a run. Each node sends the version of the plan.
+// Returns the host of a plan in a run. Each node sends the version of the plan.
 fn host_plan(plan: ServePlan, keys: Keys, run: u64) -> HostPlan
     ensures is { result ≡ host_of plan keys run }
     ensures limits { IsWithin plan → IsPlan result }
@@ -76,15 +76,15 @@ fn host_plan(plan: ServePlan, keys: Keys, run: u64) -> HostPlan
 // The name of the program.
 const NAME: &[u8] = b"gb_serve";
 
-/// Within what time a message comes whole, in microseconds: while nothing was admitted of a connection, and later.
+/// The time within which a message must be whole, in microseconds, while nothing was admitted of a connection. `LATER` is the time after that.
 pub const FIRST: u64 = 10_000_000;
 
 pub const LATER: u64 = 60_000_000;
 
 const _: () = prove!(FIRST == 10_000_000 && LATER == 60_000_000);
 
-/// Returns two times in microseconds. The first is that between two ticks; `tick` is in milliseconds. The second is how long nothing
-/// may be sent to a node before it is sent a sign of life: an eighth of `silence` ticks, rounded down to ticks, or half a tick if
+/// Returns two times in microseconds. The first is the time between two ticks; `tick` is in milliseconds. The second is the time without
+/// a packet to a node after which it is sent a sign of life: an eighth of `silence` ticks, rounded down to ticks, or half a tick if
 /// `silence` is below 8. After `silence` ticks without a packet a node is held for crashed (noticed as crashed).
 pub fn beats_of(tick: u16, silence: u16) -> (u64, u64)
     ensures tick { result.0 ≡ tick * 1000 }
@@ -99,7 +99,7 @@ pub fn beats_of(tick: u16, silence: u16) -> (u64, u64)
     (micros, beat)
 }
 
-// How the loops behave, with this limit of connections at each node.
+// Returns the options of the loops, with this limit of connections at each node.
 fn options_of(plan: ServePlan, connections: u64) -> LoopOptions
     ensures { AreOptions plan connections result }
 {
@@ -122,7 +122,7 @@ fn options_of(plan: ServePlan, connections: u64) -> LoopOptions
     }
 }
 
-// What a server is told by its plan.
+// Returns the settings of a server by its plan. `Err` if there is no memory.
 fn service_of(alloc: Global, plan: ServePlan) -> Result<Service, OutOfMemory>
     requires { IsWithin plan }
     ensures { IfOk result (λ service. service.line.items ≡ serving_line plan.nodes plan.base_port) }
@@ -141,7 +141,7 @@ fn service_of(alloc: Global, plan: ServePlan) -> Result<Service, OutOfMemory>
     })
 }
 
-// Serves on sockets that are bound.
+// Serves on sockets that are bound. Returns how the server ended.
 fn serve_host<
     L: Tapes + Send + Sync,
     H: Net<Listener = TcpListener, Stream = TcpStream> + Threads + Wait + Clock + Sync + Files,
@@ -201,7 +201,7 @@ fn serve_host<
     end(alloc, host, seats)
 }
 
-// Returns where the records of a run are kept. `None` if none are wanted.
+// Returns the folder of the records of a run, and how they are written. `None` if no records are wanted.
 fn place_of<'a>(words: &ServeWords<'a>, run: u64) -> Option<RecordPlace<'a>> {
     if !words.plan.records {
         return None;
@@ -211,7 +211,7 @@ fn place_of<'a>(words: &ServeWords<'a>, run: u64) -> Option<RecordPlace<'a>> {
     Some(RecordPlace { dir, run, syncs })
 }
 
-// Serves by words that were read, with keys, in a run.
+// Serves by words that were read, with keys, in a run. Returns how the server ended.
 fn serve_plan<
     H: Net<Listener = TcpListener, Stream = TcpStream>
         + Threads
@@ -257,9 +257,9 @@ fn serve_plan<
 }
 
 /// Runs a whole server by the words of a command line, in the run with the number `run`. Reads the keys from `reader`, and behind them
-/// the line `stop`. Writes the line that tells what is served to `writer`, and the log to `errors`. Binds sockets, makes threads and,
-/// if the words ask for it, files of records. Returns how it ended; no line tells that yet. `Err` with the first fault: `RefusedWords`
-/// before anything is read or written, then `BadKeys`, `NoRun` if `run` is `None`, `Descriptors`, and those of sockets, records, threads and the end.
+/// the line `stop`. Writes the first line to `writer`, and the log to `errors`. Binds sockets, makes threads and, if the words ask for it,
+/// files of records. Returns how the server ended, and prints no line about it. `Err` with the first fault: `RefusedWords` before anything
+/// is read or written, then `BadKeys`, `NoRun` if `run` is `None`, `Descriptors`, and those of sockets, records, threads and the end.
 pub fn serve<
     H: Net<Listener = TcpListener, Stream = TcpStream>
         + Threads
@@ -294,7 +294,7 @@ pub fn serve<
     serve_plan(rt, alloc, &read, keys, number, reader, writer, errors)
 }
 
-// Tells why a server did not serve to its end. Why words are refused is told where they were read.
+// Writes the reason why a server did not serve to its end. For refused words it writes nothing: their reader has written the reason.
 fn explain<E: Write>(alloc: Global, outcome: Result<Ended, ServeFault>, errors: &mut E)
     ensures { outcome ≡ Err ServeFault.RefusedWords → errors.new ≡ errors.old }
 {
@@ -309,10 +309,10 @@ fn explain<E: Write>(alloc: Global, outcome: Result<Ended, ServeFault>, errors: 
 
 /// Runs a whole server by the words of a command line, in the run with the number `run`. The first word is the program's name. `run` is
 /// `None` if the system had no random number. Reads the keys from `reader`, and behind them the line `stop`, which ends the server.
-/// Writes a line for what it serves and a line for how it ended to `writer`. Writes its log to `errors`, and there too why it did not
-/// serve to its end, unless the words were refused. Returns the exit status: 0 if all connections were served or the server was told to
-/// end, and its tapes were merged or its records are whole; 2 for refused words; 1 otherwise. When it returns, its threads have ended
-/// and its sockets are closed.
+/// Writes to `writer` a line with the nodes and ports that it serves, and a line for its end. Writes its log to `errors`, and there too
+/// the reason if it did not serve to its end, unless the words were refused. Returns the exit status: 0 if all connections were served
+/// or the server was asked to end, and its tapes were merged or its records are whole; 2 for refused words; 1 otherwise. When it returns,
+/// its threads have ended and its sockets are closed.
 pub fn serve_main<
     H: Net<Listener = TcpListener, Stream = TcpStream>
         + Threads
