@@ -11,6 +11,7 @@ use clap::{Arg, ArgAction, Command};
 use gb_audit_group::compare::compare;
 use gb_audit_group::lines::put_group;
 use gb_audit_run::audit::audit;
+use gb_audit_run::parts::{Joined, join_parts};
 use gb_audit_run::verdict::status_of;
 use gb_audit_run::{Audited, ClusterKeys, Source, Verdict};
 use gb_keys::keys::{read_keys, run_key};
@@ -29,7 +30,7 @@ use std::io::{ErrorKind as IoKind, Write};
 use std::os::unix::fs::OpenOptionsExt;
 use std::path::Path;
 use std::process::ExitCode;
-use std::{fs, io};
+use std::{fs, io, str};
 
 static AFTER: &str =
     "Standard input gives the keys of the cluster, as for gb_serve. The records that gb_serve and gb_peer write are of a run: R of their \
@@ -246,14 +247,13 @@ fn write_in(
 }
 
 // Writes what is left of audited records without their secrets to a folder, each under its file's own name, and the keys that an audit of
-// these needs. The folder is made if it is not there. `texts` are the records, in the order of their names. Returns false if a file was
-// there, after saying so.
+// these needs. A record of several parts has the name of its first file. The folder is made if it is not there. Returns false if a file
+// was there, after saying so.
 fn write_redacted(
     rt: &HostRuntime,
-    names: &Names<'_>,
     dir: &str,
     keys: &ClusterKeys,
-    texts: &[Vec<u8>],
+    sources: &[Source<'_>],
 ) -> Result<bool, Trouble> {
     let alloc = rt.alloc();
     let _ = fs::create_dir_all(rt, dir);
@@ -261,11 +261,15 @@ fn write_redacted(
     if write_in(rt, dir, "keys", &text)?.is_none() {
         return Ok(false);
     }
-    for (name, text) in names.records.iter().zip(texts) {
-        let Some(base) = Path::new(name).file_name() else {
+    for source in sources {
+        let first = match source.name.split_once('+') {
+            Some((first, _others)) => first,
+            None => source.name,
+        };
+        let Some(base) = Path::new(first).file_name() else {
             return Err(Trouble::Io);
         };
-        let made = redact_text(alloc, &keys.admin, text)?;
+        let made = redact_text(alloc, &keys.admin, source.text)?;
         let Some(place) = write_in(rt, dir, base, &made)? else {
             return Ok(false);
         };
@@ -312,10 +316,15 @@ fn audit_files(rt: &HostRuntime, names: &Names<'_>) -> Result<u8, Trouble> {
     };
     let mut lines = Vec::new(alloc);
     let texts = read_texts(rt, names, &mut lines)?;
+    let Some(joined) = join_parts(alloc, names.records, texts, &mut lines)? else {
+        print(rt, &lines)?;
+        return Ok(1);
+    };
+    let Joined { names: files, texts } = joined;
     let mut sources: Vec<Source<'_>> = Vec::new(alloc);
-    for place in 0..names.records.len().min(texts.len()) {
+    for place in 0..files.len().min(texts.len()) {
         sources.push(Source {
-            name: names.records[place],
+            name: str::from_utf8(&files[place]).unwrap_or("-"),
             text: texts[place].as_slice(),
         })?;
     }
@@ -331,7 +340,7 @@ fn audit_files(rt: &HostRuntime, names: &Names<'_>) -> Result<u8, Trouble> {
     }
     if let Some(dir) = names.redact
         && run.verdict != Verdict::Refused
-        && !write_redacted(rt, names, dir, &keys, &texts)?
+        && !write_redacted(rt, dir, &keys, &sources)?
     {
         return Ok(2);
     }

@@ -8,6 +8,7 @@ pub mod keys;
 pub mod laws;
 pub mod left;
 pub mod lines;
+pub mod parts;
 pub mod replay;
 pub mod verdict;
 

@@ -6,6 +6,7 @@ ghost use Rattle.gb_host.specs.Plans.{plan_of, IsPlan};
 
 use crate::pasts::{AtNode, Made, NodePast};
 use crate::plan::HostPlan;
+use crate::standing::Standing;
 use gb_node::{Node, NodeAnswer, NodePlan, TapeEntry};
 use gb_types::NodeId;
 use std::alloc::Global;
@@ -17,6 +18,7 @@ pub struct Begun {
     me: NodeId,
     node: Node,
     past: NodePast,
+    standing: Standing,
 }
 
 // Not derived: what is derived is proved anew in each crate that ends one.
@@ -27,6 +29,7 @@ impl Drop for Begun {
             me: _,
             node: _,
             past: _,
+            standing: _,
         } = self;
     }
 }
@@ -77,6 +80,7 @@ impl Begun {
             me,
             node,
             past,
+            standing: Standing::new(),
         }
     }
 
@@ -96,6 +100,7 @@ impl Begun {
             answer: &answer,
         };
         self.past.add::<Made<'_>, AtNode>(&made);
+        self.standing.note(&entry.event, &answer);
         answer.is(&entry.answer)
     }
 
@@ -122,6 +127,11 @@ impl Begun {
         &self.past
     }
 
+    /// Returns what the node's answers say of its links, and of the nodes that it noticed.
+    pub fn standing(&self) -> Standing {
+        self.standing.duplicate()
+    }
+
     // Takes it apart: the plan, the node's number, the node, and its past.
     pub(crate) fn into_parts(self) -> (HostPlan, NodeId, Node, NodePast)
         ensures { (result.0 ≡ self.plan) × (result.1 ≡ self.me) × (result.2 ≡ self.node) × (result.3 ≡ self.past) }
@@ -131,6 +141,7 @@ impl Begun {
             me,
             node,
             past,
+            standing: _,
         } = self;
         (plan, me, node, past)
     }

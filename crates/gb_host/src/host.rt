@@ -20,6 +20,7 @@ use crate::pasts::{NodePast, NodeSeen};
 use crate::plan::HostPlan;
 use crate::recorder::Recorder;
 use crate::seat::Seat;
+use crate::standing::Standing;
 use gb_cap::Token;
 use gb_node::{NodeAnswer, NodeEvent};
 use gb_table::Listing;
@@ -36,6 +37,8 @@ pub struct Host<L: Tapes> {
     plan: HostPlan,
     here: NodeSet,
     seats: u32,
+    // What the answers of each node of the plan said when the host was opened.
+    standings: Vec<Standing>,
     nodes: Vec<Option<Mutex<Hosted<L>>>>,
 }
 
@@ -109,6 +112,10 @@ impl<L: Tapes> Host<L> {
             Ok(given) => given,
             Err(fault) => return Err(fault),
         };
+        let standings = match standings_of(alloc, &begun) {
+            Ok(standings) => standings,
+            Err(fault) => return Err(fault),
+        };
         let (nodes, recorders) = match open_nodes(alloc, plan, &here, begun) {
             Ok(opened) => opened,
             Err(fault) => return Err(fault),
@@ -118,6 +125,7 @@ impl<L: Tapes> Host<L> {
             plan,
             here,
             seats,
+            standings,
             nodes,
         };
         Ok((host, given, recorders))
@@ -245,6 +253,14 @@ impl<L: Tapes> Host<L> {
         Some(hosted.list(token, from, most))
     }
 
+    /// Returns what the answers of a node said of its links, and of the nodes that it noticed, when the host was opened.
+    pub fn standing(&self, node: NodeId) -> Standing {
+        match self.standings.get(node.index()) {
+            Some(standing) => standing.duplicate(),
+            None => Standing::new(),
+        }
+    }
+
     // Returns the lock at the place of a node that is here.
     fn lock_of<R: Wait>(&self, rt: &R, node: NodeId) -> &Mutex<Hosted<L>> {
         if let Some(Some(lock)) = self.nodes.get(node.index()) {
@@ -261,6 +277,7 @@ impl<L: Tapes> Host<L> {
             plan: _,
             here: _,
             seats: _,
+            standings: _,
             nodes,
         } = self;
         for place in nodes {
@@ -291,6 +308,7 @@ impl<L: Tapes> Host<L> {
             plan,
             here,
             seats,
+            standings: _,
             nodes,
         } = self;
         (alloc, plan, here, seats, nodes)
@@ -304,8 +322,12 @@ fn never<R: Wait>(rt: &R) -> ! {
     unreachable!()
 }
 
-// Returns the nodes of a plan at which nothing has happened, by number, with these pasts.
-fn begin_all(alloc: Global, plan: HostPlan, pasts: Vec<NodePast>) -> Result<Vec<Begun>, HostFault>
+/// Returns the nodes of a plan at which nothing has happened, by number, with these pasts.
+pub fn begin_all(
+    alloc: Global,
+    plan: HostPlan,
+    pasts: Vec<NodePast>,
+) -> Result<Vec<Begun>, HostFault>
     requires limits { IsPlan plan }
     requires pasts { (vec_len pasts ≡ plan.cluster.nodes) × AreBlank pasts.items }
     ensures begun { IfOk result (λ begun. (vec_len begun ≡ plan.cluster.nodes) × AreBegun plan begun.items) }
@@ -381,6 +403,19 @@ fn open_nodes<L: Tapes>(
         recorders.push_reserved(recorder);
     }
     Ok((nodes, recorders))
+}
+
+// Returns what the answers of nodes say.
+fn standings_of(alloc: Global, begun: &[Begun]) -> Result<Vec<Standing>, HostFault>
+    ensures fault { IfErr result (λ why. why ≡ HostFault.OutOfMemory) }
+{
+    let mut standings = Vec::with_capacity(alloc, begun.len())?;
+    'nodes: for one in begun {
+        if standings.push(one.standing()).is_err() {
+            return Err(HostFault::OutOfMemory);
+        }
+    }
+    Ok(standings)
 }
 
 // Returns what is seen of the pasts of a plan's nodes: all that happened.

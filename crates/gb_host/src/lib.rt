@@ -23,6 +23,7 @@ pub mod pasts;
 pub mod plan;
 pub mod recorder;
 pub mod seat;
+pub mod standing;
 
 pub use begun::Begun;
 pub use closed::Closed;
@@ -34,3 +35,4 @@ pub use pasts::{NodePast, NodeSeen};
 pub use plan::HostPlan;
 pub use recorder::{Recorder, Taken};
 pub use seat::Seat;
+pub use standing::{LinkStanding, Standing};

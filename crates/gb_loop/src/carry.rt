@@ -1,7 +1,7 @@
 //! The packets of a loop: those that come, and those that are owed to other nodes.
 ghost use Rattle.std.specs.Prelude.{◌≡◌};
 
-use crate::links::Link;
+use crate::links::{CALL, Link};
 use crate::node_loop::NodeLoop;
 use gb_host::Tapes;
 use gb_mail::Settle;
@@ -20,6 +20,15 @@ pub const PACKETS: usize = 64;
 pub const FRAMES: usize = 64;
 
 const _: () = prove!(FRAMES == 64 && PACKETS == 64);
+
+// Returns the number of the highest frame that is acknowledged; 0 if none is.
+fn highest_of(hint: Hint) -> u64 {
+    if hint.mask == 0 {
+        return hint.base.saturating_sub(1);
+    }
+    let highest = 63 - u64::from(hint.mask.leading_zeros().min(63));
+    hint.base.saturating_add(highest)
+}
 
 impl<'a, L: Tapes, H: Wait + Clock, P: Port, S: Settle + Copy> NodeLoop<'a, L, H, P, S> {
     // Returns the node with this number, if it is another one and this one has not noticed it: to one that was noticed nothing is sent any
@@ -55,21 +64,52 @@ impl<'a, L: Tapes, H: Wait + Clock, P: Port, S: Settle + Copy> NodeLoop<'a, L, H
         }
     }
 
-    // A node was heard of. Once all others were the ticks wait no more.
-    fn hear_of(&mut self, from: NodeId)
+    // Returns true if each other node was heard of that this one has not noticed.
+    pub(crate) fn has_heard_all(&self) -> bool {
+        let mut has_all = true;
+        'nodes: for number in 0..self.nodes {
+            if let Some(other) = self.other(number) {
+                has_all = has_all && self.heard.contains(other);
+            }
+        }
+        has_all
+    }
+
+    // A node was heard of. Once all others were the ticks wait no more. Returns true if they waited for this one.
+    fn hear_of(&mut self, from: NodeId) -> bool
         ensures origin { self.new.mail.origin ≡ self.old.mail.origin }
     {
         if self.may_tick || self.heard.contains(from) {
-            return;
+            return false;
         }
         self.heard.insert(from);
-        let mut have_all = true;
-        'nodes: for number in 0..self.nodes {
-            if let Some(other) = self.other(number) {
-                have_all = have_all && self.heard.contains(other);
-            }
+        self.may_tick = self.has_heard_all();
+        true
+    }
+
+    // Returns after how long without anything sent to a node it is sent a sign of life.
+    fn beat_to(&self, to: NodeId) -> u64 {
+        if self.is_open() || self.heard.contains(to) {
+            self.options.beat
+        } else {
+            self.options.beat.min(CALL)
         }
-        self.may_tick = have_all;
+    }
+
+    // Returns true if the node packs and serves clients: one that goes on from its record does so once its ticks wait no more.
+    pub(crate) fn is_open(&self) -> bool {
+        self.may_tick || !self.options.resumes
+    }
+
+    // Looks whether another node knows of more than this one does, which goes on from its record: it acknowledges a frame that was never
+    // packed, or sent one outside the window. Then the record has lost its last lines.
+    fn guard(&mut self, good: Good, hint: Hint)
+        ensures origin { self.new.mail.origin ≡ self.old.mail.origin }
+    {
+        let is_beyond = highest_of(hint) > self.link(good.from).packed;
+        if self.options.resumes && (is_beyond || good.frame == Frame::Outside) {
+            self.is_lost = true;
+        }
     }
 
     // A good packet came.
@@ -78,10 +118,13 @@ impl<'a, L: Tapes, H: Wait + Clock, P: Port, S: Settle + Copy> NodeLoop<'a, L, H
     {
         let from = good.from;
         let has_frame = good.frame != Frame::Nothing;
-        self.hear_of(from);
+        let is_new = self.hear_of(from);
+        self.guard(good, hint);
         let mut link = self.link(from);
         link.done(u64::from(good.done), self.now);
-        link.owes = link.owes || has_frame;
+        let is_bare = !has_frame && good.done == 0;
+        let is_answered = is_new || is_bare && link.answers(self.now, self.options.beat);
+        link.owes = link.owes || has_frame || is_answered;
         self.set_link(from, link);
         if good.items > 0 || good.done > 0 {
             self.is_dirty = true;
@@ -189,7 +232,7 @@ impl<'a, L: Tapes, H: Wait + Clock, P: Port, S: Settle + Copy> NodeLoop<'a, L, H
             }
             link.repeated(now);
         }
-        if link.owes || link.sent_at.saturating_add(self.options.beat) <= now {
+        if link.owes || link.sent_at.saturating_add(self.beat_to(to)) <= now {
             let _ = self.mail.send(NodeEvent::Ack(to), to);
             link.sent(now);
         }
@@ -209,10 +252,11 @@ impl<'a, L: Tapes, H: Wait + Clock, P: Port, S: Settle + Copy> NodeLoop<'a, L, H
 
     // Returns how many microseconds nothing is to be done, if nothing happens.
     pub(crate) fn patience(&self) -> u64 {
+        let is_open = self.is_open();
         if self.has_packets
-            || self.has_clients
+            || is_open && self.has_clients
             || self.crowd.is_busy()
-            || self.is_dirty
+            || is_open && self.is_dirty
             || self.mail.is_touched()
         {
             return 0;
@@ -223,7 +267,7 @@ impl<'a, L: Tapes, H: Wait + Clock, P: Port, S: Settle + Copy> NodeLoop<'a, L, H
             .min(self.sources.due_at());
         'nodes: for number in 0..self.nodes {
             if let Some(to) = self.other(number) {
-                next = next.min(self.link(to).due_at(self.options.beat));
+                next = next.min(self.link(to).due_at(self.beat_to(to)));
             }
         }
         next.saturating_sub(self.now)

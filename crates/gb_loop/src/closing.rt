@@ -114,6 +114,13 @@ impl<'a, L: Tapes, H: Wait + Clock, P: Port, S: Settle + Copy> NodeLoop<'a, L, H
             thread::sleep(self.rt, Duration::from_millis(10));
             is_left = self.end_turns(until) != Rest::Nothing;
         }
+        self.close_all();
+    }
+
+    // Closes all connections.
+    pub(crate) fn close_all(&mut self)
+        ensures origin { self.new.mail.origin ≡ self.old.mail.origin }
+    {
         'keys: for key in 0..self.connections.capacity() {
             self.close(key);
         }

@@ -1,4 +1,5 @@
 //! What a loop owes another node.
+use gb_host::LinkStanding;
 
 /// How long after a frame was sent it is sent again, in microseconds: while no round trip was measured, and at least. Without an
 /// acknowledgement it is twice as long each time, up to the greater of `AGAIN_MOST` and what the measured round trip asks for.
@@ -13,6 +14,15 @@ const _: () = prove!(GRAIN == 1_000);
 
 const _: () = prove!(AGAIN_MOST == 256_000 && AGAIN == 4_000);
 
+/// After so long without anything sent to a node a packet from it that carries nothing is answered, in microseconds, or after half the time
+/// of a sign of life, if that is shorter. So a node that goes on from its record hears soon from one that has nothing to say.
+pub const ANSWER: u64 = 256_000;
+
+/// How often a node that goes on from its record calls one that it has not heard, in microseconds.
+pub const CALL: u64 = 100_000;
+
+const _: () = prove!(ANSWER == 256_000 && CALL == 100_000);
+
 /// How many frames may be open at first, at least and at most.
 pub const ROOM: u64 = 16;
 
@@ -25,7 +35,9 @@ const _: () = prove!(ROOM_MOST == 64 && ROOM == 16 && ROOM_LEAST == 4);
 /// What a loop knows of the link to another node, and what it owes it.
 #[derive(Clone, Copy)]
 pub struct Link {
-    /// How many frames were packed for it and are not acknowledged, and how many may be.
+    /// How many frames were packed for it.
+    pub packed: u64,
+    /// How many of them are not acknowledged, and how many may be.
     pub open: u64,
     pub room: u64,
     /// When a frame is sent again, where some are open.
@@ -54,6 +66,7 @@ impl Link {
     /// Returns a link on which nothing was sent and nothing is owed.
     pub fn new() -> Link {
         Link {
+            packed: 0,
             open: 0,
             room: ROOM,
             again_at: 0,
@@ -70,6 +83,16 @@ impl Link {
         }
     }
 
+    /// Returns a link by what the node said before: the frames that are not acknowledged are sent again at once, and an acknowledgement
+    /// is owed, so that the other node hears that this one is there.
+    pub fn resumed(before: LinkStanding) -> Link {
+        let mut link = Link::new();
+        link.packed = before.packed;
+        link.open = before.packed.saturating_sub(before.acknowledged);
+        link.owes = true;
+        link
+    }
+
     /// Notes that a frame was packed and sent.
     pub fn packed(&mut self, now: u64) {
         if self.open == 0 {
@@ -77,6 +100,7 @@ impl Link {
             self.late = 0;
             self.again_at = now.saturating_add(self.patience);
         }
+        self.packed = self.packed.saturating_add(1);
         self.open = self.open.saturating_add(1);
         if self.timed == 0 {
             self.timed = self.open;
@@ -139,6 +163,11 @@ impl Link {
                 now.saturating_add(self.patience)
             };
         }
+    }
+
+    /// Returns true if a packet that carries nothing is to be answered, by the time `beat` of a sign of life.
+    pub fn answers(&self, now: u64, beat: u64) -> bool {
+        self.sent_at.saturating_add(ANSWER.min(beat / 2)) <= now
     }
 
     /// Notes that frames were lost: fewer may be open.

@@ -9,7 +9,7 @@ use crate::links::Link;
 use crate::options::LoopOptions;
 use crate::parked::Parked;
 use crate::sources::{SOURCES, Sources};
-use gb_host::{Host, Seat, Tapes};
+use gb_host::{Host, Seat, Standing, Tapes};
 use gb_mail::{Mail, Parts, Settle};
 use gb_port::Port;
 use gb_status::{Figure, Figures, LoopTimes, Misfit};
@@ -42,6 +42,9 @@ pub trait Ending {
 
     /// A loop could not begin: its sockets could not be waited for.
     fn fail(&self);
+
+    /// A node that goes on from its record lacks the last lines of it: another node knows of more.
+    fn lose(&self) {}
 
     /// Returns true if the loop is to end.
     fn is_over(&self) -> bool;
@@ -94,17 +97,28 @@ pub struct NodeLoop<'a, L: Tapes, H, P: Port, S> {
     // Time passes at the node. It waits for the other nodes to be heard of, and these were.
     pub(crate) may_tick: bool,
     pub(crate) heard: NodeSet,
+    // Another node knows of more than this one does, which goes on from its record.
+    pub(crate) is_lost: bool,
     pub(crate) sources: Sources,
     // How long rounds and replies took, and whether the last look at a connection made replies.
     pub(crate) times: LoopTimes,
     pub(crate) has_replied: bool,
 }
 
-// A link to each node of a cluster.
-fn new_links(alloc: Global, nodes: u8) -> Result<Vec<Link>, OutOfMemory> {
+// A link to each node of a cluster: a new one, or, of a node that goes on, by what it said before.
+fn new_links(
+    alloc: Global,
+    nodes: u8,
+    resumes: bool,
+    before: &Standing,
+) -> Result<Vec<Link>, OutOfMemory> {
     let mut links = Vec::new(alloc);
-    for _ in 0..nodes {
-        links.push(Link::new())?;
+    for number in 0..nodes {
+        let link = match NodeId::from_number(number) {
+            Some(to) if resumes => Link::resumed(before.link(to)),
+            _ => Link::new(),
+        };
+        links.push(link)?;
     }
     Ok(links)
 }
@@ -130,6 +144,7 @@ impl<'a, L: Tapes, H: Wait + Clock, P: Port, S: Settle + Copy> NodeLoop<'a, L, H
         nodes: u8,
         options: LoopOptions,
         listener: TcpListener,
+        before: &Standing,
     ) -> Result<NodeLoop<'a, L, H, P, S>, Mail<'a, L, H, P>>
         ensures made { IfOk result (λ made. made.mail.origin ≡ mail.entry.origin) }
         ensures back { IfErr result (λ back. back.origin ≡ mail.entry.origin) }
@@ -137,7 +152,7 @@ impl<'a, L: Tapes, H: Wait + Clock, P: Port, S: Settle + Copy> NodeLoop<'a, L, H
         let Ok(space) = Vec::from_elem(alloc, 0u8, PIECE) else {
             return Err(mail);
         };
-        let Ok(links) = new_links(alloc, nodes) else {
+        let Ok(links) = new_links(alloc, nodes, options.resumes, before) else {
             return Err(mail);
         };
         Ok(NodeLoop {
@@ -158,7 +173,7 @@ impl<'a, L: Tapes, H: Wait + Clock, P: Port, S: Settle + Copy> NodeLoop<'a, L, H
             space,
             out: Vec::new(alloc),
             came: Vec::new(alloc),
-            is_dirty: false,
+            is_dirty: options.resumes,
             has_packets: true,
             has_clients: true,
             accepted: 0,
@@ -166,9 +181,10 @@ impl<'a, L: Tapes, H: Wait + Clock, P: Port, S: Settle + Copy> NodeLoop<'a, L, H
             open: 0,
             is_served: false,
             has_ticked: false,
-            noticed: NodeSet::new(),
+            noticed: before.noticed().duplicate(),
             may_tick: options.wait == 0,
             heard: NodeSet::new(),
+            is_lost: false,
             sources: Sources::new(),
             times: LoopTimes::new(),
             has_replied: false,
@@ -227,7 +243,10 @@ impl<'a, L: Tapes, H: Wait + Clock, P: Port, S: Settle + Copy> NodeLoop<'a, L, H
             self.receive();
             self.rest(poll);
         }
-        if self.has_clients {
+        if self.is_lost {
+            return;
+        }
+        if self.has_clients && self.is_open() {
             self.accept(poll);
         }
         self.release();
@@ -239,7 +258,7 @@ impl<'a, L: Tapes, H: Wait + Clock, P: Port, S: Settle + Copy> NodeLoop<'a, L, H
             self.wake_touched();
         }
         self.wake_some();
-        if self.is_dirty {
+        if self.is_dirty && self.is_open() {
             self.pack_all();
         }
         self.keep_links();
@@ -258,6 +277,9 @@ impl<'a, L: Tapes, H: Wait + Clock, P: Port, S: Settle + Copy> NodeLoop<'a, L, H
         let _ = self.settle.settle();
         let took = self.clock.now(self.rt).saturating_sub(begun);
         self.times.rounds.note(took);
+        if self.is_lost {
+            ending.lose();
+        }
         if self.mail.is_end_asked() {
             ending.asked();
         }
@@ -291,13 +313,18 @@ impl<'a, L: Tapes, H: Wait + Clock, P: Port, S: Settle + Copy> NodeLoop<'a, L, H
         ending.begun();
         self.mail.set(Figure::Running, 1);
         self.publish(ending);
+        self.may_tick = self.may_tick || self.has_heard_all();
         'rounds: for _ in self.rt.forever() {
             if ending.is_over() {
                 break;
             }
             self.round(&mut poll, &mut events, ending);
         }
-        self.finish();
+        if self.is_lost {
+            self.close_all();
+        } else {
+            self.finish();
+        }
         let _ = self.settle.settle();
         self.mail.set(Figure::Running, 0);
         self.publish(ending);
@@ -338,6 +365,7 @@ impl<'a, L: Tapes, H: Wait + Clock, P: Port, S: Settle + Copy> NodeLoop<'a, L, H
             noticed: _,
             may_tick: _,
             heard: _,
+            is_lost: _,
             sources: _,
             times: _,
             has_replied: _,
@@ -370,8 +398,9 @@ pub fn run_loop<L: Tapes, H: Wait + Clock, N: Net, P: Port, S: Settle + Copy, E:
         listener,
     } = sockets;
     let nodes = host.plan().cluster.nodes;
+    let before = host.standing(node);
     let mail = Mail::new(rt, host, alloc, node, seat, port);
-    match NodeLoop::new(rt, settle, alloc, mail, nodes, options, listener) {
+    match NodeLoop::new(rt, settle, alloc, mail, nodes, options, listener, &before) {
         Ok(made) => {
             let mut node_loop = made;
             node_loop.run(net, ending);

@@ -23,6 +23,9 @@ pub struct LoopOptions {
     pub requests: u64,
     /// How long the node's ticks wait for a packet of each other node; 0: they do not wait.
     pub wait: u64,
+    /// The node goes on from its record. While its ticks wait it packs nothing and serves no client, and it ends where another node knows
+    /// of more than it does.
+    pub resumes: bool,
     /// How much each tenant may ask.
     pub rates: RateLimits,
 }

@@ -153,6 +153,7 @@ pub fn options_of(alone: Alone, rates: RateLimits) -> LoopOptions {
         connections: 16,
         requests: u64::MAX,
         wait: alone.wait,
+        resumes: false,
         rates,
     }
 }

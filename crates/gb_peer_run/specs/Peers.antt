@@ -18,8 +18,8 @@ host_of file keys records = record {
   ring = records;
 }
 
--- what file and words tell of the loop, in microseconds, with a limit of connections; the ticks wait for the other nodes
-pub record ArePeerOptions (file : ClusterFile) (plan : PeerPlan) (most : ℕ) (options : LoopOptions) : Type 0 where
+-- what file and words tell of the loop, in microseconds, with a limit of connections, and whether the node goes on; the ticks wait for the other nodes
+pub record ArePeerOptions (file : ClusterFile) (plan : PeerPlan) (most : ℕ) (resumes : Bool) (options : LoopOptions) : Type 0 where
   pub tick : options.tick ≡ file.tick * 1000
   pub beat : options.beat ≡ beat_of file.tick file.silence
   pub idle : options.idle ≡ plan.idle * 1000000
@@ -29,4 +29,5 @@ pub record ArePeerOptions (file : ClusterFile) (plan : PeerPlan) (most : ℕ) (o
   pub connections : options.connections ≡ most
   pub requests : options.requests ≡ (if plan.session_requests == 0 then 2 ^ 64 - 1 else plan.session_requests)
   pub wait : options.wait ≡ plan.wait * 1000000
+  pub resumes : options.resumes ≡ resumes
   pub rates : options.rates ≡ rates_by plan.limits

@@ -56,10 +56,15 @@ pub fn host_plan(file: &ClusterFile, keys: Keys, records: bool) -> HostPlan
 }
 
 /// Returns how the loop of a node behaves: its ticks by the file, its limits by the words of the command line, and at most
-/// `connections` connections at once. For 0 messages a connection in the words, their number is not limited. Times are in
+/// `connections` connections at once; `resumes` says whether the node goes on from its record. For 0 messages a connection in the words, their number is not limited. Times are in
 /// microseconds.
-pub fn options_of(file: &ClusterFile, plan: PeerPlan, connections: u64) -> LoopOptions
-    ensures { ArePeerOptions file.now plan connections result }
+pub fn options_of(
+    file: &ClusterFile,
+    plan: PeerPlan,
+    connections: u64,
+    resumes: bool,
+) -> LoopOptions
+    ensures { ArePeerOptions file.now plan connections resumes result }
 {
     let (tick, beat) = beats_of(file.tick, file.silence);
     LoopOptions {
@@ -76,6 +81,7 @@ pub fn options_of(file: &ClusterFile, plan: PeerPlan, connections: u64) -> LoopO
             u64::from(plan.session_requests)
         },
         wait: u64::from(plan.wait) * 1_000_000,
+        resumes,
         rates: rates_by(plan.limits),
     }
 }

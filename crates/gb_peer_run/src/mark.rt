@@ -89,6 +89,21 @@ pub fn mark<F: Files>(
     Ok(marked)
 }
 
+/// Returns true if the mark of a node in a run is in the folder `dir`. `Err` if memory is refused.
+pub fn is_marked<F: Files>(
+    files: &F,
+    alloc: Global,
+    dir: &str,
+    run: u64,
+    node: u8,
+) -> Result<bool, OutOfMemory> {
+    let bytes = mark_name(alloc, dir, run, node)?;
+    let Ok(name) = str::from_utf8(&bytes) else {
+        return Ok(false);
+    };
+    Ok(fs::metadata(files, name).is_ok())
+}
+
 /// Removes the mark of a node in a run from the folder `dir`: the node did not begin. What cannot be removed stays.
 pub fn unmark<F: Files>(files: &F, alloc: Global, dir: &str, run: u64, node: u8) {
     if let Ok(bytes) = mark_name(alloc, dir, run, node)

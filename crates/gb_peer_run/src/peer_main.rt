@@ -1,9 +1,9 @@
 //! A node of a cluster, from its words to its exit status.
-ghost use Rattle.std.specs.Prelude.{◌≡◌, ◌≢◌, ◌≤◌, ◌<◌, ℕ, List, [], ◌++◌, Ok, Err, IfErr, IfOk, OnOk, length, map, vec_len};
+ghost use Rattle.std.specs.Prelude.{◌≡◌, ◌≢◌, ◌≤◌, ◌<◌, ◌+◌, ◌^◌, ℕ, List, [], ◌++◌, false, Ok, Err, IfErr, IfOk, OnOk, length, map, vec_len};
 ghost use Rattle.std.specs.Io.KnownBytes.{Appends, Consumes};
 ghost use Rattle.gb_cluster_file.specs.Cluster.{IsWithin};
 ghost use Rattle.gb_peer_words.specs.{Words.IsWithin as IsPlanWithin, Words.IsReadOf, Words.peer_app};
-ghost use Rattle.gb_host.specs.Common.{AreBlank, books_of, IsPlan};
+ghost use Rattle.gb_host.specs.Common.{AreBegun, AreBlank, books_of, IsPlan, pasts_begun};
 ghost use Rattle.gb_keys.specs.Keys.{AreKeys};
 ghost use Rattle.clap.specs.Words.{matches_of};
 ghost use Rattle.gb_peer_run.specs.Refused.{AreTaken, IsFileRefused, IsMarkFault, IsNodeRefused, IsRefused, MayServeAt};
@@ -13,7 +13,7 @@ use crate::cluster::{host_plan, node_count, options_of};
 use crate::complaint::{NAME, complain};
 use crate::fault::PeerFault;
 use crate::file::read_file;
-use crate::mark::{Marked, mark, unmark};
+use crate::mark::{Marked, is_marked, mark, unmark};
 use crate::places::{Places, places_of};
 use crate::sockets::open_sockets;
 use crate::told::{fault_status, serving_line, tell_closed, tell_fault};
@@ -26,16 +26,21 @@ use gb_loop::LoopOptions;
 use gb_peer_words::words::read_words;
 use gb_peer_words::{PeerPlan, PeerWords};
 use gb_serve_words::options::may_reach;
+use gb_server::boot::boot_now;
 use gb_server::complaint::complain as complain_of_server;
 use gb_server::descriptors::{allow_nodes, connections_of, descriptor_limit};
 use gb_server::ending::end_recorded;
 use gb_server::record_file::{RecordFault, RecordTrouble, open_records, remove_record};
 use gb_server::recorded::logs_of;
+use gb_server::resuming::{begin_from, begin_new, count_parts, go_on};
 use gb_server::run::run;
-use gb_server::server_log::put_address;
+use gb_server::server_log::{put_address, resumed_lines};
 use gb_server::sockets::{open_status, port_sockets};
 use gb_server::status::status_source;
-use gb_server::{Given, Held, Input, Keys, Opened, RecordFile, RecordPlace, ServeFault, Service};
+use gb_server::{
+    Beginning, Given, Held, Input, Keys, NotResumed, Opened, PartStart, RecordFile, RecordPlace,
+    Resuming, ServeFault, Service,
+};
 use gb_spelling::number::put_number;
 use gb_types::memory::put_bytes;
 use gb_types::{NodeId, OutOfMemory};
@@ -91,6 +96,22 @@ fn begun_by(marked: Marked, run: u64, me: NodeId) -> Result<(), PeerFault>
             node: me.number,
             run,
         }),
+        Marked::Failed => Err(PeerFault::Unmarked),
+    }
+}
+
+// Sees that the mark of a node that goes on is there.
+fn see_mark<F: Files>(
+    files: &F,
+    alloc: Global,
+    dir: &str,
+    run: u64,
+    me: NodeId,
+) -> Result<(), PeerFault>
+    ensures { IfErr result (λ fault. fault_status fault ≡ 1) }
+{
+    match mark(files, alloc, dir, run, me.number)? {
+        Marked::New | Marked::Old => Ok(()),
         Marked::Failed => Err(PeerFault::Unmarked),
     }
 }
@@ -155,6 +176,7 @@ fn service_of(
         nodes: 1,
         line,
         front,
+        resumed: Vec::new(alloc),
         stops_at_end: plan.stop_at_end,
         is_quiet: plan.quiet,
     })
@@ -168,13 +190,25 @@ struct Start<'a> {
     node: NodeId,
 }
 
-// Removes the mark and the record of a start that failed before anything could leave the node: it has not begun.
-fn withdraw<F: Files<File = File>>(files: &F, alloc: Global, start: Start<'_>) {
+// Removes the parts of the record, and the mark, of a start that failed before anything could leave the node. The mark of a node that
+// goes on stays: it has begun.
+fn withdraw<F: Files<File = File>>(
+    files: &F,
+    alloc: Global,
+    start: Start<'_>,
+    parts: &[PartStart],
+) {
     let Start { words, run, node } = start;
-    if let Some(place) = place_of(words, run) {
-        remove_record(files, alloc, place, node);
+    let Some(place) = place_of(files, alloc, words, run) else {
+        unmark(files, alloc, words.dir, run, node.number);
+        return;
+    };
+    'parts: for part in parts {
+        remove_record(files, alloc, place, *part);
     }
-    unmark(files, alloc, words.dir, run, node.number);
+    if !go_on(parts) {
+        unmark(files, alloc, words.dir, run, node.number);
+    }
 }
 
 // Serves a node on sockets that are bound. If its loop is not reached, the mark and the record of its start are removed.
@@ -197,7 +231,7 @@ fn serve_host<
     service: &Service,
     options: LoopOptions,
     opened: Opened,
-    pasts: Vec<NodePast>,
+    beginning: Beginning,
     reader: &mut R,
     writer: &mut W,
     errors: &mut E,
@@ -205,8 +239,10 @@ fn serve_host<
     requires plan { plan ≡ L.plan }
     requires limits { IsPlan plan }
     requires member { start.node.number < plan.cluster.nodes }
-    requires pasts { (vec_len pasts ≡ plan.cluster.nodes) × AreBlank pasts.items }
-    requires books { books_of pasts.items ≡ L.books }
+    requires begun { (vec_len beginning.begun ≡ plan.cluster.nodes) × AreBegun plan beginning.begun.items }
+    requires books { books_of (pasts_begun beginning.begun.items) ≡ L.books }
+    requires untaped { plan.tape ≡ false }
+    requires seat { beginning.seat + 64 < 2 ^ 32 }
     ensures told { OnOk result (Appends (W.contents writer.old) (W.contents writer.new) service.now.line.items) }
     ensures read { OnOk result ((bytes : List ℕ) × Consumes (R.remaining reader.old) (R.remaining reader.new) bytes) }
     ensures fault { IfErr result (λ fault. fault_status fault ≡ 1) }
@@ -216,17 +252,25 @@ fn serve_host<
         files,
         status,
     } = opened;
-    let (host, seats, recorders) = match Host::<L>::open(alloc, plan, only(start.node), 1, pasts) {
+    let Beginning {
+        begun,
+        starts,
+        seat,
+        locks,
+    } = beginning;
+    drop(locks);
+    let here = only(start.node);
+    let (host, seats, recorders) = match Host::<L>::open_begun(alloc, plan, here, seat, 1, begun) {
         Ok(opened) => opened,
         Err(fault) => {
-            withdraw(rt, alloc, start);
+            withdraw(rt, alloc, start, &starts);
             return Err(PeerFault::Serve(ServeFault::from(fault)));
         }
     };
     let logs = match logs_of(alloc, &plan, host.here(), recorders, files) {
         Ok(logs) => logs,
         Err(OutOfMemory) => {
-            withdraw(rt, alloc, start);
+            withdraw(rt, alloc, start, &starts);
             return Err(PeerFault::Serve(ServeFault::OutOfMemory));
         }
     };
@@ -250,29 +294,122 @@ fn serve_host<
 }
 
 // Returns where the record of the node is kept. `None` if none is wanted.
-fn place_of<'a>(words: &PeerWords<'a>, run: u64) -> Option<RecordPlace<'a>> {
+fn place_of<'a, F: Files>(
+    files: &F,
+    alloc: Global,
+    words: &PeerWords<'a>,
+    run: u64,
+) -> Option<RecordPlace<'a>> {
     if !words.plan.records {
         return None;
     }
-    let (dir, syncs) = (words.dir, words.plan.sync);
-    Some(RecordPlace { dir, run, syncs })
+    Some(RecordPlace {
+        dir: words.dir,
+        run,
+        syncs: words.plan.sync,
+        boot: boot_now(files, alloc),
+    })
 }
 
-// Makes the record of the node if one is wanted. Returns its file, or no file. If it cannot be made, the mark of the start is removed,
-// but not where a record was there before: by that the node has begun.
+// Returns true if the node has begun in the run: its mark or a part of its record is there.
+fn has_begun<F: Files>(
+    files: &F,
+    alloc: Global,
+    start: Start<'_>,
+    place: RecordPlace<'_>,
+) -> Result<bool, PeerFault>
+    ensures { IfErr result (λ fault. fault_status fault ≡ 1) }
+{
+    let has_mark = is_marked(files, alloc, place.dir, place.run, start.node.number)?;
+    match count_parts(files, alloc, place, start.node) {
+        Ok(parts) => Ok(has_mark || parts > 0),
+        Err(fault) => Err(PeerFault::Serve(ServeFault::from(fault))),
+    }
+}
+
+// Returns the nodes of the plan, the one that is served as its record says.
+fn resume<F: Files<File = File> + Clock>(
+    rt: &F,
+    alloc: Global,
+    plan: HostPlan,
+    start: Start<'_>,
+    place: RecordPlace<'_>,
+    tick: u16,
+    pasts: Vec<NodePast>,
+) -> Result<Beginning, PeerFault>
+    requires limits { IsPlan plan }
+    requires pasts { (vec_len pasts ≡ plan.cluster.nodes) × AreBlank pasts.items }
+    ensures begun { IfOk result (λ b. (vec_len b.begun ≡ plan.cluster.nodes) × AreBegun plan b.begun.items) }
+    ensures books { IfOk result (λ b. books_of (pasts_begun b.begun.items) ≡ books_of pasts.items) }
+    ensures seat { IfOk result (λ b. b.seat + 64 < 2 ^ 32) }
+    ensures fault { IfErr result (λ fault. fault_status fault ≡ 1) }
+{
+    let from = Resuming {
+        place,
+        first: start.node,
+        nodes: 1,
+        silence: Some(u64::from(plan.cluster.silence) * u64::from(tick)),
+    };
+    let beginning = match begin_from(rt, alloc, plan, pasts, from) {
+        Ok(beginning) => beginning,
+        Err(fault) => return Err(PeerFault::Serve(ServeFault::from(fault))),
+    };
+    if !beginning.resumes() {
+        let nothing = NotResumed::Nothing(start.node.number);
+        return Err(PeerFault::Serve(ServeFault::NotResumed(nothing)));
+    }
+    see_mark(rt, alloc, place.dir, place.run, start.node)?;
+    Ok(beginning)
+}
+
+// Returns the nodes of the plan: the one that is served begins in the run, or goes on if the words say so and it has begun. A mark is
+// left of its start.
+fn begin_or_resume<F: Files<File = File> + Clock>(
+    rt: &F,
+    alloc: Global,
+    plan: HostPlan,
+    start: Start<'_>,
+    tick: u16,
+    pasts: Vec<NodePast>,
+) -> Result<Beginning, PeerFault>
+    requires limits { IsPlan plan }
+    requires pasts { (vec_len pasts ≡ plan.cluster.nodes) × AreBlank pasts.items }
+    ensures begun { IfOk result (λ b. (vec_len b.begun ≡ plan.cluster.nodes) × AreBegun plan b.begun.items) }
+    ensures books { IfOk result (λ b. books_of (pasts_begun b.begun.items) ≡ books_of pasts.items) }
+    ensures seat { IfOk result (λ b. b.seat + 64 < 2 ^ 32) }
+    ensures fault { IfErr result (λ fault. fault_status fault ≡ 1) }
+{
+    if start.words.plan.resume
+        && let Some(place) = place_of(rt, alloc, start.words, start.run)
+        && has_begun(rt, alloc, start, place)?
+    {
+        return resume(rt, alloc, plan, start, place, tick, pasts);
+    }
+    let beginning = match begin_new(alloc, plan, pasts, start.node, 1) {
+        Ok(beginning) => beginning,
+        Err(fault) => return Err(PeerFault::Serve(ServeFault::from(fault))),
+    };
+    begin(rt, alloc, start.words.dir, start.run, start.node)?;
+    Ok(beginning)
+}
+
+// Makes the next part of the node's record if one is wanted. Returns its file, or no file. If it cannot be made, the mark of the start is
+// removed, but not where the node has begun before, or a record is there: by that it has begun.
 fn open_files<F: Files<File = File>>(
     files: &F,
     alloc: Global,
     start: Start<'_>,
     plan: &HostPlan,
+    starts: &[PartStart],
 ) -> Result<Vec<RecordFile>, PeerFault>
     ensures { IfErr result (λ fault. fault_status fault ≡ 1) }
 {
     let Start { words, run, node } = start;
-    match open_records(files, alloc, place_of(words, run), plan, node, 1) {
+    let place = place_of(files, alloc, words, run);
+    match open_records(files, alloc, place, plan, starts) {
         Ok(records) => Ok(records),
         Err(fault) => {
-            if fault != RecordFault::Trouble(RecordTrouble::There) {
+            if !go_on(starts) && fault != RecordFault::Trouble(RecordTrouble::There) {
                 unmark(files, alloc, words.dir, run, node.number);
             }
             Err(PeerFault::Serve(ServeFault::from(fault)))
@@ -323,7 +460,7 @@ fn serve_node<
     ensures fault { IfErr result (λ fault. fault_status fault ≡ 1) }
 {
     let plan = words.plan;
-    let service = service_of(
+    let mut service = service_of(
         alloc,
         file,
         plan,
@@ -344,21 +481,24 @@ fn serve_node<
         run: file.run,
         node: me,
     };
-    begin(rt, alloc, words.dir, file.run, me)?;
-    let files = open_files(rt, alloc, start, &host)?;
+    let beginning = begin_or_resume(rt, alloc, host, start, file.tick, pasts)?;
+    let files = open_files(rt, alloc, start, &host, &beginning.starts)?;
+    if let Ok(lines) = resumed_lines(alloc, NAME.as_bytes(), &beginning.starts) {
+        service.resumed = lines;
+    }
     let own = port_sockets(&sockets).own;
     let descriptors = descriptor_limit()
         .saturating_sub(files.len() as u64)
         .saturating_sub(own);
     let connections = connections_of(u64::from(plan.connections), 1, descriptors);
-    let options = options_of(file, plan, connections);
+    let options = options_of(file, plan, connections, beginning.resumes());
     let opened = Opened {
         sockets,
         files,
         status,
     };
     serve_host::<Brand, H, R, W, E>(
-        rt, alloc, host, start, &service, options, opened, pasts, reader, writer, errors,
+        rt, alloc, host, start, &service, options, opened, beginning, reader, writer, errors,
     )
 }
 

@@ -30,4 +30,5 @@ given_by c m p app =
       quiet = flag_at peer_app has_own c m p app 11 r (omega arith) refl;
       records = flag_at peer_app has_own c m p app 12 r (omega arith) refl;
       sync = flag_at peer_app has_own c m p app 13 r (omega arith) refl;
+      resume = flag_at peer_app has_own c m p app 14 r (omega arith) refl;
     }

@@ -2,7 +2,7 @@
 use Rattle.std.specs.Prelude.{◌≡◌, ◌≤◌, true, false, List, Some, is_some, unwrap_or, codes}
 use Rattle.clap.specs.Words.{App, Row, Rule, Text, first_of, new_app, one_of, with_rule}
 use Rattle.gb_serve_words.specs.Limits.{HasLimits, IsLimitsOf, IsLimitsWithin, limit_rule, limit_texts}
-use Rattle.gb_serve_words.specs.Options.{HasAddress, HasFlag, HasNumber, IsAddressOf, connections_rule, flag_rule, given, idle_rule, is_set, may_sync, named_rule, names_folder, requests_rule, sessions_rule, status_rule, text_rule}
+use Rattle.gb_serve_words.specs.Options.{HasAddress, HasFlag, HasNumber, IsAddressOf, connections_rule, flag_rule, given, idle_rule, is_set, may_stand, named_rule, names_folder, requests_rule, sessions_rule, status_rule, text_rule}
 use Rattle.gb_serve_words.specs.declared.options.TheConstants.{CONNECTIONS, IDLE, MOST_CONNECTIONS, MOST_IDLE, MOST_REQUESTS, MOST_SESSIONS}
 use Rattle.gb_peer_words.specs.declared.{plan.PeerPlan.PeerPlan, plan.PeerWords.PeerWords, words.TheConstants.LAST_NODE, words.TheConstants.MOST_WAIT, words.TheConstants.WAIT}
 
@@ -11,9 +11,9 @@ abbrev pub required_text : Text → Rule
 required_text name = record (text_rule name) { required = true; value_names = 1 }
 
 -- the command of gb_peer: --cluster, --node and --dir are required, --wait, --sessions, --connections, --idle, --session-requests,
--- --remote-sessions, --status, --stop-at-end, --quiet, --record, --sync and --tenant-limit are not
+-- --remote-sessions, --status, --stop-at-end, --quiet, --record, --sync, --resume and --tenant-limit are not
 abbrev pub peer_app : App
-peer_app = with_rule (with_rule (with_rule (with_rule (with_rule (with_rule (with_rule (with_rule (with_rule (with_rule (with_rule (with_rule (with_rule (with_rule (with_rule (new_app (codes "gb_peer"))
+peer_app = with_rule (with_rule (with_rule (with_rule (with_rule (with_rule (with_rule (with_rule (with_rule (with_rule (with_rule (with_rule (with_rule (with_rule (with_rule (with_rule (new_app (codes "gb_peer"))
     (required_text (codes "cluster")))
     (named_rule (codes "node") 0 LAST_NODE true))
     (required_text (codes "dir")))
@@ -28,14 +28,16 @@ peer_app = with_rule (with_rule (with_rule (with_rule (with_rule (with_rule (wit
     (flag_rule (codes "quiet")))
     (flag_rule (codes "record")))
     (flag_rule (codes "sync")))
+    (flag_rule (codes "resume")))
     limit_rule
 
 -- the text that was given for the status writes an address, the texts that were given for the limits of tenants give limits, records are
--- wanted if they are to be on the disk, and the path that was given for the folder has a byte
+-- wanted if they are to be on the disk or gone on from, and the path that was given for the folder has a byte
 pub record CanServe (rows : List Row) : Type 0 where
   pub status : HasAddress (one_of (codes "status") rows)
   pub limits : HasLimits (limit_texts rows)
-  pub disk : may_sync (is_set rows (codes "record")) (is_set rows (codes "sync")) ≡ true
+  pub disk : may_stand (is_set rows (codes "record")) (is_set rows (codes "sync")) ≡ true
+  pub resumed : may_stand (is_set rows (codes "record")) (is_set rows (codes "resume")) ≡ true
   pub folder : names_folder (first_of (codes "dir") rows) ≡ true
 
 -- each field of the plan is what its option was given in these matches, or else what stands for an option that is left
@@ -54,6 +56,7 @@ pub record IsPlanOf (rows : List Row) (plan : PeerPlan) : Type 0 where
   pub quiet : plan.quiet ≡ is_set rows (codes "quiet")
   pub records : plan.records ≡ is_set rows (codes "record")
   pub sync : plan.sync ≡ is_set rows (codes "sync")
+  pub resume : plan.resume ≡ is_set rows (codes "resume")
 
 -- the paths are the texts that were given for them, and the plan is that of these matches
 pub record IsReadOf (rows : List Row) (read : PeerWords) : Type 0 where
@@ -87,3 +90,4 @@ pub record IsGiven (rows : List Row) : Type 0 where
   pub quiet : HasFlag (one_of (codes "quiet") rows)
   pub records : HasFlag (one_of (codes "record") rows)
   pub sync : HasFlag (one_of (codes "sync") rows)
+  pub resume : HasFlag (one_of (codes "resume") rows)

@@ -31,6 +31,8 @@ pub struct PeerPlan {
     pub records: bool,
     /// Whether what is written there is on the disk before anything leaves the node.
     pub sync: bool,
+    /// Whether a node that has begun in the run goes on where its record ends.
+    pub resume: bool,
 }
 
 /// What the words of a command line name, and what they tell the node to do.

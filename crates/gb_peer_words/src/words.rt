@@ -9,7 +9,7 @@ use clap::{ArgMatches, Command};
 use gb_serve_words::limits::{limit_arg, limits_given, limits_refusal};
 use gb_serve_words::options::{
     CONNECTIONS, IDLE, connections_arg, fault_from, flag_arg, folder_refusal, idle_arg, is_folder,
-    may_sync, number_arg, quiet_arg, record_arg, requests_arg, sessions_arg, status_arg, status_of,
+    may_stand, number_arg, quiet_arg, record_arg, requests_arg, resume_arg, sessions_arg, status_arg, status_of,
     status_refusal, stop_arg, sync_arg, text_arg, text_asked,
 };
 use gb_serve_words::{TenantLimits, WordFault};
@@ -70,7 +70,8 @@ fn command<'a>(alloc: Global) -> Result<Command<'a>, AllocError>
     let with_quiet = with_stop.arg(quiet_arg(alloc))?;
     let with_record = with_quiet.arg(record_arg(alloc))?;
     let with_sync = with_record.arg(sync_arg(alloc))?;
-    with_sync.arg(limit_arg(alloc))
+    let with_resume = with_sync.arg(resume_arg(alloc))?;
+    with_resume.arg(limit_arg(alloc))
 }
 
 /// What the help says behind the options.
@@ -104,6 +105,7 @@ fn plan_of(matches: &ArgMatches<'_>, status: Option<SocketAddr>, limits: TenantL
     let quiet = matches.get_flag("quiet");
     let records = matches.get_flag("record");
     let sync = matches.get_flag("sync");
+    let resume = matches.get_flag("resume");
     PeerPlan {
         node,
         wait: wait.unwrap_or(WAIT),
@@ -118,11 +120,12 @@ fn plan_of(matches: &ArgMatches<'_>, status: Option<SocketAddr>, limits: TenantL
         quiet,
         records,
         sync,
+        resume,
     }
 }
 
 // Returns what words name and tell that `clap` took; `None` where their address for the status is none, their texts for the limits of
-// tenants give none, the path of their folder is empty, or `--sync` stands without `--record`.
+// tenants give none, the path of their folder is empty, or `--sync` or `--resume` stands without `--record`.
 fn words_of<'a>(matches: &ArgMatches<'a>) -> Option<PeerWords<'a>>
     requires { IsGiven (rows_of (found_of matches.now)) }
     ensures read { IfSome result (IsReadOf (rows_of (found_of matches.now))) }
@@ -134,7 +137,10 @@ fn words_of<'a>(matches: &ArgMatches<'a>) -> Option<PeerWords<'a>>
     let cluster = matches.get_str("cluster").unwrap();
     let dir = matches.get_str("dir").unwrap();
     let plan = plan_of(matches, status, limits);
-    if !may_sync(plan.records, plan.sync) {
+    if !may_stand(plan.records, plan.sync) {
+        return None;
+    }
+    if !may_stand(plan.records, plan.resume) {
         return None;
     }
     if !is_folder(Some(dir)) {
@@ -145,7 +151,7 @@ fn words_of<'a>(matches: &ArgMatches<'a>) -> Option<PeerWords<'a>>
 
 /// Returns what the words of a command line name and tell a node to do. The first word is the program's name. `Err` with `Refused`
 /// if `clap` refuses the words, the text of their address for the status is no address, their texts for the limits of tenants give none, the
-/// path of their folder is empty, or `--sync` stands without `--record`. `Err` with `OutOfMemory` if memory is refused.
+/// path of their folder is empty, or `--sync` or `--resume` stands without `--record`. `Err` with `OutOfMemory` if memory is refused.
 pub fn read_words<'a>(alloc: Global, words: &'a [&'a str]) -> Result<PeerWords<'a>, WordFault>
     ensures given { IfOk result (λ read. IsReadOf (matches_of peer_app (map (λ word. word.now) words.entry.now)) read) }
     ensures within { IfOk result (λ read. IsWithin read.plan) }

@@ -1,5 +1,5 @@
 -- The options of a command line: the rule of each, as `clap` reads it, and the value of its entry in the matches.
-use Rattle.std.specs.Prelude.{◌≡◌, ◌==◌, ◌⊎◌, ◌||◌, not, ℕ, Bool, true, false, List, Option, None, Some, IfSome, option_map, length, codes, pos}
+use Rattle.std.specs.Prelude.{◌≡◌, ◌≤◌, ◌-◌, ◌^◌, ◌==◌, ◌⊎◌, ◌||◌, not, ℕ, Bool, true, false, List, Option, None, Some, IfSome, option_map, length, codes, decimal, pos}
 use Rattle.std.specs.{Option.option_map_or, Net.Addr.IsLoopbackV4, Net.Addr.IsLoopbackV6, Net.Addr.MatchIp, Net.Socket.socket_ip, Net.Grammar.IsSocketText, Str.bytes_eq, Str.Parse.digits_value, Str.Parse.without_leading_plus}
 use Rattle.std.specs.declared.net.socket_addr.SocketAddr.{SocketAddr}
 use Rattle.clap.specs.Words.{IsSignedIn, Row, Rule, Text, new_rule, one_of, without_minus}
@@ -72,6 +72,15 @@ IsAddressOf (Some text) address = (a : SocketAddr) × (address ≡ Some a) × Is
 abbrev pub HasAddress : Option Text → Type 0
 HasAddress entry = IfSome entry (λ text. (a : SocketAddr) × IsSocketText text a)
 
+-- the number is the one that the given text spells, or none if no text was given
+abbrev pub IsRunOf : Option Text → Option ℕ → Type 0
+IsRunOf None run = run ≡ None
+IsRunOf (Some text) run = (n : ℕ) × (run ≡ Some n) × (n ≤ 2 ^ 64 - 1) × (text ≡ decimal n)
+
+-- no text was given for the number of a run, or the given text spells one
+abbrev pub HasRun : Option Text → Type 0
+HasRun entry = IfSome entry (λ text. (n : ℕ) × (n ≤ 2 ^ 64 - 1) × (text ≡ decimal n))
+
 -- an address that no other machine reaches: one of 127.0.0.0/8, or ::1
 abbrev pub IsLoopback : SocketAddr → Type 0
 IsLoopback address = MatchIp (socket_ip address) IsLoopbackV4 IsLoopbackV6
@@ -84,9 +93,9 @@ MayReach is_allowed address = (is_allowed ≡ true) ⊎ IsLoopback address
 abbrev pub names_folder : Option Text → Bool
 names_folder dir = option_map_or (λ path. not (length path == 0)) dir true
 
--- what is written is wanted on the disk only where something is written
-abbrev pub may_sync : Bool → Bool → Bool
-may_sync is_wanted is_synced = is_wanted || not is_synced
+-- an option that wants another one stands only beside it
+abbrev pub may_stand : Bool → Bool → Bool
+may_stand other option = other || not option
 
 -- no text, or a text that `clap` made of a number from `least` to `most`
 abbrev pub HasNumber : ℕ → ℕ → Option Text → Type 0

@@ -1,7 +1,7 @@
 //! Options of a command line that gb_serve has in common with other programs, and the texts that its words ask for.
 ghost use Rattle.std.specs.Prelude.{◌≡◌, ◌≢◌, ◌⊎◌, true, false, IfSome, IfNone, alloc_error, codes, option_map};
 ghost use Rattle.clap.specs.Words.{found_of, kind_of, one_of, rows_of, rule_of};
-ghost use Rattle.gb_serve_words.specs.Options.{number_rule, text_rule, flag_rule, sessions_rule, idle_rule, connections_rule, requests_rule, status_rule, may_sync, names_folder, HasAddress, IsAddressOf, MayReach};
+ghost use Rattle.gb_serve_words.specs.Options.{number_rule, text_rule, flag_rule, sessions_rule, idle_rule, connections_rule, requests_rule, status_rule, may_stand, names_folder, HasAddress, IsAddressOf, MayReach};
 
 use crate::fault::WordFault;
 use clap::builder::ValueParser;
@@ -161,6 +161,16 @@ pub fn sync_arg<'a>(alloc: Global) -> Arg<'a>
     )
 }
 
+/// Returns the option `--resume` of a server: a node that has begun in the run goes on where its record ends.
+pub fn resume_arg<'a>(alloc: Global) -> Arg<'a>
+    ensures rule { rule_of result ≡ flag_rule (codes "resume") }
+    ensures local { result.global ≡ false }
+{
+    flag_arg(alloc, "resume").help(
+        "with --record: a node that has begun in the run goes on where its record ends",
+    )
+}
+
 /// Returns the address that the option `--status` has in words that `clap` took, and `Some(None)` if the option is not given. `None` if
 /// its text is no address.
 pub fn status_of(matches: &ArgMatches<'_>) -> Option<Option<SocketAddr>>
@@ -192,11 +202,11 @@ pub fn is_folder(dir: Option<&str>) -> bool
     }
 }
 
-/// Returns false if records are wanted on the disk that are not wanted.
-pub fn may_sync(records: bool, sync: bool) -> bool
-    ensures { result ≡ may_sync records sync }
+/// Returns false if an option is given without another one that it wants.
+pub fn may_stand(other: bool, option: bool) -> bool
+    ensures { result ≡ may_stand other option }
 {
-    records || !sync
+    other || !option
 }
 
 /// Returns the fault for an error of `clap`: `OutOfMemory` if it lacked memory, else `Refused`.
@@ -225,16 +235,19 @@ pub fn status_refusal(alloc: Global, matches: &ArgMatches<'_>) -> Result<String,
     )
 }
 
-/// Returns the text that says why the values of the options `--dir`, `--record` and `--sync` are refused: the path of the folder is
-/// empty, or `--sync` stands without `--record`. It is empty if neither is so. `Err` if there is no memory.
+/// Returns the text that says why the values of the options `--dir`, `--record`, `--sync` and `--resume` are refused: the path of the
+/// folder is empty, or `--sync` or `--resume` stands without `--record`. It is empty if none is so. `Err` if there is no memory.
 pub fn folder_refusal(alloc: Global, matches: &ArgMatches<'_>) -> Result<String, AllocError> {
     if !is_folder(matches.get_str("dir")) {
         return format!(in alloc;
             "error: invalid value '' for '--dir <DIR>': a folder is wanted, as '.' for the one where the program runs{HINT}"
         );
     }
-    if !may_sync(matches.get_flag("record"), matches.get_flag("sync")) {
+    if !may_stand(matches.get_flag("record"), matches.get_flag("sync")) {
         return format!(in alloc; "error: the argument '--sync' wants records: '--record'{HINT}");
+    }
+    if !may_stand(matches.get_flag("record"), matches.get_flag("resume")) {
+        return format!(in alloc; "error: the argument '--resume' wants records: '--record'{HINT}");
     }
     Ok(String::new(alloc))
 }

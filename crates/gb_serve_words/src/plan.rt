@@ -38,6 +38,8 @@ pub struct ServePlan {
     pub records: bool,
     /// Whether what is written there is on the disk before anything leaves the node.
     pub sync: bool,
+    /// Whether nodes that have begun in the run go on where their records end. Then the words name a run.
+    pub resume: bool,
 }
 
 /// What the words of a command line name, and what they tell a server to do.
@@ -45,5 +47,7 @@ pub struct ServePlan {
 pub struct ServeWords<'a> {
     /// The path of the folder for the records, as it was written, if it was.
     pub dir: Option<&'a str>,
+    /// The number of the run, if it was written.
+    pub run: Option<u64>,
     pub plan: ServePlan,
 }

@@ -1,17 +1,19 @@
 //! The words of the server's command line.
-ghost use Rattle.std.specs.Prelude.{◌≡◌, ◌≢◌, ◌⊎◌, IfOk, IfSome, IfNone, None, map, [], true, is_some};
-ghost use Rattle.clap.specs.Words.{app_of, found_of, matches_of, rows_of, takes, fault_of};
+ghost use Rattle.std.specs.Prelude.{◌≡◌, ◌≢◌, ◌⊎◌, IfOk, IfSome, IfNone, None, codes, map, [], true, is_some};
+ghost use Rattle.clap.specs.Words.{app_of, first_of, found_of, matches_of, rows_of, takes, fault_of};
+ghost use Rattle.gb_serve_words.specs.Options.{HasRun, IsRunOf};
 ghost use Rattle.gb_serve_words.specs.Words.{serve_app, may_record, IsGiven, IsPlanOf, IsReadOf, IsWithin, CanServe};
 
 use crate::fault::WordFault;
 use crate::limits::{limit_arg, limits_given, limits_refusal};
 use crate::options::{
     CONNECTIONS, HINT, IDLE, connections_arg, fault_from, flag_arg, folder_refusal, idle_arg,
-    is_folder, may_sync, number_arg, quiet_arg, record_arg, requests_arg, sessions_arg, status_arg,
+    is_folder, may_stand, number_arg, quiet_arg, record_arg, requests_arg, resume_arg, sessions_arg, status_arg,
     status_of, status_refusal, stop_arg, sync_arg, text_arg, text_asked,
 };
 use crate::plan::{ServePlan, ServeWords};
 use clap::{ArgMatches, Command};
+use gb_spelling::number::read_number;
 use gb_types::Version;
 use gb_types::limits::NODES;
 use std::alloc::{AllocError, Global};
@@ -81,7 +83,12 @@ fn command<'a>(alloc: Global) -> Result<Command<'a>, AllocError>
     let with_dir = with_quiet.arg(dir)?;
     let with_record = with_dir.arg(record_arg(alloc))?;
     let with_sync = with_record.arg(sync_arg(alloc))?;
-    with_sync.arg(limit_arg(alloc))
+    let with_resume = with_sync.arg(resume_arg(alloc))?;
+    let run = text_arg(alloc, "run").value_name("R").help(
+        "the number of the run, 0 to 18446744073709551615, under whose key packets are tagged; drawn at random if not given",
+    );
+    let with_run = with_resume.arg(run)?;
+    with_run.arg(limit_arg(alloc))
 }
 
 /// The text of the help behind the options.
@@ -119,6 +126,7 @@ fn plan_of(matches: &ArgMatches<'_>) -> Option<ServePlan>
     let quiet = matches.get_flag("quiet");
     let records = matches.get_flag("record");
     let sync = matches.get_flag("sync");
+    let resume = matches.get_flag("resume");
     let version = Version::from_byte(byte.unwrap_or(VERSION))?;
     if nodes > version.limits().nodes {
         return None;
@@ -142,6 +150,7 @@ fn plan_of(matches: &ArgMatches<'_>) -> Option<ServePlan>
         quiet,
         records,
         sync,
+        resume,
     })
 }
 
@@ -152,8 +161,23 @@ fn may_record(plan: &ServePlan, has_dir: bool) -> bool
     !plan.records || !plan.tape && has_dir
 }
 
-// Returns what words name and tell that `clap` took. `None` if they are no plan, want records beside tapes or without a folder, want
-// none of them on the disk, or if the path of their folder is empty.
+// Returns the number of the run that words give, and `Some(None)` if they give none. `None` if its text spells no number.
+fn run_of(matches: &ArgMatches<'_>) -> Option<Option<u64>>
+    ensures read { IfSome result (IsRunOf (first_of (codes "run") (rows_of (found_of matches.now)))) }
+    ensures none { IfNone result (HasRun (first_of (codes "run") (rows_of (found_of matches.now))) → ⊥) }
+{
+    match matches.get_str("run") {
+        Some(text) => match read_number(text.as_bytes(), u64::MAX) {
+            Some(number) => Some(Some(number)),
+            None => None,
+        },
+        None => Some(None),
+    }
+}
+
+// Returns what words name and tell that `clap` took. `None` if they are no plan, their text for the run spells no number, they want
+// records beside tapes or without a folder, want none of them on the disk or to go on from, or to go on without the number of a run, or if
+// the path of their folder is empty.
 fn words_of<'a>(matches: &ArgMatches<'a>) -> Option<ServeWords<'a>>
     requires { IsGiven (rows_of (found_of matches.now)) }
     ensures read { IfSome result (IsReadOf (rows_of (found_of matches.now))) }
@@ -161,23 +185,31 @@ fn words_of<'a>(matches: &ArgMatches<'a>) -> Option<ServeWords<'a>>
     ensures none { IfNone result (CanServe (rows_of (found_of matches.now)) → ⊥) }
 {
     let plan = plan_of(matches)?;
+    let run = run_of(matches)?;
     let dir = matches.get_str("dir");
     if !may_record(&plan, dir.is_some()) {
         return None;
     }
-    if !may_sync(plan.records, plan.sync) {
+    if !may_stand(plan.records, plan.sync) {
+        return None;
+    }
+    if !may_stand(plan.records, plan.resume) {
+        return None;
+    }
+    if !may_stand(run.is_some(), plan.resume) {
         return None;
     }
     if !is_folder(dir) {
         return None;
     }
-    Some(ServeWords { dir, plan })
+    Some(ServeWords { dir, run, plan })
 }
 
 /// Returns what the words of gb_serve's command line tell a server to do: a plan, and the folder for records. The first word is the
 /// program's name. `Err` with `Refused` if `clap` refuses the words, their version does not exist or cannot name their number of nodes,
 /// their text for the status is no address, their texts for the limits of tenants give none, they want records beside tapes or without a
-/// folder, `--sync` stands without `--record`, or the path of their folder is empty. `Err` with `OutOfMemory` if there is no memory.
+/// folder, their text for the run spells no number, `--sync` or `--resume` stands without `--record`, or `--resume` without `--run`, or the
+/// path of their folder is empty. `Err` with `OutOfMemory` if there is no memory.
 pub fn read_words<'a>(alloc: Global, words: &'a [&'a str]) -> Result<ServeWords<'a>, WordFault>
     ensures given { IfOk result (λ read. IsReadOf (matches_of serve_app (map (λ word. word.now) words.entry.now)) read) }
     ensures within { IfOk result (λ read. IsWithin read.plan) }
@@ -217,6 +249,17 @@ fn plan_refusal(alloc: Global, matches: &ArgMatches<'_>) -> Result<String, Alloc
     }
     if limits_given(matches).is_none() {
         return limits_refusal(alloc, matches);
+    }
+    if run_of(matches).is_none() {
+        let text = matches.get_str("run").unwrap_or("");
+        return format!(in alloc;
+            "error: invalid value '{text}' for '--run <R>': a number from 0 to 18446744073709551615 is wanted{HINT}"
+        );
+    }
+    if !may_stand(matches.get_str("run").is_some(), matches.get_flag("resume")) {
+        return format!(in alloc;
+            "error: the argument '--resume' wants the number of the run: '--run <R>'{HINT}"
+        );
     }
     record_refusal(alloc, matches)
 }

@@ -3,9 +3,9 @@ use Rattle.std.specs.Prelude.{ℕ, List, ◌++◌, codes, decimal}
 use Rattle.std.specs.Net.Text.{socket_text}
 use Rattle.gb_merge.specs.declared.fault.AuditFault.{AuditFault}
 use Rattle.gb_merge.specs.declared.fault.AuditFault.TheVariants as audit
-use Rattle.gb_server.specs.Told.{lined}
+use Rattle.gb_server.specs.{ResumeWords.resume_words, Told.lined}
 use Rattle.gb_server.specs.declared.{fault.ServeFault.ServeFault, record_file.RecordTrouble.RecordTrouble, sockets.PortName.TheVariants.Udp, sockets.PortName.TheVariants.Tcp, sockets.PortName.TheVariants.Status}
-use Rattle.gb_server.specs.declared.fault.ServeFault.TheVariants.{RefusedWords, BadKeys, NoNode, ForeignSeat, Port, Differs, OutOfMemory, Full, Audit, Write, NoRun, Descriptors, Record}
+use Rattle.gb_server.specs.declared.fault.ServeFault.TheVariants.{RefusedWords, BadKeys, NoNode, ForeignSeat, Port, Differs, OutOfMemory, Full, Audit, Write, NoRun, Descriptors, Record, NotResumed}
 use Rattle.gb_server.specs.declared.record_file.RecordTrouble.TheVariants as record_troubles
 use Rattle.gb_keys.specs.declared.keys.KeyFault.{KeyFault}
 use Rattle.gb_keys.specs.declared.keys.KeyFault.TheVariants as keys
@@ -30,6 +30,7 @@ abbrev pub record_words : RecordTrouble → List ℕ
 record_words record_troubles.There = codes "a record of this node and run is there already: a node speaks once in a run"
 record_words record_troubles.Unmade = codes "a record could not be made: what --dir names must be a folder that can be written to"
 record_words record_troubles.Unwritten = codes "a record could not be written"
+record_words record_troubles.Lost = codes "a record lacks its last lines: another node knows of more than they say. Start all nodes in the next run"
 
 -- why a server did not serve to its end
 abbrev pub fault_words : ServeFault → List ℕ
@@ -49,6 +50,7 @@ fault_words NoRun = codes "the system has no random number for the run"
 fault_words (Descriptors needed limit) =
     codes "the nodes need " ++ decimal needed ++ codes " descriptors, and the process may hold " ++ decimal limit ++ codes ": raise its limit of open files, ulimit -n"
 fault_words (Record trouble) = record_words trouble
+fault_words (NotResumed why) = resume_words why
 
 -- the line that tells it, behind the name of the program
 abbrev pub complaint : List ℕ → ServeFault → List ℕ

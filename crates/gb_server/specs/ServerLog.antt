@@ -1,11 +1,12 @@
 -- The lines of a server's log.
-use Rattle.std.specs.Prelude.{ℕ, ◌+◌, ◌-◌, List, [], ◌++◌, Option, Some, None, codes, decimal}
+use Rattle.std.specs.Prelude.{ℕ, ◌+◌, ◌-◌, List, [], ◌++◌, ◌∷◌, Option, Some, None, codes, decimal}
 use Rattle.std.specs.Net.Text.{socket_text}
 use Rattle.std.specs.declared.net.socket_addr.SocketAddr.{SocketAddr}
 use Rattle.gb_server.specs.Told.{lined}
 use Rattle.gb_port.specs.declared.{udp.PortSockets.PortSockets, source.TheConstants.BUFFER}
+use Rattle.gb_server.specs.declared.record_file.PartStart.{PartStart}
 use Rattle.gb_server.specs.declared.signals.Why.{Why}
-use Rattle.gb_server.specs.declared.signals.Why.TheVariants.{Served, Asked, Stopped, InputEnded, Failed, Unwritten, Unrecorded}
+use Rattle.gb_server.specs.declared.signals.Why.TheVariants.{Served, Asked, Stopped, InputEnded, Failed, Unwritten, Unrecorded, Lost}
 
 -- the first and the last of this number of ports
 abbrev pub range_words : ℕ → ℕ → List ℕ
@@ -38,6 +39,10 @@ abbrev pub sockets_line_of : List ℕ → PortSockets → List ℕ
 sockets_line_of name sockets =
     lined (name ++ codes ": " ++ decimal sockets.own ++ codes " of " ++ decimal sockets.others ++ own_words ++ decimal sockets.buffer ++ codes " of " ++ decimal BUFFER ++ codes " bytes")
 
+-- the line that tells where a node goes on
+abbrev pub resumed_line : List ℕ → PartStart → List ℕ
+resumed_line name start = name ++ codes ": node " ++ decimal start.node.number ++ codes " goes on after " ++ decimal start.before ++ codes " entries in " ++ decimal start.part ++ codes " parts" ++ 10 ∷ []
+
 -- why a server ends
 abbrev pub end_words : Why → List ℕ
 end_words Served = codes "all connections were served"
@@ -47,6 +52,7 @@ end_words InputEnded = codes "standard input ended"
 end_words Failed = codes "a loop could not begin"
 end_words Unwritten = codes "a line could not be written to standard output"
 end_words Unrecorded = codes "a record could not be written"
+end_words Lost = codes "a record lacks its last lines"
 
 -- the line that tells it, behind the name of the program
 abbrev pub end_line_of : List ℕ → Why → List ℕ

@@ -5,6 +5,7 @@ ghost use Rattle.gb_server.specs.Complaint.{audit_words, complaint, fault_words,
 
 use crate::fault::ServeFault;
 use crate::record_file::RecordTrouble;
+use crate::resume_words::put_resume_words;
 use crate::server_log::put_address;
 use crate::sockets::PortName;
 use crate::told::tell;
@@ -17,8 +18,8 @@ use std::alloc::Global;
 use std::io::Write;
 use std::net::SocketAddr;
 
-// Appends a number, with words before it and behind it.
-fn put_with(text: &mut Vec<u8>, front: &[u8], number: u64, back: &[u8]) -> Result<(), OutOfMemory>
+/// Appends a number, with words before it and behind it.
+pub(crate) fn put_with(text: &mut Vec<u8>, front: &[u8], number: u64, back: &[u8]) -> Result<(), OutOfMemory>
     ensures { OnOk result (text.new.items ≡ text.old.items ++ (front.now ++ decimal number ++ back.now)) }
 {
     put_bytes(text, front)?;
@@ -26,8 +27,8 @@ fn put_with(text: &mut Vec<u8>, front: &[u8], number: u64, back: &[u8]) -> Resul
     put_bytes(text, back)
 }
 
-// Appends two numbers, with words before, between and behind them.
-fn put_two(
+/// Appends two numbers, with words before, between and behind them.
+pub(crate) fn put_two(
     text: &mut Vec<u8>,
     front: &[u8],
     first: u64,
@@ -115,6 +116,8 @@ fn record_words(trouble: RecordTrouble) -> &'static [u8]
         RecordTrouble::Unmade =>
             b"a record could not be made: what --dir names must be a folder that can be written to",
         RecordTrouble::Unwritten => b"a record could not be written",
+        RecordTrouble::Lost =>
+            b"a record lacks its last lines: another node knows of more than they say. Start all nodes in the next run",
     }
 }
 
@@ -192,6 +195,7 @@ fn put_fault_words(text: &mut Vec<u8>, fault: ServeFault) -> Result<(), OutOfMem
             b": raise its limit of open files, ulimit -n",
         ),
         ServeFault::Record(trouble) => put_bytes(text, record_words(trouble)),
+        ServeFault::NotResumed(why) => put_resume_words(text, why),
     }
 }
 

@@ -1,11 +1,14 @@
-//! The file of a node's record.
-ghost use Rattle.std.specs.Prelude.{◌≡◌, IfOk};
-ghost use Rattle.gb_types.specs.Common.{version_at};
+//! The file of a part of a node's record. Each start of a node makes one, which is locked while the process runs.
+ghost use Rattle.std.specs.Prelude.{◌≡◌, ◌++◌, ◌∷◌, [], true, IfOk};
+ghost use Rattle.std.specs.Io.KnownBytes.{Appends};
+ghost use Rattle.gb_record_text.specs.RecordText.{part_line};
+ghost use Rattle.gb_resume.specs.Resumed.{cluster_of, tag_of};
 
 use gb_host::HostPlan;
-use gb_record::RecordHead;
-use gb_record::recording::write_head;
-use gb_spelling::number::put_number;
+use gb_record_text::PartHead;
+use gb_record_text::part_head::put_part_head;
+use gb_resume::files::part_path;
+use gb_resume::wanted::{cluster_head, part_tag};
 use gb_status::Board;
 use gb_types::memory::put_bytes;
 use gb_types::{NodeId, OutOfMemory};
@@ -18,12 +21,14 @@ use std::{fs, io, str};
 /// What became of a record.
 #[derive(Clone, Copy, Debug, PartialEq, Eq)]
 pub enum RecordTrouble {
-    /// It was there before: the node has begun in this run.
+    /// It was there before, or another process has it: the node has begun in this run.
     There,
     /// It could not be made.
     Unmade,
     /// It could not be written to.
     Unwritten,
+    /// Its last lines are missing: another node knows of more than the node that went on from it.
+    Lost,
 }
 
 /// Why there are no records.
@@ -48,6 +53,19 @@ pub struct RecordPlace<'a> {
     pub run: u64,
     /// What was written is on the disk before the flush returns.
     pub syncs: bool,
+    /// The identifier of the system's boot. `None` if the system does not tell it.
+    pub boot: Option<[u8; 16]>,
+}
+
+/// Where a part of a node's record begins.
+#[derive(Clone, Copy, PartialEq, Eq)]
+pub struct PartStart {
+    /// The node whose record it is.
+    pub node: NodeId,
+    /// The number of the part, from 0.
+    pub part: u32,
+    /// How many entries stand in the parts before it.
+    pub before: u64,
 }
 
 /// The file of a record, which its owner alone may read.
@@ -119,24 +137,6 @@ impl Write for CountedFile<'_> {
     }
 }
 
-/// Returns the path of the file of a node's record in a run: `DIR/run-RUN-node-NODE.record`, both as decimal numbers. `Err` if there is
-/// no memory.
-pub fn record_name(
-    alloc: Global,
-    dir: &str,
-    run: u64,
-    node: NodeId,
-) -> Result<Vec<u8>, OutOfMemory> {
-    let mut name = Vec::new(alloc);
-    put_bytes(&mut name, dir.as_bytes())?;
-    put_bytes(&mut name, b"/run-")?;
-    put_number(&mut name, run)?;
-    put_bytes(&mut name, b"-node-")?;
-    put_number(&mut name, u64::from(node.number))?;
-    put_bytes(&mut name, b".record")?;
-    Ok(name)
-}
-
 /// Makes the folder `dir` if it is not there, and those above it that are not. Its owner alone may read what is made so.
 pub fn make_folder<F: Files>(files: &F, dir: &str) {
     let mut builder = DirBuilder::new();
@@ -157,38 +157,60 @@ fn make<F: Files<File = File>>(files: &F, name: &str) -> Result<File, RecordTrou
     }
 }
 
-// Returns what the first line of a node's record says.
-fn head_of(plan: &HostPlan, node: NodeId) -> RecordHead
-    ensures { result ≡ record { node = node; nodes = plan.now.cluster.nodes; silence = plan.now.cluster.silence; places = plan.now.cluster.places; version = version_at plan.now.cluster.versions node.number; room = plan.now.cluster.room } }
+// The boot that a part names where the system does not tell it. No boot has it, so a node goes on from such a part only if it is synced.
+const NO_BOOT: [u8; 16] = [0; 16];
+
+// Returns what the first line of a part says.
+fn head_of(
+    alloc: Global,
+    place: RecordPlace<'_>,
+    plan: &HostPlan,
+    start: PartStart,
+) -> Result<PartHead, OutOfMemory>
+    ensures cluster { IfOk result (λ head. (head.cluster ≡ cluster_of plan.now start.node) × (head.tag ≡ tag_of plan.now start.node)) }
+    ensures start { IfOk result (λ head. (head.part ≡ start.part) × (head.before ≡ start.before) × (head.syncs ≡ place.syncs)) }
 {
-    RecordHead {
-        node,
-        nodes: plan.cluster.nodes,
-        silence: plan.cluster.silence,
-        places: plan.cluster.places,
-        version: plan.cluster.bounds().version_of(node),
-        room: plan.cluster.room,
+    Ok(PartHead {
+        cluster: cluster_head(plan, start.node),
+        part: start.part,
+        before: start.before,
+        boot: place.boot.unwrap_or(NO_BOOT),
+        syncs: place.syncs,
+        tag: part_tag(alloc, plan, start.node)?,
+    })
+}
+
+// Writes the first line of a part. Returns true if it was written.
+fn write_head<W: Write>(alloc: Global, writer: &mut W, head: &PartHead) -> bool
+    ensures { result ≡ true → Appends (W.contents writer.old) (W.contents writer.new) (part_line head.now ++ 10 ∷ []) }
+{
+    let mut line = Vec::new(alloc);
+    if put_part_head(&mut line, head).is_err() || put_bytes(&mut line, b"\n").is_err() {
+        return false;
     }
+    writer.write_all(&line).is_ok() && writer.flush().is_ok()
 }
 
 // Writes the first line, and sees that it is on the disk.
-fn begin(alloc: Global, file: &mut File, head: &RecordHead) -> bool {
-    write_head(alloc, file, head).is_ok() && file.sync_all().is_ok()
+fn begin(alloc: Global, file: &mut File, head: &PartHead) -> bool {
+    write_head(alloc, file, head) && file.sync_all().is_ok()
 }
 
-/// Makes the file of a node's record in the folder of `place`, writes its first line to the disk, and returns it. The folder is made if
-/// it is not there. `Err` with `There` if the file is there already, `Unmade` if it cannot be made, `Unwritten` if its first line
-/// cannot be written, and `OutOfMemory` if there is no memory for its name. Then no file is left that was not there.
+/// Makes the file of a part of a node's record in the folder of `place`, locks it, writes its first line to the disk, and returns it.
+/// The folder is made if it is not there. `Err` with `There` if the file is there already, or if another process locked it before this
+/// one did, which then goes on from it; `Unmade` if it cannot be made, `Unwritten` if its first line cannot be written, and
+/// `OutOfMemory` if there is no memory for its name. Then no file is left that was not there, but for one that another process locked.
 pub fn open_record<F: Files<File = File>>(
     files: &F,
     alloc: Global,
     place: RecordPlace<'_>,
     plan: &HostPlan,
-    node: NodeId,
+    start: PartStart,
 ) -> Result<RecordFile, RecordFault>
-    ensures { IfOk result (λ made. made.node ≡ node) }
+    ensures { IfOk result (λ made. made.node ≡ start.node) }
 {
-    let bytes = record_name(alloc, place.dir, place.run, node)?;
+    let head = head_of(alloc, place, plan, start)?;
+    let bytes = part_path(alloc, place.dir, place.run, start.node, start.part)?;
     let Ok(name) = str::from_utf8(&bytes) else {
         return Err(RecordFault::Trouble(RecordTrouble::Unmade));
     };
@@ -197,40 +219,38 @@ pub fn open_record<F: Files<File = File>>(
         Ok(file) => file,
         Err(trouble) => return Err(RecordFault::Trouble(trouble)),
     };
-    if !begin(alloc, &mut file, &head_of(plan, node)) {
+    if file.try_lock().is_err() {
+        return Err(RecordFault::Trouble(RecordTrouble::There));
+    }
+    if !begin(alloc, &mut file, &head) {
         let _ = fs::remove_file(files, name);
         return Err(RecordFault::Trouble(RecordTrouble::Unwritten));
     }
     Ok(RecordFile {
-        node,
+        node: start.node,
         file,
         syncs: place.syncs,
         is_dirty: false,
     })
 }
 
-/// Makes the files of the records of `nodes` nodes, numbered from `first` on, as `open_record` does, and returns them in that order.
-/// Returns an empty list, and makes none, if `place` is `None`. `Err` with the fault of the first record that cannot be made; those
-/// before it stay in the folder.
+/// Makes the files of these parts, as `open_record` does, and returns them in that order. Returns an empty list, and makes none, if
+/// `place` is `None`. `Err` with the fault of the first part that cannot be made; those before it stay in the folder.
 pub fn open_records<F: Files<File = File>>(
     files: &F,
     alloc: Global,
     place: Option<RecordPlace<'_>>,
     plan: &HostPlan,
-    first: NodeId,
-    nodes: u8,
+    starts: &[PartStart],
 ) -> Result<Vec<RecordFile>, RecordFault> {
     let Some(place) = place else {
         return Ok(Vec::new(alloc));
     };
-    let Ok(mut records) = Vec::with_capacity(alloc, usize::from(nodes)) else {
+    let Ok(mut records) = Vec::with_capacity(alloc, starts.len()) else {
         return Err(RecordFault::OutOfMemory);
     };
-    for above in 0..nodes {
-        let Some(node) = NodeId::from_number(first.number.saturating_add(above)) else {
-            return Err(RecordFault::Trouble(RecordTrouble::Unmade));
-        };
-        let made = open_record(files, alloc, place, plan, node)?;
+    for start in starts {
+        let made = open_record(files, alloc, place, plan, *start)?;
         if records.push(made).is_err() {
             return Err(RecordFault::OutOfMemory);
         }
@@ -239,14 +259,14 @@ pub fn open_records<F: Files<File = File>>(
     Ok(records)
 }
 
-/// Removes the file of a node's record from the folder of `place`. What cannot be removed stays.
+/// Removes the file of a part of a node's record from the folder of `place`. What cannot be removed stays.
 pub fn remove_record<F: Files<File = File>>(
     files: &F,
     alloc: Global,
     place: RecordPlace<'_>,
-    node: NodeId,
+    start: PartStart,
 ) {
-    if let Ok(bytes) = record_name(alloc, place.dir, place.run, node)
+    if let Ok(bytes) = part_path(alloc, place.dir, place.run, start.node, start.part)
         && let Ok(name) = str::from_utf8(&bytes)
     {
         let _ = fs::remove_file(files, name);

@@ -33,6 +33,8 @@ pub enum RunFault {
     Write,
     /// A record could not be written.
     Unrecorded,
+    /// A record lacks its last lines.
+    Lost,
 }
 
 impl From<OutOfMemory> for RunFault {
@@ -58,6 +60,8 @@ pub struct Service {
     pub line: Vec<u8>,
     /// What the first line of the log begins with.
     pub front: Vec<u8>,
+    /// The lines of the log behind the first ones that tell where nodes go on.
+    pub resumed: Vec<u8>,
     /// Whether the server ends in order when standard input ends.
     pub stops_at_end: bool,
     /// Whether no log is written.
@@ -90,13 +94,15 @@ fn desk_of<H: Clock>(
     };
     let mut first = first_line(alloc, &service.front, address)?;
     put_bytes(&mut first, &sockets_line(alloc, service.name, sockets)?)?;
+    put_bytes(&mut first, &service.resumed)?;
     Ok(Desk { log, first, status })
 }
 
 /// Runs the threads of a server to their end. Writes `service.line` to `writer` once the loops of all nodes have begun, reads `stop`
 /// from `reader`, writes the log to `errors`, and answers who asks for the status at `status`, if it is there. Returns the seats and logs that are
 /// left of the nodes. `Err` with `OutOfMemory` if there is no memory, a thread could not be made or a loop could not begin; with
-/// `Write` if the line could not be written; and with `Unrecorded` if a record could not be written.
+/// `Write` if the line could not be written; with `Unrecorded` if a record could not be written; and with `Lost` if one lacks its last
+/// lines.
 pub fn run<
     L: Tapes + Send + Sync,
     H: Net<Listener = TcpListener, Stream = TcpStream> + Threads + Wait + Clock + Sync,
@@ -158,6 +164,9 @@ pub fn run<
     }
     if shared.lacks_record() {
         return Err(RunFault::Unrecorded);
+    }
+    if shared.has_lost() {
+        return Err(RunFault::Lost);
     }
     Ok(held)
 }

@@ -1,12 +1,13 @@
 //! The server from its words to its exit status.
-ghost use Rattle.std.specs.Prelude.{◌≡◌, ◌≢◌, ◌≤◌, ◌+◌, ◌*◌, [], ℕ, List, true, Ok, Err, IfOk, codes, map, vec_len};
+ghost use Rattle.std.specs.Prelude.{◌≡◌, ◌≢◌, ◌≤◌, ◌<◌, ◌+◌, ◌*◌, ◌^◌, [], ℕ, List, true, Ok, Err, IfOk, codes, map, vec_len};
 ghost use Rattle.std.specs.Io.KnownBytes.{Appends, Consumes};
 ghost use Rattle.gb_serve_words.specs.Words.{IsWithin};
 ghost use Rattle.gb_server.specs.Behaviour.{AreOptions, beat_of};
-ghost use Rattle.gb_server.specs.Told.{AreRefused, AreTaken, HasServed, end_line, host_of, lined, serving_line};
-ghost use Rattle.gb_host.specs.Common.{AreBlank, books_of, IsPlan, SeatValue};
+ghost use Rattle.gb_server.specs.Told.{AreRefused, AreTaken, HasServed, end_line, host_of, lined, run_by, serving_line};
+ghost use Rattle.gb_host.specs.Common.{AreBegun, AreBlank, books_of, IsPlan, pasts_begun, SeatValue};
 ghost use Rattle.gb_server.specs.Ended.{EndsSo, has_closed};
 
+use crate::boot::boot_now;
 use crate::complaint::complain;
 use crate::crew::Held;
 use crate::descriptors::{allow_nodes, connections_of, descriptor_limit};
@@ -15,10 +16,11 @@ use crate::fault::ServeFault;
 use crate::given::{Given, Opened};
 use crate::input::Input;
 use crate::rates::rates_by;
-use crate::record_file::{RecordPlace, open_records};
+use crate::record_file::{PartStart, RecordPlace, open_records};
 use crate::recorded::logs_of;
+use crate::resuming::{BeginFault, Beginning, Resuming, begin_from, begin_new};
 use crate::run::{Service, run};
-use crate::server_log::begin_front;
+use crate::server_log::{begin_front, resumed_lines};
 use crate::sockets::{open_sockets, open_status, port_sockets};
 use crate::status::status_source;
 use crate::told::{serving_line, status_of, tell_end};
@@ -100,8 +102,8 @@ pub fn beats_of(tick: u16, silence: u16) -> (u64, u64)
 }
 
 // How the loops behave, with this limit of connections at each node.
-fn options_of(plan: ServePlan, connections: u64) -> LoopOptions
-    ensures { AreOptions plan connections result }
+fn options_of(plan: ServePlan, connections: u64, resumes: bool) -> LoopOptions
+    ensures { AreOptions plan connections resumes result }
 {
     let (tick, beat) = beats_of(plan.tick, plan.silence);
     LoopOptions {
@@ -118,24 +120,31 @@ fn options_of(plan: ServePlan, connections: u64) -> LoopOptions
             u64::from(plan.session_requests)
         },
         wait: 0,
+        resumes,
         rates: rates_by(plan.limits),
     }
 }
 
 // What a server is told by its plan.
-fn service_of(alloc: Global, plan: ServePlan) -> Result<Service, OutOfMemory>
+fn service_of(
+    alloc: Global,
+    plan: ServePlan,
+    starts: &[PartStart],
+) -> Result<Service, OutOfMemory>
     requires { IsWithin plan }
     ensures { IfOk result (λ service. service.line.items ≡ serving_line plan.nodes plan.base_port) }
 {
     let (nodes, base) = (u64::from(plan.nodes), u64::from(plan.base_port));
     let line = serving_line(alloc, plan.nodes, plan.base_port)?;
     let front = begin_front(alloc, VERSION.as_bytes(), nodes, base)?;
+    let resumed = resumed_lines(alloc, NAME, starts)?;
     Ok(Service {
         name: NAME,
         first: NodeId::new(0),
         nodes: plan.nodes,
         line,
         front,
+        resumed,
         stops_at_end: plan.stop_at_end,
         is_quiet: plan.quiet,
     })
@@ -154,7 +163,7 @@ fn serve_host<
     plan: HostPlan,
     serve: ServePlan,
     opened: Opened,
-    pasts: Vec<NodePast>,
+    beginning: Beginning,
     reader: &mut R,
     writer: &mut W,
     errors: &mut E,
@@ -163,8 +172,10 @@ fn serve_host<
     requires limits { IsPlan plan }
     requires within { IsWithin serve }
     requires some { 1 ≤ plan.cluster.nodes }
-    requires pasts { (vec_len pasts ≡ plan.cluster.nodes) × AreBlank pasts.items }
-    requires books { books_of pasts.items ≡ L.books }
+    requires begun { (vec_len beginning.begun ≡ plan.cluster.nodes) × AreBegun plan beginning.begun.items }
+    requires books { books_of (pasts_begun beginning.begun.items) ≡ L.books }
+    requires blank { plan.tape ≡ true → AreBlank (pasts_begun beginning.begun.items) }
+    requires seat { beginning.seat + 64 < 2 ^ 32 }
     ensures told { has_closed result ≡ true → Appends (W.contents writer.old) (W.contents writer.new) (serving_line serve.nodes serve.base_port) }
     ensures read { has_closed result ≡ true → (bytes : List ℕ) × Consumes (R.remaining reader.old) (R.remaining reader.new) bytes }
     ensures ends { has_closed result ≡ true → (seats : List SeatValue) × EndsSo plan seats result }
@@ -175,9 +186,17 @@ fn serve_host<
         files,
         status,
     } = opened;
+    let resumes = beginning.resumes();
+    let Beginning {
+        begun,
+        starts,
+        seat,
+        locks,
+    } = beginning;
+    drop(locks);
     let seats = u32::from(plan.cluster.nodes);
     let here = all_nodes(plan.cluster.nodes);
-    let (host, seats, recorders) = Host::<L>::open(alloc, plan, here, seats, pasts)?;
+    let (host, seats, recorders) = Host::<L>::open_begun(alloc, plan, here, seat, seats, begun)?;
     let own = port_sockets(&sockets).own;
     let descriptors = descriptor_limit()
         .saturating_sub(files.len() as u64)
@@ -185,13 +204,13 @@ fn serve_host<
     let logs = logs_of(alloc, &plan, host.here(), recorders, files)?;
     let wanted = u64::from(serve.connections);
     let connections = connections_of(wanted, serve.nodes, descriptors);
-    let options = options_of(serve, connections);
+    let options = options_of(serve, connections, resumes);
     let given = Given {
         seats,
         sockets,
         logs,
     };
-    let service = service_of(alloc, serve)?;
+    let service = service_of(alloc, serve, &starts)?;
     let Held { seats, logs } = run(
         rt, alloc, &host, &service, options, given, status, reader, writer, errors,
     )?;
@@ -202,13 +221,53 @@ fn serve_host<
 }
 
 // Returns where the records of a run are kept. `None` if none are wanted.
-fn place_of<'a>(words: &ServeWords<'a>, run: u64) -> Option<RecordPlace<'a>> {
+fn place_of<'a, F: Files>(
+    files: &F,
+    alloc: Global,
+    words: &ServeWords<'a>,
+    run: u64,
+) -> Option<RecordPlace<'a>> {
     if !words.plan.records {
         return None;
     }
-    let dir = words.dir?;
-    let syncs = words.plan.sync;
-    Some(RecordPlace { dir, run, syncs })
+    Some(RecordPlace {
+        dir: words.dir?,
+        run,
+        syncs: words.plan.sync,
+        boot: boot_now(files, alloc),
+    })
+}
+
+// Returns the nodes of the plan: they begin in the run, or go on if the words say so and they have begun.
+fn begin_nodes<F: Files<File = File> + Clock>(
+    rt: &F,
+    alloc: Global,
+    plan: HostPlan,
+    resumes: bool,
+    place: Option<RecordPlace<'_>>,
+    pasts: Vec<NodePast>,
+) -> Result<Beginning, BeginFault>
+    requires limits { IsPlan plan }
+    requires pasts { (vec_len pasts ≡ plan.cluster.nodes) × AreBlank pasts.items }
+    ensures begun { IfOk result (λ b. (vec_len b.begun ≡ plan.cluster.nodes) × AreBegun plan b.begun.items) }
+    ensures blank { IfOk result (λ b. plan.tape ≡ true → AreBlank (pasts_begun b.begun.items)) }
+    ensures seat { IfOk result (λ b. b.seat + 64 < 2 ^ 32) }
+{
+    let first = NodeId::new(0);
+    let nodes = plan.cluster.nodes;
+    if plan.tape || !resumes {
+        return begin_new(alloc, plan, pasts, first, nodes);
+    }
+    let Some(place) = place else {
+        return begin_new(alloc, plan, pasts, first, nodes);
+    };
+    let from = Resuming {
+        place,
+        first,
+        nodes,
+        silence: None,
+    };
+    begin_from(rt, alloc, plan, pasts, from)
 }
 
 // Serves by words that were read, with keys, in a run.
@@ -243,23 +302,34 @@ fn serve_plan<
     allow_nodes(descriptor_limit(), serve.nodes, serve.records)?;
     let sockets = open_sockets(rt, alloc, serve.nodes, serve.base_port)?;
     let status = status_source(rt, open_status(rt, serve.status)?);
-    let place = place_of(words, run);
-    let files = open_records(rt, alloc, place, &plan, NodeId::new(0), serve.nodes)?;
+    let place = place_of(rt, alloc, words, run);
+    let pasts = new_pasts(alloc, serve.nodes)?;
+    let beginning = begin_nodes(rt, alloc, plan, serve.resume, place, pasts)?;
+    let files = open_records(rt, alloc, place, &plan, &beginning.starts)?;
     let opened = Opened {
         sockets,
         files,
         status,
     };
-    let pasts = new_pasts(alloc, serve.nodes)?;
     serve_host::<Brand, H, R, W, E>(
-        rt, alloc, plan, serve, opened, pasts, reader, writer, errors,
+        rt, alloc, plan, serve, opened, beginning, reader, writer, errors,
     )
 }
 
-/// Runs a whole server by the words of a command line, in the run with the number `run`. Reads the keys from `reader`, and behind them
+// Returns the number of the run: the one that the words give, or else the one that was drawn.
+fn run_by(asked: Option<u64>, drawn: Option<u64>) -> Option<u64>
+    ensures { result ≡ run_by asked drawn }
+{
+    match asked {
+        Some(number) => Some(number),
+        None => drawn,
+    }
+}
+
+/// Runs a whole server by the words of a command line, in the run that they name, or else in the one with the number `run`. Reads the keys from `reader`, and behind them
 /// the line `stop`. Writes the line that tells what is served to `writer`, and the log to `errors`. Binds sockets, makes threads and,
 /// if the words ask for it, files of records. Returns how it ended; no line tells that yet. `Err` with the first fault: `RefusedWords`
-/// before anything is read or written, then `BadKeys`, `NoRun` if `run` is `None`, `Descriptors`, and those of sockets, records, threads and the end.
+/// before anything is read or written, then `BadKeys`, `NoRun` if the words name no run and `run` is `None`, `Descriptors`, and those of sockets, records, threads and the end.
 pub fn serve<
     H: Net<Listener = TcpListener, Stream = TcpStream>
         + Threads
@@ -288,7 +358,7 @@ pub fn serve<
         Ok(keys) => keys,
         Err(why) => return Err(ServeFault::BadKeys(why)),
     };
-    let Some(number) = run else {
+    let Some(number) = run_by(read.run, run) else {
         return Err(ServeFault::NoRun);
     };
     serve_plan(rt, alloc, &read, keys, number, reader, writer, errors)
@@ -307,7 +377,7 @@ fn explain<E: Write>(alloc: Global, outcome: Result<Ended, ServeFault>, errors: 
     }
 }
 
-/// Runs a whole server by the words of a command line, in the run with the number `run`. The first word is the program's name. `run` is
+/// Runs a whole server by the words of a command line, in the run that they name, or else in the one with the number `run`. The first word is the program's name. `run` is
 /// `None` if the system had no random number. Reads the keys from `reader`, and behind them the line `stop`, which ends the server.
 /// Writes a line for what it serves and a line for how it ended to `writer`. Writes its log to `errors`, and there too why it did not
 /// serve to its end, unless the words were refused. Returns the exit status: 0 if all connections were served or the server was told to

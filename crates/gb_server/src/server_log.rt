@@ -1,8 +1,9 @@
 //! The log of a server, on standard error: one line for each event that an operator must know.
 ghost use Rattle.std.specs.Prelude.{◌≡◌, ◌≤◌, ◌++◌, ◌+◌, ◌-◌, IfOk, OnOk, codes, decimal, true};
-ghost use Rattle.gb_server.specs.ServerLog.{begin_front, end_line_of, end_words, first_line, own_words, port_words, range_words, sockets_line_of, status_words};
+ghost use Rattle.gb_server.specs.ServerLog.{begin_front, end_line_of, end_words, first_line, own_words, port_words, range_words, resumed_line, sockets_line_of, status_words};
 ghost use Rattle.std.specs.Net.Text.{socket_text};
 
+use crate::record_file::PartStart;
 use crate::signals::{Signals, Why};
 use crate::told::tell;
 use gb_loop::Ending;
@@ -157,6 +158,36 @@ pub fn sockets_line(
     Ok(line)
 }
 
+// Appends the line that tells where a node goes on.
+fn put_resumed(out: &mut Vec<u8>, name: &[u8], start: PartStart) -> Result<(), OutOfMemory>
+    ensures { OnOk result (out.new.items ≡ out.old.items ++ resumed_line name.now start) }
+{
+    put_bytes(out, name)?;
+    put_bytes(out, b": node ")?;
+    put_number(out, u64::from(start.node.number))?;
+    put_bytes(out, b" goes on after ")?;
+    put_number(out, start.before)?;
+    put_bytes(out, b" entries in ")?;
+    put_number(out, u64::from(start.part))?;
+    put_bytes(out, b" parts\n")
+}
+
+/// Returns the lines of a server's log that tell where its nodes go on, of which each begins this part of its record. A node that begins
+/// part 0 has no line. `Err` if there is no memory.
+pub fn resumed_lines(
+    alloc: Global,
+    name: &[u8],
+    starts: &[PartStart],
+) -> Result<Vec<u8>, OutOfMemory> {
+    let mut lines = Vec::new(alloc);
+    'starts: for start in starts {
+        if start.part > 0 {
+            put_resumed(&mut lines, name, *start)?;
+        }
+    }
+    Ok(lines)
+}
+
 // Why a server ends.
 fn end_words(why: Why) -> &'static [u8]
     ensures { result.now ≡ end_words why }
@@ -169,6 +200,7 @@ fn end_words(why: Why) -> &'static [u8]
         Why::Failed => b"a loop could not begin",
         Why::Unwritten => b"a line could not be written to standard output",
         Why::Unrecorded => b"a record could not be written",
+        Why::Lost => b"a record lacks its last lines",
     }
 }
 

@@ -22,6 +22,8 @@ pub enum Why {
     Unwritten,
     /// A record could not be written.
     Unrecorded,
+    /// A record lacks its last lines.
+    Lost,
 }
 
 // The number that stands for a reason, from 1.
@@ -34,6 +36,7 @@ fn number_of(why: Why) -> u64 {
         Why::Failed => 5,
         Why::Unwritten => 6,
         Why::Unrecorded => 7,
+        Why::Lost => 8,
     }
 }
 
@@ -47,6 +50,7 @@ fn why_of(number: u64) -> Option<Why> {
         5 => Some(Why::Failed),
         6 => Some(Why::Unwritten),
         7 => Some(Why::Unrecorded),
+        8 => Some(Why::Lost),
         _ => None,
     }
 }
@@ -63,6 +67,7 @@ pub struct Signals {
     have_left: AtomicBool,
     has_failed: AtomicBool,
     lacks_record: AtomicBool,
+    has_lost: AtomicBool,
     board: Board,
 }
 
@@ -80,6 +85,7 @@ impl Signals {
             have_left: AtomicBool::new(false),
             has_failed: AtomicBool::new(false),
             lacks_record: AtomicBool::new(false),
+            has_lost: AtomicBool::new(false),
             board,
         })
     }
@@ -127,6 +133,11 @@ impl Signals {
         self.lacks_record.load(Ordering::SeqCst)
     }
 
+    /// Returns true if the signal is set that a record lacks its last lines.
+    pub fn has_lost(&self) -> bool {
+        self.has_lost.load(Ordering::SeqCst)
+    }
+
     /// Returns the board on which the nodes' loops put their figures for other threads to read.
     pub fn board(&self) -> &Board {
         &self.board
@@ -153,6 +164,11 @@ impl Ending for Signals {
     fn fail(&self) {
         self.has_failed.store(true, Ordering::SeqCst);
         self.end(Why::Failed);
+    }
+
+    fn lose(&self) {
+        self.has_lost.store(true, Ordering::SeqCst);
+        self.end(Why::Lost);
     }
 
     fn begun(&self) {

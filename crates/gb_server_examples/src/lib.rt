@@ -35,6 +35,8 @@ mod recorded_servers;
 #[cfg(test)]
 mod refusals;
 #[cfg(test)]
+mod resumed;
+#[cfg(test)]
 mod runs;
 #[cfg(test)]
 mod served;

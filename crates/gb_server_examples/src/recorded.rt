@@ -12,10 +12,10 @@ use gb_node::{NodeAnswer, NodeEvent, Sent};
 use gb_past::Past;
 use gb_port::{Port, RingPort};
 use gb_record::{RecordName, Recording, SharedRecording, WrittenFirst};
-use gb_server::RecordPlace;
 use gb_server::record_file::open_records;
+use gb_server::{PartStart, RecordPlace};
 use gb_server::recorded::logs_of;
-use gb_types::Version;
+use gb_types::{NodeId, Version};
 use std::alloc::{AllocGlobal, Global};
 use std::fs::{File, Files};
 use std::io::{ErrorKind, Write};
@@ -47,6 +47,15 @@ impl Write for FailingPen<'_> {
     }
 }
 
+// Returns where the first part of a node's record begins.
+fn first_part(node: NodeId) -> PartStart {
+    PartStart {
+        node,
+        part: 0,
+        before: 0,
+    }
+}
+
 // Opens a host of two nodes with one seat, and with records in a folder that is removed again. Returns the host, the seat, and the recorder
 // of the first node.
 fn open_recorded<L: Tapes, R: Files<File = File> + RandomSource + AllocGlobal>(
@@ -69,8 +78,10 @@ fn open_recorded<L: Tapes, R: Files<File = File> + RandomSource + AllocGlobal>(
         dir: dir.as_str(),
         run: 1,
         syncs: false,
+        boot: None,
     };
-    let files = open_records(rt, alloc, Some(place), &plan, FIRST, 2).ok()?;
+    let starts = [first_part(FIRST), first_part(SECOND)];
+    let files = open_records(rt, alloc, Some(place), &plan, &starts).ok()?;
     let logs = logs_of(alloc, &plan, host.here(), recorders, files).ok()?;
     let _ = fs::remove_dir_all(rt, dir.as_str());
     let seat = seats.into_iter().next()?;

@@ -4,9 +4,10 @@ use crate::messages::{DENIED, OPEN};
 use crate::runs::RUN;
 use crate::served::{is_told, prints};
 use gb_audit_run::audit::audit;
+use gb_audit_run::parts::join_parts;
 use gb_audit_run::{ClusterKeys, Source, Verdict};
 use gb_keys::keys::run_key;
-use gb_server::record_file::record_name;
+use gb_resume::files::part_path;
 use gb_types::NodeId;
 use std::alloc::{AllocGlobal, Global};
 use std::fs::{File, Files};
@@ -47,7 +48,7 @@ fn serves<
 
 // Reads the record of a node.
 fn text_of<R: Files + AllocGlobal>(rt: &R, alloc: Global, dir: &str, node: u8) -> Option<Vec<u8>> {
-    let bytes = record_name(alloc, dir, RUN, NodeId::from_number(node)?).ok()?;
+    let bytes = part_path(alloc, dir, RUN, NodeId::from_number(node)?, 0).ok()?;
     let name = str::from_utf8(&bytes).ok()?;
     fs::read(rt, name).ok()
 }
@@ -72,21 +73,25 @@ fn sends_noise<H: Net>(rt: &H, port: u16) -> bool {
 
 // Audits two records under the key of a run. Returns the verdict, and whether more than 8 events are one run.
 fn audited(alloc: Global, first: &[u8], second: &[u8], run: u64) -> Option<(Verdict, bool)> {
+    let mut texts = Vec::new(alloc);
+    texts.push(Vec::from_slice(alloc, first).ok()?).ok()?;
+    texts.push(Vec::from_slice(alloc, second).ok()?).ok()?;
+    let mut lines = Vec::new(alloc);
+    let joined = join_parts(alloc, &["0", "1"], texts, &mut lines).ok()??;
     let sources = [
         Source {
             name: "0",
-            text: first,
+            text: joined.texts.first()?.as_slice(),
         },
         Source {
             name: "1",
-            text: second,
+            text: joined.texts.get(1)?.as_slice(),
         },
     ];
     let keys = ClusterKeys {
         cluster: run_key(&[0x11; 32], run),
         admin: [0x22; 32],
     };
-    let mut lines = Vec::new(alloc);
     let found = audit(alloc, &sources, keys, &mut lines).ok()?.ok()?;
     Some((found.verdict, found.events.len() > 8))
 }

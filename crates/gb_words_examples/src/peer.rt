@@ -54,6 +54,7 @@ fn plain_plan() -> PeerPlan {
         quiet: false,
         records: false,
         sync: false,
+        resume: false,
     }
 }
 
@@ -161,6 +162,7 @@ fn words_without_a_value_are_set(rt: HostRuntime) {
             quiet: *quiet,
             records: false,
             sync: false,
+            resume: false,
             ..plain_plan()
         };
         assert!(rt; is_plan(rt.alloc(), options, want), "{options}");
@@ -213,7 +215,7 @@ fn words_limit_what_tenants_may_ask_a_node(rt: HostRuntime) {
 // All options, each with another value than the one that stands for it.
 static ALL: &str =
     "gb_peer --cluster c.toml --node 2 --dir marks --wait 5 --sessions 6 --connections 7 --idle 8 \
---session-requests 9 --remote-sessions --status 10.0.0.1:9100 --stop-at-end --quiet --record --sync \
+--session-requests 9 --remote-sessions --status 10.0.0.1:9100 --stop-at-end --quiet --record --sync --resume \
 --tenant-limit 10:11:12 --tenant-limit 13=14:15:16";
 
 #[test]
@@ -239,12 +241,13 @@ fn all_options_at_once_are_a_plan(rt: HostRuntime) {
         quiet: true,
         records: true,
         sync: true,
+        resume: true,
     };
     assert!(rt; is_read(rt.alloc(), ALL, "c.toml", "marks", want));
 }
 
 // Each number's first value outside its range, words that are too few, too many, unknown, or given twice, and addresses that are none.
-static REFUSED: [&str; 46] = [
+static REFUSED: [&str; 48] = [
     "gb_peer",
     "gb_peer --node 0 --dir marks",
     "gb_peer --cluster c.toml --dir marks",
@@ -259,6 +262,8 @@ static REFUSED: [&str; 46] = [
     "gb_peer --cluster c.toml --node 0 --dir=",
     "gb_peer --cluster c.toml --node 0 --dir= --record --sync",
     "gb_peer --cluster c.toml --node 0 --dir marks --sync",
+    "gb_peer --cluster c.toml --node 0 --dir marks --resume",
+    "gb_peer --cluster c.toml --node 0 --dir marks --sync --resume",
     "gb_peer --cluster c.toml --node 0 --node 0 --dir marks",
     "gb_peer --cluster c.toml --cluster c.toml --node 0 --dir marks",
     "gb_peer --cluster c.toml --node 0 --dir marks --dir marks",
@@ -311,7 +316,7 @@ fn words_of_a_node_are_refused(rt: HostRuntime) {
     }
 }
 
-static EXPLAINED: [(&str, &str); 12] = [
+static EXPLAINED: [(&str, &str); 13] = [
     (
         "gb_peer --cluster c.toml --node 0 --dir marks --tenant-limit 1:2",
         "error: invalid value '1:2' for '--tenant-limit <LIMIT>': REQUESTS:BYTES:WAITS or TENANT=REQUESTS:BYTES:WAITS is wanted, as 1000:0:64 or 7=100:65536:8, with requests and bytes of 0 to 4000000000, waits of 0 to 60000, and a tenant of 0 to 65535\n\nFor more information, try '--help'.\n",
@@ -347,6 +352,10 @@ static EXPLAINED: [(&str, &str); 12] = [
     (
         "gb_peer --cluster c.toml --node 0 --dir marks --sync",
         "error: the argument '--sync' wants records: '--record'\n\nFor more information, try '--help'.\n",
+    ),
+    (
+        "gb_peer --cluster c.toml --node 0 --dir marks --resume",
+        "error: the argument '--resume' wants records: '--record'\n\nFor more information, try '--help'.\n",
     ),
     (
         "gb_peer --cluster c.toml --node 0 --dir=",

@@ -186,6 +186,7 @@ fn words_are_plans(rt: HostRuntime) {
             quiet: false,
             records: false,
             sync: false,
+            resume: false,
         };
         let found = read(rt.alloc(), line);
         assert!(rt; found == Ok(want));
@@ -259,6 +260,7 @@ fn words_say_how_loops_behave(rt: HostRuntime) {
             quiet: false,
             records: false,
             sync: false,
+            resume: false,
         };
         let found = read(rt.alloc(), line);
         assert!(rt; found == Ok(want), "{line}");
@@ -370,6 +372,40 @@ fn words_say_where_records_are_kept(rt: HostRuntime) {
     }
 }
 
+// Lines, the number of the run that they name, and whether nodes go on.
+static RUNS: [(&str, Option<u64>, bool); 4] = [
+    ("gb_serve --nodes 1 --base-port 1024", None, false),
+    ("gb_serve --nodes 1 --base-port 1024 --run 0", Some(0), false),
+    (
+        "gb_serve --nodes 1 --base-port 1024 --run 18446744073709551615",
+        Some(18_446_744_073_709_551_615),
+        false,
+    ),
+    (
+        "gb_serve --resume --nodes 1 --base-port 1024 --dir d --record --run=7",
+        Some(7),
+        true,
+    ),
+];
+
+// Returns true if the words of a line name this run, and say this of nodes that have begun.
+fn is_run(alloc: Global, line: &str, run: Option<u64>, resume: bool) -> bool {
+    let Ok(words) = words_of(alloc, line) else {
+        return false;
+    };
+    match read_words(alloc, &words) {
+        Ok(read) => read.run == run && read.plan.resume == resume,
+        Err(_) => false,
+    }
+}
+
+#[test]
+fn words_name_a_run(rt: HostRuntime) {
+    for (line, run, resume) in &RUNS {
+        assert!(rt; is_run(rt.alloc(), line, *run, *resume), "{line}");
+    }
+}
+
 // The limits of the options at a place of the list below.
 fn wanted_limits(place: usize) -> TenantLimits {
     let mut limits = no_limits();
@@ -459,7 +495,7 @@ fn sixteen_tenants_have_limits_of_their_own(rt: HostRuntime) {
 }
 
 // Each number's first value outside its range, words that are too few, too many, unknown, or given twice.
-static REFUSED: [&str; 89] = [
+static REFUSED: [&str; 94] = [
     "gb_serve ",
     "gb_serve --nodes 2",
     "gb_serve --base-port 42000",
@@ -517,6 +553,11 @@ static REFUSED: [&str; 89] = [
     "gb_serve --nodes 2 --base-port 42000 --sync --sync",
     "gb_serve --nodes 2 --base-port 42000 --sync",
     "gb_serve --nodes 2 --base-port 42000 --dir d --sync",
+    "gb_serve --nodes 2 --base-port 42000 --dir d --run 1 --resume",
+    "gb_serve --nodes 2 --base-port 42000 --dir d --record --resume",
+    "gb_serve --nodes 2 --base-port 42000 --run 18446744073709551616",
+    "gb_serve --nodes 2 --base-port 42000 --run 01",
+    "gb_serve --nodes 2 --base-port 42000 --run",
     "gb_serve --nodes 2 --base-port 42000 --dir=",
     "gb_serve --nodes 2 --base-port 42000 --dir= --record",
     "gb_serve --nodes 2 --base-port 42000 --dir  --record --sync",
@@ -559,7 +600,7 @@ fn words_are_refused(rt: HostRuntime) {
     }
 }
 
-static EXPLAINED: [(&str, &str); 18] = [
+static EXPLAINED: [(&str, &str); 21] = [
     (
         "gb_serve --nodes 2 --base-port 42000 --tenant-limit 1:2",
         "error: invalid value '1:2' for '--tenant-limit <LIMIT>': REQUESTS:BYTES:WAITS or TENANT=REQUESTS:BYTES:WAITS is wanted, as 1000:0:64 or 7=100:65536:8, with requests and bytes of 0 to 4000000000, waits of 0 to 60000, and a tenant of 0 to 65535\n\nFor more information, try '--help'.\n",
@@ -611,6 +652,18 @@ static EXPLAINED: [(&str, &str); 18] = [
     (
         "gb_serve --nodes 2 --base-port 42000 --dir d --sync",
         "error: the argument '--sync' wants records: '--record'\n\nFor more information, try '--help'.\n",
+    ),
+    (
+        "gb_serve --nodes 2 --base-port 42000 --dir d --record --resume",
+        "error: the argument '--resume' wants the number of the run: '--run <R>'\n\nFor more information, try '--help'.\n",
+    ),
+    (
+        "gb_serve --nodes 2 --base-port 42000 --dir d --run 1 --resume",
+        "error: the argument '--resume' wants records: '--record'\n\nFor more information, try '--help'.\n",
+    ),
+    (
+        "gb_serve --nodes 2 --base-port 42000 --run one",
+        "error: invalid value 'one' for '--run <R>': a number from 0 to 18446744073709551615 is wanted\n\nFor more information, try '--help'.\n",
     ),
     (
         "gb_serve --nodes 2 --base-port 42000 --dir= --record",

@@ -40,4 +40,5 @@ returns c =
     let twelve = c.in_ok-with_quiet.ensures.shape c.quiet_arg.ensures.local ∙ ap₂ with_rule eleven c.quiet_arg.ensures.rule in
     let thirteen = c.in_ok-with_record.ensures.shape c.record_arg.ensures.local ∙ ap₂ with_rule twelve c.record_arg.ensures.rule in
     let fourteen = c.in_ok-with_sync.ensures.shape c.sync_arg.ensures.local ∙ ap₂ with_rule thirteen c.sync_arg.ensures.rule in
-    IfOk-weaker c.arg-15.result _ _ (λ made added. added.shape c.limit_arg.ensures.local ∙ ap₂ with_rule fourteen c.limit_arg.ensures.rule) c.arg-15.ensures
+    let fifteen = c.in_ok-with_resume.ensures.shape c.resume_arg.ensures.local ∙ ap₂ with_rule fourteen c.resume_arg.ensures.rule in
+    IfOk-weaker c.arg-16.result _ _ (λ made added. added.shape c.limit_arg.ensures.local ∙ ap₂ with_rule fifteen c.limit_arg.ensures.rule) c.arg-16.ensures

@@ -43,6 +43,7 @@ returns c =
         quiet = reads_flag f (codes "quiet") c.get_flag-quiet.result c.requires.given.quiet c.get_flag-quiet.ensures.none c.get_flag-quiet.ensures.value c.get_flag-quiet.ensures.other;
         records = reads_flag f (codes "record") c.get_flag-records.result c.requires.given.records c.get_flag-records.ensures.none c.get_flag-records.ensures.value c.get_flag-records.ensures.other;
         sync = reads_flag f (codes "sync") c.get_flag-sync.result c.requires.given.sync c.get_flag-sync.ensures.none c.get_flag-sync.ensures.value c.get_flag-sync.ensures.other;
+        resume = reads_flag f (codes "resume") c.get_flag-resume.result c.requires.given.resume c.get_flag-resume.ensures.none c.get_flag-resume.ensures.value c.get_flag-resume.ensures.other;
       };
       within = record {
         node = (subst (λ (o : Option ℕ). IfSome o (λ n. (0 ≤ n) × (n ≤ LAST_NODE))) c.unwrap-node.ensures node.1).1;

@@ -2,7 +2,7 @@ use Rattle.gb_types.specs.Common.{◌∙◌, Option, ap, codes, option_map, sym,
 use Rattle.std.specs.Borrow.{Bor}
 use Rattle.clap.specs.Words.{Text, first_of, found_of, rows_of}
 use Rattle.clap.proofs.{CallerLemmas.some_of_text, WalkLemmas.first_value-rows}
-use Rattle.gb_serve_words.specs.Options.{may_sync, names_folder}
+use Rattle.gb_serve_words.specs.Options.{may_stand, names_folder}
 use Rattle.gb_peer_words.proofs.words.words_of.Goals as goal
 
 pub unwrap-cluster-requires : goal.unwrap-cluster-requires
@@ -30,10 +30,15 @@ returns-in_err-status-clause-none c = rw c.from_residual.ensures (λ can. c.in_e
 pub returns-in_err-limits-clause-none : goal.returns-in_err-limits-clause-none
 returns-in_err-limits-clause-none c = rw c.from_residual-in_err-limits.ensures (λ can. c.in_err-limits.ensures.none can.limits)
 
-pub returns-then-not-may_sync-clause-none : goal.returns-then-not-may_sync-clause-none
-returns-then-not-may_sync-clause-none c = λ can.
+pub returns-then-not-may_stand-clause-none : goal.returns-then-not-may_stand-clause-none
+returns-then-not-may_stand-clause-none c = λ can.
     let plan = c.plan_of-plan.ensures.read in
-    true≢false (sym can.disk ∙ ((λ i. may_sync (sym plan.records i) (sym plan.sync i)) ∙ (sym c.may_sync.ensures ∙ c.if-not-may_sync.true)))
+    true≢false (sym can.disk ∙ ((λ i. may_stand (sym plan.records i) (sym plan.sync i)) ∙ (sym c.may_stand.ensures ∙ c.if-not-may_stand.true)))
+
+pub returns-then-not-may_stand-2-clause-none : goal.returns-then-not-may_stand-2-clause-none
+returns-then-not-may_stand-2-clause-none c = λ can.
+    let plan = c.plan_of-plan.ensures.read in
+    true≢false (sym can.resumed ∙ ((λ i. may_stand (sym plan.records i) (sym plan.resume i)) ∙ (sym c.may_stand-2.ensures ∙ c.if-not-may_stand-2.true)))
 
 pub returns-then-not-is_folder-clause-none : goal.returns-then-not-is_folder-clause-none
 returns-then-not-is_folder-clause-none c = λ can.

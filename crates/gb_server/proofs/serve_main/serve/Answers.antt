@@ -1,4 +1,4 @@
-use Rattle.gb_types.specs.Common.{Err, List, ap, append-nil, refl, subst, sym, ℕ}
+use Rattle.gb_types.specs.Common.{Err, List, ap, append-nil, refl, subst, sym, ◌∙◌, ℕ}
 use Rattle.std.specs.Io.KnownBytes.{Appends}
 use Rattle.gb_session.proofs.RunLemmas.{Consumes-join}
 use Rattle.gb_server.specs.Told.{serving_line}
@@ -24,7 +24,9 @@ returns-clause-served g c = λ closed.
       keys = c.in-Ok.keys;
       spelt = keys.2;
       number = c.in-Some.number;
-      numbered = c.in-Some.is;
+      asked = c.in_ok-read.read.run;
+      given = c.in_ok-read.ensures.given.run;
+      numbered = sym c.run_by.ensures ∙ c.in-Some.is;
       seats = ends.0;
       ends = ends.1;
       told = subst (λ (w : List ℕ). Appends (g.W.Write.contents c.args.writer.now) (g.W.Write.contents c.serve_plan.new.writer) w)

@@ -3,6 +3,3 @@ use Rattle.gb_loop.proofs.node_loop.NodeLoop.finish.Given as goal
 
 abbrev pub invariant-looks : goal.invariant-looks
 invariant-looks g l = l.self.mail.origin ≡ l.fn.self.mail.origin
-
-abbrev pub invariant-keys : goal.invariant-keys
-invariant-keys g l = l.self.mail.origin ≡ l.fn.self.mail.origin
