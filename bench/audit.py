@@ -1,16 +1,27 @@
-"""What an audit of large records takes. A server of three nodes records while its members say and fetch; then gb_audit goes through the three
-records, once as they are and once with --group. Words: gb_serve, gb_audit, the program that asks (bench/serve/play.rs), and how many entries of
-a log are fetched at each node. Printed are entries, seconds, entries a second, and the program's greatest memory."""
+"""What an audit of large records takes: entries, seconds and memory, once without and once with --group.
+
+    audit [FETCHES]
+
+A server of three nodes records while its members say and fetch; then gb_audit goes through the three records. FETCHES, 250,000 if not
+given, is how many fetches each node is asked. Printed are entries, seconds, entries a second, and the program's greatest memory. gb_serve
+and gb_audit are those of bin/, where ./install puts them, unless SERVE and AUDIT name others. The records are written to a folder below
+TMPDIR, or /tmp.
+"""
 import glob
 import os
 import resource
 import shutil
 import subprocess
-import sys
 import tempfile
 import time
 
-from serve import ADMIN_KEY, CLUSTER_KEY, PAYLOAD, PORT, message, prepare
+import asking
+from asking import PAYLOAD, PORT, message
+from lab.keys import told
+from lab.ports import SESSIONS
+from lab.programs import program
+from lab.serving import Serving, serve_words
+from lab.words import numbers
 
 MEMBERS = (0, 1, 2)
 GROUPS = 64
@@ -18,10 +29,8 @@ GROUPS = 64
 
 def ask(play, folder, node, name, messages, count):
     """Sends messages to a node, 32 ahead of their replies. Returns a process that does."""
-    path = os.path.join(folder, f"{name}-{node}")
-    with open(path, "wb") as file:
-        file.writelines(messages)
-    return subprocess.Popen([play, "rate", "session", str(PORT + 64 + node), "1", "32", path, str(count)], stdout=subprocess.DEVNULL)
+    path = asking.written(folder, f"{name}-{node}", messages)
+    return subprocess.Popen([play, "rate", "session", str(PORT + SESSIONS + node), "1", "32", path, str(count)], stdout=subprocess.DEVNULL)
 
 
 def load(play, folder, fetches):
@@ -36,25 +45,20 @@ def load(play, folder, fetches):
 
 def record(serve, play, folder, fetches):
     """Returns the names of the records of a run, and the run's number."""
-    words = [serve, "--nodes", "3", "--base-port", str(PORT), "--dir", folder, "--record"]
-    with subprocess.Popen(words, stdin=subprocess.PIPE, stdout=subprocess.PIPE, text=True) as server:
-        server.stdin.write(f"{CLUSTER_KEY.hex()}\n{ADMIN_KEY.hex()}\n")
-        server.stdin.flush()
-        assert server.stdout.readline().startswith("serving")
-        prepare(MEMBERS, GROUPS, "eager")
+    with Serving(serve_words(serve, PORT, 3, "--dir", folder, "--record")) as server:
+        asking.prepare(PORT, MEMBERS, GROUPS, "eager")
         load(play, folder, fetches)
         time.sleep(1)
-        server.communicate("stop\n", timeout=60)
+        server.stop()
     names = sorted(glob.glob(os.path.join(folder, "*.record")))
     return names, os.path.basename(names[0]).split("-")[1]
 
 
-def audit(program, run, names, words):
+def audit(run, names, words):
     """Prints what an audit with these words takes."""
-    text = f"{CLUSTER_KEY.hex()}\n{ADMIN_KEY.hex()}\n"
     begun = time.monotonic()
-    process = subprocess.Popen([program, "--run", run, *words, *names], stdin=subprocess.PIPE, stdout=subprocess.PIPE, text=True)
-    out, _ = process.communicate(text)
+    process = subprocess.Popen([program("gb_audit"), "--run", run, *words, *names], stdin=subprocess.PIPE, stdout=subprocess.PIPE, text=True)
+    out, _ = process.communicate(told())
     took = time.monotonic() - begun
     assert process.returncode == 0, out
     merged = int(out.split("merged ")[1].split()[0])
@@ -63,16 +67,14 @@ def audit(program, run, names, words):
     print(f"gb_audit {' '.join(words)}: {merged:,} entries in {took:.1f} seconds, {merged / took:,.0f} a second, at most {most / 1024:,.0f} MB; {last}", flush=True)
 
 
-def main(serve, program, play, fetches):
+def main(words):
+    (fetches,) = numbers(words, 250_000)
     folder = tempfile.mkdtemp()
     try:
-        names, run = record(serve, play, folder, fetches)
+        names, run = record(asking.served(), asking.compiled(), folder, fetches)
         print(f"records: {sum(os.path.getsize(name) for name in names) / 1e6:,.0f} MB", flush=True)
-        audit(program, run, names, [])
-        audit(program, run, names, ["--group", "1", "0"])
+        audit(run, names, [])
+        audit(run, names, ["--group", "1", "0"])
     finally:
         shutil.rmtree(folder)
 
-
-if __name__ == "__main__":
-    main(*sys.argv[1:4], int(sys.argv[4]))

@@ -1,8 +1,11 @@
-#!/usr/bin/env python3
-"""Two built gb_sim programs side by side: beside.py OLD NEW [LINES], with 100,000 lines if not given otherwise.
+"""Two built gb_sim programs side by side, an old and a new one: groups, nodes and schedules of 2, 4, 8 and 16 members.
+
+    beside OLD NEW [LINES]
+
+LINES, 100,000 if not given, is how many lines the schedules have.
 
 For clusters of 2, 4, 8 and 16 nodes that are all members it prints what a group and a node take of memory, and what the schedule of
-schedule.py takes of processor time and, at most at once, of memory. Each is measured three times, in turns, and the medians are
+lab/schedule.py takes of processor time and, at most at once, of memory. Each is measured three times, in turns, and the medians are
 compared: a ratio is the new program's median by the old one's. Where the new program starts clusters of nodes that send packets of
 version 2 (`cluster2`), that is measured beside them, with the same payloads, and compared with the old program's version 1.
 
@@ -12,12 +15,12 @@ nodes is off by up to 4,096 bytes, and one of 16 nodes by up to 273.
 import os
 import statistics
 import subprocess
-import sys
 import tempfile
 import threading
 
 import memory
-import schedule
+from lab import schedule, system
+from lab.words import WrongWords, numbers
 
 ROUNDS = 3
 MEMBERS = (2, 4, 8, 16)
@@ -59,7 +62,7 @@ def most_bytes(program, members, version, paths):
     for _ in range(lines.count('\n')):
         process.stdout.readline()
     writer.join()
-    taken = memory.status_bytes(process, 'VmHWM')
+    taken = system.memory(process.pid, 'VmHWM')
     process.stdin.close()
     process.wait()
     return taken
@@ -85,7 +88,11 @@ def written(folder, count, versions):
     return paths
 
 
-def main(old, new, count=100_000):
+def main(words):
+    if len(words) < 2:
+        raise WrongWords
+    old, new = words[:2]
+    (count,) = numbers(words[2:], 100_000)
     runs = [('old', old, 1), ('new', new, 1)]
     if knows_version_2(new):
         runs.append(('version 2', new, 2))
@@ -103,8 +110,3 @@ def main(old, new, count=100_000):
                 ratios = ''.join(f'{value / medians[0]:>15.2f}' for value in medians[1:])
                 print(f'{what:38}{members:7}' + ''.join(f'{value:>12{form}}' for value in medians) + ratios, flush=True)
 
-
-if __name__ == '__main__':
-    if len(sys.argv) < 3:
-        sys.exit(__doc__)
-    main(sys.argv[1], sys.argv[2], *map(int, sys.argv[3:]))

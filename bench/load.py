@@ -1,17 +1,20 @@
 """A load on a cluster that is paced, and what it cost: a Load says what is asked, and `measure` starts a server, plays it, and returns a
 Cost. bench/serve/play.rs asks (`play pace`); processor time and memory are the system's figures of the server's process (/proc)."""
+import contextlib
 import math
 import os
 import subprocess
-import sys
 import tempfile
 import time
 from dataclasses import dataclass
 
-sys.path.insert(0, os.path.join(os.path.dirname(os.path.abspath(__file__)), "..", "clients", "python"))
-from foqradesh import BadPlaceError, Client, Keys, Spec, member_token, node_address
+from lab import system
+from lab.keys import ADMIN_KEY, TENANT_KEY, member_token
+from lab.ports import SESSIONS
+from lab.serving import STOPS, NotServing, all_serving, in_a_row, peer_words, serve_words, write_cluster_file
+from lab.sessions import framed
+from foqradesh import BadPlaceError, Client, Keys, Spec, node_address
 
-CLUSTER_KEY, ADMIN_KEY, TENANT_KEY = (bytes([byte] * 32) for byte in (0x11, 0x22, 0x33))
 PORT = int(os.environ.get("SCALE_PORT", "30000"))
 GROUPS_OF_A_TENANT = 250
 BEHIND = 64  # how many steps a fetch is behind the say of the message that it fetches
@@ -74,63 +77,34 @@ class Server:
 
     def __init__(self, program, nodes, is_exact=False):
         """Starts it. Exact: its allocator takes no more memory from the system than it is asked for, up to a page."""
-        self.nodes, self.folder = nodes, tempfile.TemporaryDirectory()
+        self.nodes, self.stack = nodes, contextlib.ExitStack()
         if os.path.basename(program).startswith("gb_peer"):
-            file = self.write_cluster_file()
-            words = [["--cluster", file, "--node", str(node), "--dir", self.folder.name, "--wait", "0"] for node in range(nodes)]
+            folder = self.stack.enter_context(tempfile.TemporaryDirectory())
+            file = os.path.join(folder, "cluster.toml")
+            write_cluster_file(file, in_a_row(PORT, nodes), run=1, silence=50, version=2, room=16345)
+            rows = [peer_words(program, file, node, folder, "--wait", "0", "--quiet") for node in range(nodes)]
         else:
-            words = [["--nodes", str(nodes), "--version", "2", "--base-port", str(PORT)]]
+            rows = [serve_words(program, PORT, nodes, "--version", "2", "--quiet", STOPS)]
         environment = dict(os.environ, MALLOC_TOP_PAD_="0") if is_exact else None
-        commands = [program.split() + it + ["--quiet", "--stop-at-end"] for it in words]
-        self.processes = [subprocess.Popen(it, stdin=subprocess.PIPE, stdout=subprocess.PIPE, text=True, env=environment) for it in commands]
-        for process in self.processes:
-            process.stdin.write(CLUSTER_KEY.hex() + "\n" + ADMIN_KEY.hex() + "\n")
-            process.stdin.flush()
-        for process in self.processes:
-            line = process.stdout.readline()
-            if not line.startswith("serving"):
-                self.__exit__()
-                raise RuntimeError(f"{program} does not serve: {line!r}")
-
-    def write_cluster_file(self):
-        path = os.path.join(self.folder.name, "cluster.toml")
-        with open(path, "w", encoding="ascii") as file:
-            file.write("run = 1\nsilence = 50\nversion = 2\nroom = 16345\n")
-            for node in range(self.nodes):
-                file.write(f'[[node]]\npackets = "127.0.0.1:{PORT + node}"\nsessions = "127.0.0.1:{PORT + 64 + node}"\n')
-        return path
+        try:
+            self.processes = self.stack.enter_context(all_serving(rows, environment=environment))
+        except NotServing:
+            self.stack.close()
+            raise
 
     def __enter__(self):
         return self
 
     def __exit__(self, *_):
-        for process in self.processes:
-            process.stdin.close()
-        for process in self.processes:
-            try:
-                process.wait(10)
-            except subprocess.TimeoutExpired:
-                process.kill()
-                process.wait()
-        self.folder.cleanup()
+        self.stack.close()
 
     def processor(self):
-        """Seconds of processor time that all threads had, by the scheduler's nanoseconds."""
-        sum_of_all = 0
-        for process in self.processes:
-            folder = f"/proc/{process.pid}/task"
-            for thread in os.listdir(folder):
-                with open(f"{folder}/{thread}/schedstat", encoding="ascii") as file:
-                    sum_of_all += int(file.read().split()[0])
-        return sum_of_all / 1e9
+        """Seconds of processor time that all threads had."""
+        return sum(system.processor(process.pid) for process in self.processes)
 
     def memory(self, name="VmRSS"):
         """Bytes of memory: VmRSS of what is resident, VmData of what was taken."""
-        sum_of_all = 0
-        for process in self.processes:
-            with open(f"/proc/{process.pid}/status", encoding="ascii") as file:
-                sum_of_all += next(int(line.split()[1]) * 1024 for line in file if line.startswith(name + ":"))
-        return sum_of_all
+        return sum(system.memory(process.pid, name) for process in self.processes)
 
     def figures(self):
         """The figures of all nodes, added up."""
@@ -173,11 +147,8 @@ def write_messages(load, node, path):
     heads = []
     for group in range(load.groups):
         tenant, number = address(group)
-        heads.append(f"{member_token(TENANT_KEY, tenant, number, node)} {tenant} {number}")
+        heads.append(f"{member_token(tenant, number, node)} {tenant} {number}")
     payload = ("%02x" % (0x41 + node)) * load.payload
-
-    def framed(text):
-        return len(text).to_bytes(4, "big") + text.encode("ascii")
 
     says = [framed(f"say {head} {payload}") for head in heads]
     with open(path, "wb") as file:
@@ -192,7 +163,7 @@ def write_messages(load, node, path):
 
 def play(program, load, files):
     """Plays the files at their nodes. How many messages were asked, how many were refused, and how many seconds it took."""
-    words = [word for node, path in enumerate(files) for word in (str(PORT + 64 + node), path)]
+    words = [word for node, path in enumerate(files) for word in (str(PORT + SESSIONS + node), path)]
     done = subprocess.run([program, "pace", f"{load.seconds:.3f}", str(load.together), *words], capture_output=True, text=True, timeout=load.seconds + 120, check=False)
     if done.returncode:
         raise RuntimeError(done.stderr)

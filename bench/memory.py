@@ -1,5 +1,8 @@
-#!/usr/bin/env python3
-"""Measures the memory of a group: memory.py PROGRAM [VERSION], where the nodes send packets of version 1 if not given otherwise.
+"""What memory a group takes when it is made, beside what its spec reserves, for groups of several specs.
+
+    memory [GB_SIM [VERSION]]
+
+GB_SIM is that of bin/, where ./install puts it, if not given. VERSION, 1 if not given, is that of the packets that the nodes send.
 
 In a cluster of n nodes each node makes some groups, after a first one that lays out a node's tables. What the program's
 data and heap grow by meanwhile, whether it was touched or not, is divided by n and by the groups. The allocator is told
@@ -7,9 +10,11 @@ to take no more from the system than it is asked for, up to a page.
 """
 import os
 import subprocess
-import sys
 
-from schedule import start
+from lab import system
+from lab.programs import program as program_of
+from lab.schedule import start
+from lab.words import numbers
 
 # The bytes for each of the n * m messages: an entry of the store, a number in the log, and its place in the store in what
 # is put out.
@@ -35,17 +40,8 @@ def reserved(kind, members, msgs, size):
     return members * msgs * message + members * size + msgs * ACKNOWLEDGED, TABLE * members * msgs
 
 
-def status_bytes(process, name):
-    """What the system says of a process's memory: VmData of what it took, VmHWM of what was there of it at most at once."""
-    with open(f'/proc/{process.pid}/status') as status:
-        for line in status:
-            if line.startswith(name + ':'):
-                return int(line.split()[1]) * 1024
-    raise ValueError(f'no {name}')
-
-
 def data_bytes(process):
-    return status_bytes(process, 'VmData')
+    return system.memory(process.pid, 'VmData')
 
 
 def tell(process, lines):
@@ -90,7 +86,9 @@ def of_cluster(program, nodes, version=1):
     return taken
 
 
-def main(program, version):
+def main(words):
+    program = words[0] if words else program_of('gb_sim')
+    (version,) = numbers(words[1:], 1)
     worst = 0.0
     specs = [(2, 64, 4096), (16, 64, 65536), (16, 256, 4096), (16, 1024, 65536), (2, 1024, 65536)]
     if version > 1:
@@ -105,6 +103,3 @@ def main(program, version):
             print(f'{kind:9} {members:7} {msgs:9} {size:7} {spec:11} {tables:9} {taken:9.0f} {ratio:6.2f}')
     print(f'at most {worst:.2f} times what is reserved')
 
-
-if __name__ == '__main__':
-    main(sys.argv[1], int(sys.argv[2]) if len(sys.argv) > 2 else 1)

@@ -1,11 +1,21 @@
-"""What `gb_serve --record` costs. A run starts four servers of one node anew: two without records, one with --record, and one with
---record --sync; which of four ports each of them has is another in each run, since two processes of one program differ in their rates too. Each is
-asked once until its memory was used, and then they are asked in turns, in short bursts, by one program (bench/serve/play.rs); the order of the four is
-another in each turn. So what else the machine does falls on all of them. Words: gb_serve, gb_audit, that program, how many
-requests are made in a burst with 32 ahead (a sixth of that with 1 ahead and with --sync), how many turns make a run, and how many runs are made.
-Printed are, over all turns of all runs: the median rates; the ratio of the median to that of the first server; the median of the ratios to the first server within
-a turn, with the quartiles of these; and the same ratio of processor time for a request. The second server without records shows in each of
-these what chance makes of nothing. Then come the bytes of a say and of a fetch in a record, and how fast gb_audit goes through one."""
+"""What `gb_serve --record` costs a server, and how fast gb_audit goes through a record.
+
+    record [COUNT [TURNS [RUNS]]]
+
+COUNT, 20,000 if not given, is how many requests are made in a burst with 32 ahead (a sixth of that with 1 ahead and with --sync), TURNS, 10
+if not given, how many bursts of each server make a run, and RUNS, 3 if not given, how many runs are made.
+
+A run starts four servers of one node anew: two without records, one with --record, and one with --record --sync; which of four ports each of
+them has is another in each run, since two processes of one program differ in their rates too. Each is asked once until its memory was used,
+and then they are asked in turns, in short bursts, by one program (bench/serve/play.rs, which plain rustc compiles into bench/out); the order
+of the four is another in each turn. So what else the machine does falls on all of them. Printed are, over all turns of all runs: the median
+rates; the ratio of the median to that of the first server; the median of the ratios to the first server within a turn, with the quartiles of
+these; and the same ratio of processor time for a request. The second server without records shows in each of these what chance makes of
+nothing. Then come the bytes of a say and of a fetch in a record, and how fast gb_audit goes through one.
+
+gb_serve and gb_audit are those of bin/, where ./install puts them, unless SERVE and AUDIT name others. The records are written to a folder
+below TMPDIR, or /tmp: its disk is part of what is measured.
+"""
 import contextlib
 import glob
 import os
@@ -16,8 +26,13 @@ import sys
 import tempfile
 import time
 
-from serve import ADMIN_KEY, CLUSTER_KEY, PAYLOAD, TENANT_KEY, Client, Server, Spec, keys, message, node_address
-from watched import seconds
+import asking
+from asking import PAYLOAD, Server, message
+from lab.keys import told
+from lab.medians import in_turn, median_ratio
+from lab.programs import program
+from lab.serving import serve_words
+from lab.words import numbers
 
 PORTS = (23000, 23200, 23400, 23600)
 WAYS = (("without", []), ("without again", []), ("--record", ["--record"]), ("--record --sync", ["--record", "--sync"]))
@@ -28,40 +43,25 @@ WARM = 20_000
 
 def prepare(port, groups):
     """Makes groups of one member, which says one message in the first of them."""
-    with Client(node_address(port, 0), keys(0)) as client:
-        client.add_tenant(1, TENANT_KEY, 256, 1024, 65536, 1024)
-        for group in range(groups):
-            client.make(1, group, Spec("beb", (0,), 1024, 65536, 1024))
-            client.open(1, group)
-        client.say(1, 0, PAYLOAD)
+    asking.prepare(port, [0], groups)
+    asking.say_one(port)
 
 
 class Bench:
-    def __init__(self, program, audit, play, count, turns, runs):
-        self.program, self.audit, self.play, self.count, self.turns, self.runs = program, audit, play, count, turns, runs
+    def __init__(self, count, turns, runs):
+        self.program, self.play, self.count, self.turns, self.runs = asking.served(), asking.compiled(), count, turns, runs
         self.folder = tempfile.mkdtemp()
         self.kept = None
 
-    def written(self, name, messages):
-        path = os.path.join(self.folder, name)
-        with open(path, "wb") as file:
-            file.writelines(messages)
-        return path
-
     def burst(self, server, port, path, ahead, count):
         """Returns requests a second, and microseconds of the server's processor time for each."""
-        before = seconds(server)
-        done = subprocess.run([self.play, "rate", "session", str(port + 64), "1", str(ahead), path, str(count)], capture_output=True, text=True, timeout=600)
-        assert done.returncode == 0, done.stderr
-        whole, refused, rate = (int(word) for word in done.stdout.split())
-        assert (whole, refused) == (count, 0)
-        return rate, (seconds(server) - before) / count * 1e6
+        rate, spent = asking.burst(self.play, server, port, path, ahead, count)
+        return rate, spent / count * 1e6
 
-    def turn(self, servers, ports, path, ahead, first):
-        """Returns the rate and the processor time of each server, which are asked one after the other from the first on."""
+    def turn(self, servers, ports, path, ahead, turn):
+        """Returns the rate and the processor time of each server, which are asked one after the other."""
         found = [None] * len(servers)
-        for step in range(len(servers)):
-            way = (first + step) % len(servers)
+        for way in in_turn(len(servers), turn):
             count = self.count if ahead > 1 and way != SYNCED else self.count // 6
             found[way] = self.burst(servers[way], ports[way], path, ahead, count)
         return found
@@ -74,7 +74,7 @@ class Bench:
             servers = []
             for port, folder, (_, options) in zip(ports, folders, WAYS):
                 place = ["--dir", folder, *options] if options else []
-                servers.append(stack.enter_context(Server([self.program, "--nodes", "1", "--base-port", str(port), "--quiet", *place])))
+                servers.append(stack.enter_context(Server(serve_words(self.program, port, 1, "--quiet", *place))))
             for server, port in zip(servers, ports):
                 prepare(port, groups)
                 self.burst(server, port, fetches, 32, WARM)
@@ -92,7 +92,7 @@ class Bench:
                 ratios = sorted(turn[way][0] / turn[0][0] for turn in turns)
                 low, middle, high = statistics.quantiles(ratios, n=4, method="inclusive")
                 spent = statistics.median(turn[way][1] for turn in turns)
-                more = statistics.median(turn[way][1] / turn[0][1] for turn in turns)
+                more = median_ratio([turn[way][1] for turn in turns], [turn[0][1] for turn in turns])
                 print(f"  {who}: {medians[way]:,.0f} a second, {medians[way] / medians[0]:.2f} of the first's median, {middle:.2f} of the first in its turn"
                       f" ({low:.2f} to {high:.2f}); {spent:.2f} us of processor time each, {more:.2f} of the first", flush=True)
 
@@ -103,27 +103,24 @@ class Bench:
             sizes = [len(line) for line in file if line.split(b" ")[2:3] == [word]]
         print(f"a {word.decode()} of {len(PAYLOAD)} bytes takes {statistics.mean(sizes):.0f} bytes in a record", flush=True)
         run = os.path.basename(name).split("-")[1]
-        text = f"{CLUSTER_KEY.hex()}\n{ADMIN_KEY.hex()}\n"
         before, begun = os.times(), time.monotonic()
-        done = subprocess.run([self.audit, "--run", run, name], input=text, capture_output=True, text=True)
+        done = subprocess.run([program("gb_audit"), "--run", run, name], input=told(), capture_output=True, text=True)
         took, after = time.monotonic() - begun, os.times()
         spent = max(0.01, after.children_user + after.children_system - before.children_user - before.children_system)
         merged = int(done.stdout.split("merged ")[1].split()[0])
         print(f"gb_audit: {merged:,} entries in {took:.2f} seconds, {merged / took:,.0f} a second, {merged / spent:,.0f} in a second of processor time", flush=True)
 
 
-def main(program, audit, play, count, turns, runs):
+def main(words):
+    count, turns, runs = numbers(words, 20_000, 10, 3)
     if count * turns * 7 // 6 > 250_000:
         sys.exit("too many requests: a member says 1,024 messages in each of 256 groups")
-    bench = Bench(program, audit, play, count, turns, runs)
-    says = bench.written("says", (message("say", 0, 1, group, PAYLOAD.hex()) for group in range(256)))
-    fetches = bench.written("fetches", [message("fetch", 0, 1, 0, "0 1")])
+    bench = Bench(count, turns, runs)
+    says = asking.written(bench.folder, "says", (message("say", 0, 1, group, PAYLOAD.hex()) for group in range(256)))
+    fetches = asking.written(bench.folder, "fetches", [asking.fetch()])
     bench.rates("say", says, fetches, 256)
     bench.lines(b"say")
     bench.rates("fetch of one entry", fetches, fetches, 1)
     bench.lines(b"fetch")
     shutil.rmtree(bench.folder)
 
-
-if __name__ == "__main__":
-    main(*sys.argv[1:4], *map(int, sys.argv[4:]))

@@ -1,6 +1,16 @@
-"""Measures a gb_serve under paced loads: scale.py SERVE PLAY sizes|figures [ROUNDS] [WORDS]. `figures` prints what the sheet of
-bench/capacity.py is made from, the medians of the rounds, and writes them into bench/figures.txt. `sizes` plays loads of three sizes and prints what they cost beside what that sheet says;
-it ends with status 1 where the median of a ratio is not within 30 percent."""
+"""Loads of three sizes beside the sheet of tools/capacity.py, or the figures that the sheet is made from.
+
+    scale [sizes [ROUNDS]]
+    scale figures [ROUNDS [PART ..]]
+
+`sizes` plays loads of 10, 100 and 1,000 groups, at rates that take about 10, 30 and 60 percent of a core, and prints measured processor time,
+resident memory and packets beside the computed ones. Status 1: a median of processor time or memory is not within 30 percent. `figures` prints
+what the sheet is made from, the medians of the rounds, and writes them into bench/figures.txt: all parts of it, or those that are named. ROUNDS
+is 3 if not given.
+
+bench/serve/play.rs asks, which plain rustc compiles into bench/out. gb_serve is that of bin/, where ./install puts it, unless SERVE names
+another; where SERVE names a gb_peer, each node has a process of its own. SCALE_PORT is the base port, 30,000 if not given.
+"""
 import os
 import statistics
 import subprocess
@@ -8,11 +18,13 @@ import sys
 import time
 from dataclasses import replace
 
-import capacity
+import asking
 import load
 from load import Load
+from lab import KINDS, TOP
+from lab.words import WrongWords, numbers
+from tools import capacity
 
-KINDS = ("beb", "lazy", "eager", "allack", "majority", "fbeb", "flazy", "feager", "fallack", "fmajority")
 MANY = capacity.MANY
 SECONDS = 2
 
@@ -29,14 +41,12 @@ def date():
 
 def commit():
     """The commit that is measured: COMMIT of the environment, or this checkout's."""
-    folder = os.path.dirname(os.path.abspath(__file__))
-    return os.environ.get("COMMIT") or subprocess.run(["git", "-C", folder, "rev-parse", "--short", "HEAD"], capture_output=True, text=True, check=True).stdout.strip()
+    return os.environ.get("COMMIT") or subprocess.run(["git", "-C", TOP, "rev-parse", "--short", "HEAD"], capture_output=True, text=True, check=True).stdout.strip()
 
 
 def write_figures(figures):
-    path = os.path.join(os.path.dirname(os.path.abspath(__file__)), "figures.txt")
-    with open(path, "w", encoding="ascii") as file:
-        file.write("# What bench/scale.sh figures measured: name, value, date, commit, part, what it is. Written by it, read by bench/capacity.py.\n")
+    with open(capacity.PATH, "w", encoding="ascii") as file:
+        file.write("# What bench/run.py scale figures measured: name, value, date, commit, part, what it is. Written by it, read by tools/capacity.py.\n")
         for name, it in figures.items():
             file.write("\t".join((name, str(it.value), it.date, it.commit, it.part, it.what)) + "\n")
 
@@ -174,16 +184,22 @@ def sizes(serve, play, rounds):
 
 
 def main(words):
-    serve, play, what = words[:3]
-    rounds = int(words[3]) if len(words) > 3 else 3
-    if what == "figures":
-        figures(serve, play, rounds, words[4:])
-        return 0
-    return 0 if sizes(serve, play, rounds) else 1
-
-
-if __name__ == "__main__":
+    what, *rest = words or ["sizes"]
+    if what == "sizes":
+        (rounds,) = numbers(rest, 3)
+        parts = None
+    elif what == "figures":
+        (rounds,), parts = numbers(rest[:1], 3), rest[1:]
+    else:
+        raise WrongWords
+    if parts and not set(parts) <= set(PARTS):
+        raise WrongWords
     try:
-        sys.exit(main(sys.argv[1:]))
+        serve, play = asking.served(), asking.compiled()
+        if what == "figures":
+            figures(serve, play, rounds, parts)
+            return 0
+        return 0 if sizes(serve, play, rounds) else 1
     except capacity.Missing as name:
-        sys.exit(f"bench/figures.txt has no figure {name}: bench/scale.sh figures measures it")
+        print(f"bench/figures.txt has no figure {name}: bench/run.py scale figures measures it", file=sys.stderr)
+        return 1

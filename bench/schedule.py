@@ -1,73 +1,38 @@
-#!/usr/bin/env python3
-"""Writes a schedule of this number of lines: says, packs, arrives, acknowledgements and fetches of 16 groups of 4 tenants, of all kinds of
-broadcast, on a cluster whose nodes all are members: schedule.py LINES [NODES [VERSION [BYTES]]].
+"""How many lines a second gb_sim answers, on a schedule of 10,000 and on one of 100,000 lines, and the ratio of the two times.
 
-There are 4 nodes if not given otherwise, which send packets of version 1 and say payloads of 2 bytes. A node says in four groups, of a
-tenant each, and packs what waits for each other node into one frame. Each group may have 1,024 messages at a node, and at most 65,536
-bytes; what is said beyond that is refused, and nothing waits then.
+    schedule [GB_SIM [NODES [VERSION [BYTES]]]]
+
+The lines are says, packs, arrives, acknowledgements and fetches of 16 groups of 4 tenants on a cluster (lab/schedule.py). GB_SIM is that of
+bin/, where ./install puts it, if not given. NODES, 4 if not given, is how many nodes there are, VERSION, 1 if not given, that of the packets
+that they send, and BYTES, 2 if not given, how many bytes a payload has.
 """
-import sys
+import os
+import subprocess
+import time
 
-TENANTS = range(7, 11)
-GROUPS = range(4)
-KINDS = ['beb', 'lazy', 'eager', 'allack', 'majority', 'fbeb', 'flazy', 'feager', 'fallack', 'fmajority']
+from lab import TOP, schedule
+from lab.programs import program as program_of
+from lab.words import numbers
 
-
-def start(nodes, silence, version):
-    """Returns the line that starts a cluster of this number of nodes. They all send this version of packets."""
-    if version == 1:
-        return f'cluster {nodes} {silence}'
-    return f'cluster2 {nodes} {silence} {",".join([str(version)] * nodes)}'
+OUT = os.path.join(TOP, 'bench', 'out', 'schedule')
 
 
-def setup(nodes, version, size):
-    yield start(nodes, 1000, version)
-    members = ','.join(str(node) for node in range(nodes))
-    most = min(65536, 2048 * size)
-    for node in range(nodes):
-        for tenant in TENANTS:
-            yield f'tenant {node} {tenant} 4 1024 {most} 1024'
-            for group in GROUPS:
-                kind = KINDS[(4 * tenant + group) % len(KINDS)]
-                yield f'make {node} {tenant} {group} {kind} {members} 1024 {most} 1024'
-                yield f'open {node} {tenant} {group}'
-
-
-def schedule(nodes, version, size):
-    yield from setup(nodes, version, size)
-    sent = 0
-    turn = 0
-    while True:
-        origin = turn % nodes
-        for tenant in TENANTS:
-            payload = f'{turn % 65536:04x}' + '00' * (size - 2)
-            yield f'say {origin} {tenant} {(turn // nodes + tenant) % len(GROUPS)} {payload}'
-        for node in (origin, (origin + 1) % nodes):
-            for to in range(nodes):
-                if to != node:
-                    yield f'pack {node} {to}'
-                    sent += 1
-                    yield f'arrive {sent}'
-        if turn % 8 == 7:
-            for node in range(nodes):
-                for to in range(nodes):
-                    if to != node:
-                        yield f'ack {node} {to}'
-                        sent += 1
-                        yield f'arrive {sent}'
-        tenant = TENANTS[turn % len(TENANTS)]
-        yield f'fetch {(origin + 1) % nodes} {tenant} {turn % len(GROUPS)} {turn // 8} 4'
-        turn += 1
-
-
-def lines_of(count, nodes=4, version=1, size=2):
-    """The first lines of the schedule."""
-    for number, line in enumerate(schedule(nodes, version, size)):
-        if number == count:
-            return
-        yield line
-
-
-if __name__ == '__main__':
-    for each in lines_of(*map(int, sys.argv[1:])):
-        print(each)
+def main(words):
+    program = words[0] if words else program_of('gb_sim')
+    nodes, version, size = numbers(words[1:], 4, 1, 2)
+    os.makedirs(OUT, exist_ok=True)
+    times = []
+    for lines in (10000, 100000):
+        path = os.path.join(OUT, str(lines))
+        with open(path, 'w', encoding='ascii') as file:
+            file.writelines(line + '\n' for line in schedule.lines_of(lines, nodes, version, size))
+        best = None
+        for _ in range(3):
+            with open(path) as given, open(path + '.out', 'w') as out:
+                start = time.monotonic()
+                subprocess.run([program], stdin=given, stdout=out, check=True)
+                took = time.monotonic() - start
+            best = took if best is None else min(best, took)
+        times.append(best)
+        print(f'{lines} lines: {best:.3f} s, {lines / best:.0f} lines a second', flush=True)
+    print(f'ten times the lines take {times[1] / times[0]:.1f} times as long')

@@ -1,20 +1,33 @@
-"""What `gb_serve --status` costs while its figures are read once a second. A run starts three servers of one node anew: one without the
-option, another without it, and one whose figures are read; which of three ports each of them has is another in each run, since two processes of
-one program differ in their rates too. They are asked in turns, in bursts of a second or so, by one program
-(bench/serve/play.rs); the order of the three is another in each turn. Words: gb_serve, that program, how many fetches are made in a burst
-with 32 ahead (a fifth of that with 1 ahead), how many bursts of each server make a run, and how many runs are made.
-A run prints the median rate of each server, the median of the ratios of the second and of the third to the first within a turn, and
-the server's processor time for a fetch over all bursts of the run, with that of its answers by HTTP. At the end the medians over all turns of all runs
-are printed, and the least and the greatest of the runs' medians."""
-import glob
+"""What `gb_serve --status` costs a server while its figures are read once a second, in time or in instructions.
+
+    watched [COUNT [TURNS [RUNS]]]
+    watched count [COUNT [PAIRS]]
+
+COUNT, 400,000 if not given, is how many fetches are made in a burst with 32 ahead (a fifth of that with 1 ahead), TURNS, 5 if not given, how
+many bursts of each server make a run, and RUNS, 6 if not given, how many runs are made.
+
+A run starts three servers of one node anew: one without the option, another without it, and one whose figures are read; which of three ports
+each of them has is another in each run, since two processes of one program differ in their rates too. They are asked in turns, in bursts of a
+second or so, by one program (bench/serve/play.rs, which plain rustc compiles into bench/out); the order of the three is another in each turn.
+A run prints the median rate of each server, the median of the ratios of the second and of the third to the first within a turn, and the
+server's processor time for a fetch over all bursts of the run, with that of its answers by HTTP. At the end the medians over all turns of all
+runs are printed, and the least and the greatest of the runs' medians.
+
+With `count` the instructions of a node's loop are counted instead, by valgrind, of a server without and of one with the option, in turns:
+COUNT, 50,000 if not given, is how many fetches are made of each, and PAIRS, 3 if not given, how many pairs there are.
+
+gb_serve is that of bin/, where ./install puts it, unless SERVE names another.
+"""
 import statistics
-import subprocess
-import sys
 import tempfile
 import threading
 import urllib.request
 
-from serve import Client, PAYLOAD, Server, Spec, TENANT_KEY, keys, message, node_address
+import asking
+from asking import Server
+from lab.medians import in_turn, median_ratio
+from lab.serving import serve_words
+from lab.words import numbers
 
 PORTS = (23000, 23200, 23400)
 STATUS = 23590
@@ -41,46 +54,23 @@ class Reader(threading.Thread):
 
 def prepare(port):
     """Makes a group of one member with one entry in its log."""
-    with Client(node_address(port, 0), keys(0)) as client:
-        client.add_tenant(1, TENANT_KEY, 1, 1024, 65536, 1024)
-        client.make(1, 0, Spec("beb", (0,), 1024, 65536, 1024))
-        client.open(1, 0)
-        client.say(1, 0, PAYLOAD)
-
-
-def seconds(server):
-    """The processor time of all threads of a server; all live until it ends."""
-    total = 0
-    for path in glob.glob(f"/proc/{server.process.pid}/task/*/schedstat"):
-        with open(path) as file:
-            total += int(file.read().split()[0])
-    return total / 1e9
-
-
-def burst(play, server, port, path, ahead, count):
-    """Fetches a second, and the server's processor time."""
-    before = seconds(server)
-    done = subprocess.run([play, "rate", "session", str(port + 64), "1", str(ahead), path, str(count)], capture_output=True, text=True, timeout=300)
-    assert done.returncode == 0, done.stderr
-    whole, refused, rate = (int(word) for word in done.stdout.split())
-    assert (whole, refused) == (count, 0)
-    return rate, seconds(server) - before
+    asking.prepare(port, [0], 1, most=1)
+    asking.say_one(port)
 
 
 def run(play, servers, ports, path, ahead, count, turns):
     """Returns the rates of each server, turn by turn, and its microseconds for a fetch."""
     rates, spent = [[] for _ in servers], [0.0 for _ in servers]
     for turn in range(turns):
-        for step in range(len(servers)):
-            who = (turn + step) % len(servers)
-            rate, used = burst(play, servers[who], ports[who], path, ahead, count)
+        for who in in_turn(len(servers), turn):
+            rate, used = asking.burst(play, servers[who], ports[who], path, ahead, count)
             rates[who].append(rate)
             spent[who] += used
     return rates, [used / (turns * count) * 1e6 for used in spent]
 
 
 def ratio(rates, who):
-    return statistics.median(other / first for first, other in zip(rates[0], rates[who]))
+    return median_ratio(rates[who], rates[0])
 
 
 def report(what, rates, spent):
@@ -92,7 +82,7 @@ def report(what, rates, spent):
 def run_anew(program, play, path, count, turns, number):
     """A run with three servers of its own: for 1 and for 32 ahead, the rates of each and its microseconds for a fetch."""
     ports = [PORTS[(who + number) % len(PORTS)] for who in range(len(PORTS))]
-    words = [[program, "--nodes", "1", "--base-port", str(port)] for port in ports]
+    words = [serve_words(program, port, 1) for port in ports]
     words[2] += ["--status", f"127.0.0.1:{STATUS}"]
     with Server(words[0]) as first, Server(words[1]) as second, Server(words[2]) as third:
         servers = (first, second, third)
@@ -102,7 +92,7 @@ def run_anew(program, play, path, count, turns, number):
         reader.start()
         found = []
         for ahead, each in ((1, count // 5), (32, count)):
-            burst(play, third, ports[2], path, ahead, each)
+            asking.burst(play, third, ports[2], path, ahead, each)
             found.append(run(play, servers, ports, path, ahead, each, turns))
             report(f"{ahead} ahead, run {number + 1}", *found[-1])
         assert reader.is_alive() and reader.count, "the figures could not be read"
@@ -112,9 +102,14 @@ def run_anew(program, play, path, count, turns, number):
     return found
 
 
-def main(program, play, count, turns, runs):
+def main(words):
+    if words[:1] == ["count"]:
+        import watched_count
+        return watched_count.main(words[1:])
+    count, turns, runs = numbers(words, 400_000, 5, 6)
+    program, play = asking.served(), asking.compiled()
     with tempfile.NamedTemporaryFile() as file:
-        file.write(message("fetch", 0, 1, 0, "0 1"))
+        file.write(asking.fetch())
         file.flush()
         found = [run_anew(program, play, file.name, count, turns, number) for number in range(runs)]
     for place, ahead in enumerate((1, 32)):
@@ -124,6 +119,3 @@ def main(program, play, count, turns, runs):
             ratios = [ratio(one[place][0], who) for one in found]
             print(f"  {WHO[who]}, run by run: {min(ratios):.4f} to {max(ratios):.4f}, median {statistics.median(ratios):.4f}", flush=True)
 
-
-if __name__ == "__main__":
-    main(sys.argv[1], sys.argv[2], int(sys.argv[3]), int(sys.argv[4]), int(sys.argv[5]))

@@ -3,7 +3,7 @@
 
     client.py walk [PORT] [GB_SERVE]     starts a cluster of three nodes, chats, and stops it
 
-docs/CLIENTS.md tells what the package does.
+docs/CLIENTS.md describes the package.
 """
 import os
 import subprocess
@@ -29,7 +29,7 @@ def serve(program, port, cluster_key, admin_key):
 
 
 def chat(clients):
-    """Have each member say something, and return each member's log."""
+    """Let each member say something, and return each member's log."""
     for node, text in zip(MEMBERS, TEXTS):
         number = clients[node].say(TENANT, GROUP, text.encode("utf-8"))
         print(f"node {node}: says {text!r} as its message {number}")
@@ -51,7 +51,7 @@ def walk(port, program):
     clients = {node: Client(node_address(port, node), keys[node]) for node in MEMBERS}
     for client in clients.values():
         client.add_tenant(TENANT, tenant_key, groups=4, messages=100, total_bytes=4096, window=100)
-    # The group is made at every member's node, and only then opened at any.
+    # The group is made at every member's node before it is opened at any.
     Group(clients, TENANT, GROUP, Spec("fallack", MEMBERS, messages=100, total_bytes=4096, window=100)).start()
     logs = chat(clients)
     for client in clients.values():

@@ -1,4 +1,4 @@
-"""Clusters of three nodes for the examples, on this machine, with keys of their own and tenant 7 taken in at each node."""
+"""Clusters of three nodes for the examples, on this machine, with keys of their own and tenant 7 added at each node."""
 import contextlib
 import os
 import subprocess

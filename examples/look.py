@@ -1,5 +1,5 @@
 #!/usr/bin/env python3
-"""A look at the service before any proof: builds gb_serve without proof, starts three nodes, makes a group of three members, has each say
+"""A look at the service before any proof: builds gb_serve without proof, starts three nodes, makes a group of three members, lets each say
 something, and prints each member's log. It needs Python 3.9 and the command rt of the Rattle toolchain.
 
     look.sh [PORT]     the nodes' ports begin at PORT, 24000 if it is not given
@@ -44,7 +44,7 @@ def wait_for(server, port):
 
 
 def end(server):
-    """Have rt end, with what it started."""
+    """End rt, with all that it started."""
     if server.poll() is None:
         server.terminate()
         server.wait(timeout=60)

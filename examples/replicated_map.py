@@ -22,13 +22,13 @@ class ReplicatedMap:
         self.own, self.others, self.values, self.applied = clients[node], set(NODES) - {node}, {}, []
 
     async def set(self, key, value):
-        """Change the map at all members. It returns when the change has its place in the order."""
+        """Change the map at all members. It returns when the change has its position in the order."""
         change, repeat = json.dumps([key, value]).encode(), None
         while True:
             try:
                 return await self.room.say(change, repeat=repeat)
             except UnansweredError as error:
-                if error.generation is not None:  # it may be said: with the same number it is, once at most
+                if error.generation is not None:  # it may be said: with the same number it is said at most once
                     repeat = RoomNumber(error.generation, error.number)
                 noticed = (await self.own.status())["nodes_noticed"]
                 if error.node in self.others and noticed > len(NODES) - 1 - len(self.others):
@@ -47,7 +47,7 @@ async def play(connect, kill):
     appliers = [asyncio.ensure_future(it.apply()) for it in maps]
     for number in range(CHANGES):
         if number == 20:
-            asyncio.get_running_loop().call_later(0.002, kill, NODES[0])  # it leads still, and changes are on their way
+            asyncio.get_running_loop().call_later(0.002, kill, NODES[0])  # it still leads, and changes are on their way
         await asyncio.gather(*(it.set(f"key {number % 7}", f"{number} of node {it.room.node}") for it in maps))
     while any(len(it.applied) < 2 * CHANGES and not task.done() for it, task in zip(maps, appliers)):
         await asyncio.sleep(0.1)

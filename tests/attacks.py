@@ -10,11 +10,8 @@ It needs nothing beside Python. Where the machine itself is slow, a client may w
 """
 import argparse
 import contextlib
-import hashlib
-import hmac
 import os
 import resource
-import selectors
 import signal
 import socket
 import struct
@@ -26,101 +23,29 @@ import time
 import urllib.error
 import urllib.request
 
-CLUSTER, ADMIN, TENANT = (bytes([byte]) * 32 for byte in (0x11, 0x22, 0x33))
+sys.path.insert(0, os.path.dirname(os.path.dirname(os.path.abspath(__file__))))
+from lab import sessions  # noqa: E402
+from lab.keys import ADMIN_TOKEN, TENANT_KEY, member_token, tenant_token  # noqa: E402
+from lab.ports import SESSIONS  # noqa: E402
+from lab.relay import Relay  # noqa: E402
+from lab.serving import STOPS, NotServing, Serving, all_serving, peer_words, serve_words, write_cluster_file  # noqa: E402
+from lab.sessions import framed  # noqa: E402
+from lab.steps import Wrong, expect  # noqa: E402
+
 NOBODY = "0" * 64  # a token that is not valid
 LONGEST = 0.1  # seconds that another client may wait
 SLOWER = 3  # how many times as long as a client of an echo it may wait
-SESSIONS, STATUS, RELAYED = 64, 140, 200  # how far above a server's first port its other ports are
-
-
-def token(key, text):
-    return hmac.new(key, text, hashlib.sha256).hexdigest()
-
-
-ADMIN_TOKEN = token(ADMIN, b"A")
-
-
-def tenant_token(tenant):
-    return token(TENANT, b"T" + struct.pack(">H", tenant))
-
-
-def member_token(tenant, group, node=0):
-    return token(TENANT, b"M" + struct.pack(">HHB", tenant, group, node))
-
-
-def framed(text):
-    return struct.pack(">I", len(text)) + text.encode("ascii")
-
-
+STATUS, RELAYED = 140, 200  # how far above a server's first port its other ports are
 DENIED = [framed(f"open {NOBODY} 7 {group}") for group in (1, 2)]
 
 
-class Failed(Exception):
-    """What an attack did that it may not do."""
-
-
-def expect(is_so, text):
-    if not is_so:
-        raise Failed(text)
-
-
-class Link:
+class Link(sessions.Link):
     """A connection to a node's sessions."""
-
-    def __init__(self, port, timeout=10):
-        self.socket = socket.create_connection(("127.0.0.1", port), timeout)
-        self.socket.setsockopt(socket.IPPROTO_TCP, socket.TCP_NODELAY, 1)
-
-    def read(self, count):
-        text = b""
-        while len(text) < count:
-            piece = self.socket.recv(count - len(text))
-            if not piece:
-                raise ConnectionError("closed")
-            text += piece
-        return text
-
-    def told(self):
-        (size,) = struct.unpack(">I", self.read(4))
-        return self.read(size).decode("ascii")
-
-    def ask(self, text):
-        self.socket.sendall(framed(text))
-        return self.told()
 
     def figures(self):
         text = self.ask(f"status {ADMIN_TOKEN}")
         expect(text.startswith("status "), f"an administrator is answered {text[:40]!r}")
         return {word.split("=")[0]: int(word.split("=")[1]) for word in text.split()[1:]}
-
-    def close(self):
-        self.socket.close()
-
-
-class Process:
-    """A program that serves. It ends when its standard input does."""
-
-    def __init__(self, words, log):
-        self.process = subprocess.Popen(words, stdin=subprocess.PIPE, stdout=subprocess.PIPE, stderr=log)
-        self.process.stdin.write(f"{CLUSTER.hex()}\n{ADMIN.hex()}\n".encode("ascii"))
-        self.process.stdin.flush()
-        line = self.process.stdout.readline()
-        if not line.startswith(b"serving"):
-            self.end()
-            raise Failed(f"{words[0]} does not serve: {line!r}")
-
-    @property
-    def pid(self):
-        return self.process.pid
-
-    def end(self):
-        with contextlib.suppress(OSError):
-            self.process.stdin.close()
-        try:
-            self.process.wait(20)
-        except subprocess.TimeoutExpired:
-            self.process.kill()
-            self.process.wait()
 
 
 class Attacks:
@@ -137,41 +62,31 @@ class Attacks:
     @contextlib.contextmanager
     def served(self, *words, nodes=1):
         base = self.next_ports()
-        server = Process([self.serve, "--nodes", str(nodes), "--base-port", str(base), "--stop-at-end", *words], self.log)
-        server.port = base
-        server.sessions = base + SESSIONS
-        try:
+        with Serving(serve_words(self.serve, base, nodes, STOPS, *words), log=self.log) as server:
+            server.port, server.sessions = base, base + SESSIONS
             yield server
-        finally:
-            server.end()
 
     @contextlib.contextmanager
     def peers(self, silence, seen, folder):
         """Two nodes, each a gb_peer. `seen` has for each node the ports at which it finds the packets of the two, and its own last."""
-        started = []
-        try:
-            for node, (ports, status) in enumerate(seen):
-                path = os.path.join(folder, f"cluster{node}.toml")
-                with open(path, "w", encoding="ascii") as file:
-                    file.write(f"run = 1\ntick = 20\nsilence = {silence}\n")
-                    for at, port in enumerate(ports):
-                        file.write(f'[[node]]\npackets = "127.0.0.1:{port}"\nsessions = "127.0.0.1:{self.port + SESSIONS + at}"\n')
-                words = ["--cluster", path, "--node", str(node), "--dir", folder, "--wait", "0", "--stop-at-end"]
-                words += ["--status", f"127.0.0.1:{status}"]
-                started.append(Process([self.peer, *words], self.log))
-            yield started
-        finally:
-            for process in started:
-                with contextlib.suppress(ProcessLookupError):
-                    os.kill(process.pid, signal.SIGCONT)
-            for process in started:
-                process.end()
+        rows = []
+        for node, (ports, status) in enumerate(seen):
+            path = os.path.join(folder, f"cluster{node}.toml")
+            write_cluster_file(path, [(port, self.port + SESSIONS + at) for at, port in enumerate(ports)], run=1, tick=20, silence=silence)
+            rows.append(peer_words(self.peer, path, node, folder, "--wait", "0", "--status", f"127.0.0.1:{status}"))
+        with all_serving(rows, log=self.log) as nodes:
+            try:
+                yield nodes
+            finally:
+                for node in nodes:
+                    with contextlib.suppress(ProcessLookupError):
+                        os.kill(node.pid, signal.SIGCONT)
 
 
 def prepare(port, node=0, members="0", kind="beb", groups=(1, 2)):
     """Makes the groups of a tenant at a node, as far as they are not there."""
     link = Link(port)
-    expect(link.ask(f"tenant {ADMIN_TOKEN} 7 {TENANT.hex()} 8 1000 65536 1000") == "ok", "a tenant is not taken in")
+    expect(link.ask(f"tenant {ADMIN_TOKEN} 7 {TENANT_KEY.hex()} 8 1000 65536 1000") == "ok", "a tenant is not taken in")
     for group in groups:
         text = link.ask(f"make {tenant_token(7)} 7 {group} {kind} {members} 1000 60000 1000")
         expect(text == "ok", f"a group is not made: {text}")
@@ -281,7 +196,7 @@ def bytes_of(folder):
     return sum(os.path.getsize(os.path.join(folder, name)) for name in os.listdir(folder) if name.endswith(".record"))
 
 
-# The attacks. Each returns a line that says what was seen, or raises Failed.
+# The attacks. Each returns a line that says what was seen, or raises Wrong.
 
 
 def wake_storm(attacks):
@@ -450,52 +365,23 @@ def parted(base):
     return "each noticed the other, is not well, and goes on"
 
 
-class Relay(threading.Thread):
-    """Carries datagrams between two nodes, by a socket for each. It may lose those of the first node."""
-
-    def __init__(self, nodes, ports):
-        super().__init__(daemon=True)
-        self.nodes, self.loses, self.is_over = nodes, False, False
-        self.sockets = []
-        for port in ports:
-            mine = socket.socket(socket.AF_INET, socket.SOCK_DGRAM)
-            mine.bind(("127.0.0.1", port))
-            self.sockets.append(mine)
-
-    def run(self):
-        select = selectors.DefaultSelector()
-        for at, mine in enumerate(self.sockets):
-            select.register(mine, selectors.EVENT_READ, at)
-        while not self.is_over:
-            for key, _ in select.select(0.05):
-                text = key.fileobj.recv(65_536)
-                at = key.data
-                # What comes to the place of node `at` was sent by the other one; it goes on from the other one's place.
-                if not (self.loses and at == 1):
-                    with contextlib.suppress(OSError):
-                        self.sockets[1 - at].sendto(text, ("127.0.0.1", self.nodes[at]))
-
-
 def lost_packets(attacks):
     """Packets from node 0 to node 1 are lost for longer than the silence, those of node 1 are not."""
     base = attacks.next_ports()
-    relay = Relay((base, base + 1), (base + RELAYED, base + RELAYED + 1))
+    relay = Relay([("127.0.0.1", base), ("127.0.0.1", base + 1)], base + RELAYED)
     relay.start()
     try:
         with tempfile.TemporaryDirectory() as folder:
-            seen = [((base, base + RELAYED + 1), base + STATUS), ((base + RELAYED, base + 1), base + STATUS + 1)]
+            seen = [((base, relay.port(0, 1)), base + STATUS), ((relay.port(1, 0), base + 1), base + STATUS + 1)]
             with attacks.peers(100, seen, folder):
                 for node in range(2):
                     prepare(base + SESSIONS + node, node, "0,1", "allack")
-                relay.loses = True
+                relay.command("cut 0 1")
                 time.sleep(4)
-                relay.loses = False
+                relay.command("join")
                 return parted(base)
     finally:
-        relay.is_over = True
-        relay.join()
-        for mine in relay.sockets:
-            mine.close()
+        relay.close()
 
 
 def known_tenants(attacks):
@@ -665,7 +551,7 @@ def main():
         name = attack.__name__.replace("_", " ")
         try:
             seen = attack(attacks)
-        except (Failed, OSError, subprocess.SubprocessError) as fault:
+        except (Wrong, NotServing, OSError, subprocess.SubprocessError) as fault:
             failed += 1
             print(f"{name}: FAILED: {fault}", flush=True)
         else:

@@ -15,18 +15,21 @@ import multiprocessing
 import os
 import queue
 import socket
-import subprocess
 import sys
 import tempfile
 import threading
 import time
 
 TOP = os.path.dirname(os.path.dirname(os.path.abspath(__file__)))
-sys.path.insert(0, os.path.join(TOP, "clients", "python"))
+sys.path.insert(0, TOP)
 
+from lab import keys  # noqa: E402
+from lab.keys import ADMIN_KEY, CLUSTER_KEY, TENANT_KEY  # noqa: E402
+from lab.medians import percentile  # noqa: E402
+from lab.serving import STOPS, NotServing, Serving, in_a_row, peer_words, serve_words, write_cluster_file  # noqa: E402
+from lab.steps import Wrong, expect  # noqa: E402
 from foqradesh import Client, FoqradeshError, Group, Keys, Spec, node_address  # noqa: E402
 
-CLUSTER, ADMIN, TENANT = (bytes([byte]) * 32 for byte in (0x11, 0x22, 0x33))
 SENDERS = 6
 NODES = 3
 
@@ -41,41 +44,20 @@ LAST_PLACE = 900
 """How long a message is waited for, in seconds, and how many are said at most."""
 
 
-class Failed(Exception):
-    """What may not be."""
+class Process(Serving):
+    """A program that serves, whose standard error goes into a log."""
 
-
-def expect(is_so, text):
-    if not is_so:
-        raise Failed(text)
-
-
-class Process:
-    """A program that serves, told its keys. It ends when its standard input does."""
-
-    def __init__(self, folder, name, words, cluster=CLUSTER):
+    def __init__(self, folder, name, words, cluster_key=CLUSTER_KEY):
         self.log = os.path.join(folder, name)
-        with open(self.log, "wb") as log:
-            self.process = subprocess.Popen(words, stdin=subprocess.PIPE, stdout=subprocess.PIPE, stderr=log)
-        self.process.stdin.write(f"{cluster.hex()}\n{ADMIN.hex()}\n".encode("ascii"))
-        self.process.stdin.flush()
-        line = self.process.stdout.readline()
-        if not line.startswith(b"serving"):
-            self.end()
-            raise Failed(f"{words[0]} does not serve: {line!r} {self.text()!r}")
+        try:
+            with open(self.log, "wb") as log:
+                super().__init__(words, keys.told(cluster_key), log)
+        except NotServing as fault:
+            raise Wrong(f"{fault} {self.text()!r}") from None
 
     def text(self):
         with open(self.log, encoding="utf-8", errors="replace") as log:
             return log.read()
-
-    def end(self):
-        with contextlib.suppress(OSError):
-            self.process.stdin.close()
-        try:
-            self.process.wait(20)
-        except subprocess.TimeoutExpired:
-            self.process.kill()
-            self.process.wait()
 
 
 def send_junk(port, until, size, sent):
@@ -110,18 +92,13 @@ def flooded(port, seconds, size=100):
                 sender.kill()
 
 
-def percentile(values, share):
-    ordered = sorted(values)
-    return ordered[min(len(ordered) - 1, int(len(ordered) * share))]
-
-
 def clients_of(base):
-    return {node: Client(node_address(base, node), Keys(node, admin=ADMIN, tenants={7: TENANT})) for node in range(NODES)}
+    return {node: Client(node_address(base, node), Keys(node, admin=ADMIN_KEY, tenants={7: TENANT_KEY})) for node in range(NODES)}
 
 
 def begin_groups(clients, kinds):
     for client in clients.values():
-        client.add_tenant(7, TENANT, groups=8, messages=1000, total_bytes=60000, window=1000)
+        client.add_tenant(7, TENANT_KEY, groups=8, messages=1000, total_bytes=60000, window=1000)
     for number, kind in enumerate(kinds, 1):
         spec = Spec(kind, tuple(clients), messages=1000, total_bytes=60000, window=1000)
         Group(clients, 7, number, spec).start()
@@ -176,12 +153,8 @@ class Floods:
     @contextlib.contextmanager
     def served(self):
         base = self.next_base()
-        words = [self.serve, "--nodes", str(NODES), "--base-port", str(base), "--stop-at-end"]
-        server = Process(self.folder.name, f"serve-{base}", words)
-        try:
+        with Process(self.folder.name, f"serve-{base}", serve_words(self.serve, base, NODES, STOPS)) as server:
             yield base, server
-        finally:
-            server.end()
 
     def bound(self):
         is_loaded = self.load > (os.cpu_count() or 1)
@@ -233,21 +206,17 @@ class Floods:
                     except OSError as error:
                         expect(error.errno == errno.EADDRINUSE, str(error))
                     else:
-                        raise Failed(f"another socket is bound at a node's address, with option {option}")
+                        raise Wrong(f"another socket is bound at a node's address, with option {option}")
 
     def a_node_under_another_key_is_named(self):
         base = self.next_base()
         with contextlib.ExitStack() as stack:
             file = os.path.join(self.folder.name, "cluster.toml")
-            tables = "".join(f'[[node]]\npackets = "127.0.0.1:{base + node}"\nsessions = "127.0.0.1:{base + 64 + node}"\n' for node in range(2))
-            with open(file, "w", encoding="ascii") as cluster:
-                cluster.write(f"run = {int(time.time())}\ntick = 64\n{tables}")
+            write_cluster_file(file, in_a_row(base, 2), run=int(time.time()), tick=64)
             nodes = []
-            for node, key in enumerate((CLUSTER, bytes(32))):
-                words = [self.peer, "--cluster", file, "--node", str(node), "--dir",
-                         os.path.join(self.folder.name, f"dir-{node}"), "--stop-at-end"]
-                nodes.append(Process(self.folder.name, f"peer-{node}", words, key))
-                stack.callback(nodes[-1].end)
+            for node, key in enumerate((CLUSTER_KEY, bytes(32))):
+                words = peer_words(self.peer, file, node, os.path.join(self.folder.name, f"dir-{node}"))
+                nodes.append(stack.enter_context(Process(self.folder.name, f"peer-{node}", words, key)))
             lines = [f"gb_peer: node {node}: node {1 - node} sends packets under another key or run\n" for node in range(2)]
             until = time.monotonic() + 10
             while time.monotonic() < until and not all(line in node.text() for node, line in zip(nodes, lines)):
@@ -261,7 +230,7 @@ class Floods:
             name = trial.__name__.replace("_", " ")
             try:
                 trial()
-            except (Failed, FoqradeshError, OSError, queue.Empty) as error:
+            except (Wrong, FoqradeshError, OSError, queue.Empty) as error:
                 failed += 1
                 print(f"FAILED {name}: {error}", flush=True)
             else:

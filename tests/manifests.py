@@ -16,7 +16,10 @@ import textwrap
 from typing import Sequence
 
 TOP = os.path.dirname(os.path.dirname(os.path.abspath(__file__)))
-KEYS = "11" * 32 + "\n" + "22" * 32 + "\n"
+sys.path.insert(0, TOP)
+
+from lab.serving import NotServing, Serving, peer_words  # noqa: E402
+
 NODES, RUN = 3, 4
 
 
@@ -33,7 +36,7 @@ def kubernetes() -> str:
 
 
 def nomad() -> str:
-    """Return the cluster file of the job, with the machines that stand in it."""
+    """Return the cluster file of the job, with the machines that it names."""
     with open(os.path.join(TOP, "examples", "nomad", "foqradesh.hcl"), encoding="ascii") as file:
         text = file.read()
     template = text.split('"local/cluster.toml"')[1].split("<<EOF\n")[1].split("EOF\n")[0]
@@ -47,7 +50,7 @@ def nomad() -> str:
 
 
 def moved(file: str, port: int) -> str:
-    """Return a cluster file with ports of this machine in the place of each address."""
+    """Return a cluster file with ports of this machine instead of each address."""
     for word, first in (("packets", port), ("sessions", port + 64)):
         found = re.findall(rf'^{word} = "(.*)"$', file, re.MULTILINE)
         if len(found) != NODES or len(set(found)) != NODES:
@@ -63,20 +66,15 @@ def serves(peer: str, file: str) -> None:
         path = os.path.join(folder, "cluster.toml")
         with open(path, "w", encoding="ascii") as written:
             written.write(file)
-        words = [peer, "--cluster", path, "--node", "0", "--dir", folder, "--stop-at-end"]
-        with subprocess.Popen(words, stdin=subprocess.PIPE, stdout=subprocess.PIPE, text=True) as process:
-            assert process.stdin is not None and process.stdout is not None
-            try:
-                process.stdin.write(KEYS)
-                process.stdin.flush()
-                line = process.stdout.readline()
-                if line != f"serving node 0 of {NODES} in run {RUN}\n":
-                    raise SystemExit(f"gb_peer printed {line!r} and does not serve this file:\n{file}")
-                process.stdin.close()
-                if process.wait(60) != 0:
-                    raise SystemExit(f"gb_peer ended with status {process.returncode}")
-            finally:
-                process.kill()
+        try:
+            with Serving(peer_words(peer, path, 0, folder)) as node:
+                line, status = node.line, node.end(60)
+        except NotServing as fault:
+            line = fault.line
+        if line != f"serving node 0 of {NODES} in run {RUN}\n":
+            raise SystemExit(f"gb_peer printed {line!r} and does not serve this file:\n{file}")
+        if status != 0:
+            raise SystemExit(f"gb_peer ended with status {status}")
 
 
 def main(words: Sequence[str]) -> int:

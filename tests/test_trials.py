@@ -26,7 +26,7 @@ PYTHON = "{python}"
 
 
 def free_row() -> Ports:
-    """Return ports for three trials, of those that no other test here has taken."""
+    """Return ports for three trials that no other test here has taken."""
     first = 20_480 + os.getpid() % 8 * 1_024
     return Ports(first, first + 3 * trials.PORTS - 1)
 
@@ -37,7 +37,7 @@ def script(name: str, text: str, **words: object) -> Trial:
 
 
 class RunnerTests(unittest.TestCase):
-    """How trials end, and what is printed of them."""
+    """How trials end, and what is printed about them."""
 
     def run_trials(self, *those: Trial, jobs: int = 4) -> Tuple[int, List[str]]:
         """Run trials, and return the status and the lines."""
@@ -169,6 +169,9 @@ class RunnerTests(unittest.TestCase):
 
 class TableTests(unittest.TestCase):
     """The trials of the repository."""
+
+    def test_clients(self) -> None:
+        self.assertLessEqual(set(trials.CLIENTS), {trial.name for trial in TRIALS})
 
     def test_rows(self) -> None:
         names = [trial.name for trial in TRIALS]

@@ -4,8 +4,9 @@
     tests/trials.py [--built | --programs DIR] [--only NAME..] [--list] [--jobs N] [--ports FIRST-LAST] [--keep DIR]
 
 The programs are those of bin/, where ./install puts them; with `--programs` those of another folder, and with `--built` those that `rt ci`
-leaves in crates/NAME/out/NAME. `--only` runs the trials of these names, and `--list` prints all names with what each trial tries. As many
-run side by side as there are processors, or N, and the longest begin first. Those that measure times run last, one by one.
+leaves in crates/NAME/out/NAME. `--only` runs the trials of these names; `clients` stands for all those of the clients and of the door before
+them. `--list` prints all names with what each trial tries. As many run side by side as there are processors, or N, and the longest begin
+first. Those that measure times run last, one by one.
 
 Each trial has a folder and ports of its own, no standard input and a time limit. When it ends, what it started must have ended too. Its
 output is kept in a folder of `--keep`, or of a new temporary folder, and is printed whole where the trial fails. Each trial is one line:
@@ -41,6 +42,11 @@ import time
 from typing import Callable, Dict, Iterator, List, Optional, Sequence, Tuple
 
 TOP = os.path.dirname(os.path.dirname(os.path.abspath(__file__)))
+sys.path.insert(0, TOP)
+
+from lab.ports import is_free  # noqa: E402
+from lab.steps import end_by_signals  # noqa: E402
+
 PROGRAMS = ("gb_serve", "gb_peer", "gb_ctl", "gb_web", "gb_sim", "gb_audit")
 
 PORTS = 256
@@ -151,30 +157,30 @@ TRIALS = (
     Trial("client", "gb_serve and the Python package: a chat of three members",
           ("{python}", "{top}/examples/client.py", "walk", "{port}", "{gb_serve}"), programs=["gb_serve"], seconds=3, limit=120),
     Trial("peers", "gb_peer and gb_ctl behind a relay: a node dies, one is cut off, a run follows another",
-          ("{top}/examples/peers.sh", "{port}", "8", "whole"), programs=["gb_peer", "gb_ctl"], seconds=90, limit=500, notes="is left out"),
+          ("{top}/tests/peers.sh", "{port}", "8", "whole"), programs=["gb_peer", "gb_ctl"], seconds=90, limit=500, notes="is left out"),
     Trial("peers-lossy", "the same where the relay loses, repeats and reorders",
-          ("{top}/examples/peers.sh", "{port}", "8", "lossy"), programs=["gb_peer", "gb_ctl"], seconds=90, limit=500),
+          ("{top}/tests/peers.sh", "{port}", "8", "lossy"), programs=["gb_peer", "gb_ctl"], seconds=90, limit=500),
     Trial("records", "gb_peer with --record, one killed, audited by gb_audit, and records that were changed",
-          ("{top}/examples/records.sh", "{port}"), programs=["gb_peer", "gb_ctl", "gb_audit"], seconds=90, limit=500),
+          ("{top}/tests/records.sh", "{port}"), programs=["gb_peer", "gb_ctl", "gb_audit"], seconds=90, limit=500),
     Trial("resume", "nodes of gb_peer and gb_serve that are killed and go on from their records, and records from which no node goes on",
           ("{python}", "{top}/tests/resume.py", "--peer", "{gb_peer}", "--serve", "{gb_serve}", "--ctl", "{gb_ctl}", "--audit", "{gb_audit}", "--base-port", "{port}"),
           programs=["gb_peer", "gb_serve", "gb_ctl", "gb_audit"], seconds=60, limit=500),
     Trial("schedules", "the schedules of examples/ by gb_sim, their answers, and each of its statuses",
-          ("{top}/examples/check.sh", "{gb_sim}"), programs=["gb_sim"], seconds=10),
+          ("{top}/tests/check.sh", "{gb_sim}"), programs=["gb_sim"], seconds=10),
     Trial("rooms", "300 random schedules of rooms, by gb_sim and by a slow reference",
-          ("{python}", "{top}/bench/rooms.py"), programs=["gb_sim"], seconds=40),
+          ("{python}", "{top}/tests/rooms.py"), programs=["gb_sim"], seconds=40),
     Trial("delivery", "the laws of delivery in 200 random runs, by gb_sim and by a slow reference",
-          ("{python}", "{top}/bench/delivery.py"), programs=["gb_sim"], seconds=40),
-    Trial("vectors", "the packets of docs/FORMATS.md, written anew", ("{python}", "{top}/bench/vectors.py", "--check"), seconds=1, limit=60),
-    Trial("vectors-read", "the same packets, read by gb_sim", ("{python}", "{top}/bench/vectors.py", "--ask", "{gb_sim}"),
+          ("{python}", "{top}/tests/delivery.py"), programs=["gb_sim"], seconds=40),
+    Trial("vectors", "the packets of docs/FORMATS.md, written anew", ("{python}", "{top}/tests/vectors.py", "--check"), seconds=1, limit=60),
+    Trial("vectors-read", "the same packets, read by gb_sim", ("{python}", "{top}/tests/vectors.py", "--ask", "{gb_sim}"),
           programs=["gb_sim"], seconds=1, limit=60),
     Trial("manifests", "the cluster files that examples/kubernetes and examples/nomad write, read by gb_peer",
           ("{python}", "{top}/tests/manifests.py", "{gb_peer}", "{port}"), programs=["gb_peer"], seconds=2, limit=120),
-    Trial("misuse", "a misuse that must not compile", ("{top}/examples/misuse.sh",), needs=[command("rt")], seconds=60, limit=600),
-    Trial("relay", "the relay of peers.sh alone", ("{python}", "{top}/examples/test_relay.py", "-v"), seconds=15, limit=120),
+    Trial("misuse", "a misuse that must not compile", ("{top}/tests/misuse.sh",), needs=[command("rt")], seconds=60, limit=600),
+    Trial("relay", "the relay of peers.sh alone", ("{python}", "{top}/tests/test_relay.py", "-v"), seconds=15, limit=120),
     Trial("doors", "gb_web before gb_serve, beside clients that are slow, silent or wrong",
-          ("{python}", "{top}/bench/doors.py", "--port", "{port}"), programs=["gb_serve", "gb_web"], seconds=10),
-    Trial("page", "the chat page in headless Chromium", ("{python}", "{top}/examples/chat/test_chat.py", "--port", "{port}"),
+          ("{python}", "{top}/tests/doors.py", "--port", "{port}"), programs=["gb_serve", "gb_web"], seconds=10),
+    Trial("page", "the chat page in headless Chromium", ("{python}", "{top}/tests/test_chat.py", "--port", "{port}"),
           programs=["gb_serve", "gb_web"], needs=[has_chromium], seconds=30, variables={"CHROMIUM": chromium() or "chromium"}),
     Trial("attacks", "gb_serve and gb_peer attacked by clients and machines without a token: what it costs others",
           ("{python}", "{top}/tests/attacks.py", "--serve", "{gb_serve}", "--peer", "{gb_peer}", "--base-port", "{port}"), programs=["gb_serve", "gb_peer"],
@@ -190,17 +196,22 @@ TRIALS = (
           ("{python}", "{top}/examples/replicated_map.py", "{port}", "{gb_peer}"), programs=["gb_peer"], seconds=20, limit=200),
     Trial("javascript", "the tests of the JavaScript client, against gb_serve and gb_web",
           ("npm", "--offline", "--cache", "{room}/cache", "test", "--prefix", "{top}/clients/js"), programs=["gb_serve", "gb_web"],
-          needs=[command("npm"), has_node], seconds=10, variables=SERVED, bad="# SKIP"),
+          needs=[command("npm"), has_node], seconds=20, variables=SERVED, bad="# SKIP"),
     Trial("javascript-types", "the types of the JavaScript client, by tsc", ("tsc", "-p", "{top}/clients/js"), needs=[command("tsc")],
           seconds=10),
-    Trial("readme", "the Python of README.md, against gb_serve", ("{python}", "{top}/tools/readme.py", "{gb_serve}", "{port}"),
+    Trial("readme", "the Python of README.md, against gb_serve", ("{python}", "{top}/tests/readme.py", "{gb_serve}", "{port}"),
           programs=["gb_serve"], seconds=3, limit=120),
     Trial("tutorial", "docs/TUTORIAL.md: each of its commands, and what it prints", ("{python}", "{top}/tests/tutorial.py", "{port}"),
           programs=["gb_peer", "gb_ctl", "gb_audit", "gb_sim"], seconds=25),
     Trial("package", "the Python package installed by pip in an environment of its own, without an index", ("sh", "-ec", INSTALLED),
           needs=[has_environments], seconds=20),
     Trial("trials", "this runner", ("{python}", "{top}/tests/test_trials.py", "-v"), seconds=10, limit=120),
+    Trial("lab", "what the scripts share, and the list of measures", ("{python}", "{top}/tests/test_lab.py", "-v"), seconds=3, limit=120),
 )
+
+CLIENTS = ("python", "python-served", "python-rooms", "python-asyncio", "python-types", "package", "client", "notifications", "replicated-map",
+           "doors", "page")
+"""The trials that `--only clients` runs."""
 
 
 class Ports:
@@ -227,19 +238,6 @@ class Ports:
                     guard.close()
             time.sleep(1)
         raise RuntimeError(f"no {PORTS} ports in a row are free: --ports names others")
-
-
-def is_free(port: int) -> bool:
-    """Return True if a port can be bound, for packets and for connections."""
-    for kind in (socket.SOCK_DGRAM, socket.SOCK_STREAM):
-        with socket.socket(socket.AF_INET, kind) as probe:
-            if kind == socket.SOCK_STREAM:
-                probe.setsockopt(socket.SOL_SOCKET, socket.SO_REUSEADDR, 1)
-            try:
-                probe.bind(("127.0.0.1", port))
-            except OSError:
-                return False
-    return True
 
 
 def stat_of(process: int) -> Tuple[int, str]:
@@ -485,11 +483,6 @@ def paths_of(is_built: bool, folder: Optional[str]) -> Dict[str, str]:
     return {name: os.path.join(os.path.abspath(folder or os.path.join(TOP, "bin")), name) for name in PROGRAMS}
 
 
-def end_by_signal(number: int, _: object) -> None:
-    """End as by an error, so that all processes end too."""
-    raise SystemExit(128 + number)
-
-
 def read_ports(word: str) -> Ports:
     """Return the ports that a word FIRST-LAST names."""
     first, _, last = word.partition("-")
@@ -498,14 +491,19 @@ def read_ports(word: str) -> Ports:
     return Ports(int(first), int(last))
 
 
+def names_of(trials: Sequence[Trial]) -> List[str]:
+    """Return the names of trials."""
+    return [trial.name for trial in trials]
+
+
 def read_words(trials: Sequence[Trial]) -> argparse.Namespace:
     """Return what the command line says."""
-    names = [trial.name for trial in trials]
+    names = names_of(trials)
     parser = argparse.ArgumentParser(description=__doc__, formatter_class=argparse.RawDescriptionHelpFormatter)
     where = parser.add_mutually_exclusive_group()
     where.add_argument("--programs", metavar="DIR", help="the folder of the programs")
     where.add_argument("--built", action="store_true", help="the programs that `rt ci` built")
-    parser.add_argument("--only", nargs="+", metavar="NAME", choices=names, help="the trials to run")
+    parser.add_argument("--only", nargs="+", metavar="NAME", choices=[*names, "clients"], help="the trials to run")
     parser.add_argument("--list", action="store_true", help="print the trials")
     parser.add_argument("--jobs", type=int, default=len(os.sched_getaffinity(0)), metavar="N", help="how many trials run side by side")
     parser.add_argument("--ports", type=read_ports, default=Ports(12_000, 19_999), metavar="FIRST-LAST", help="12000-19999 if not given")
@@ -515,8 +513,7 @@ def read_words(trials: Sequence[Trial]) -> argparse.Namespace:
 
 def main(trials: Sequence[Trial] = TRIALS) -> int:
     """Return the status."""
-    for number in (signal.SIGTERM, signal.SIGHUP):
-        signal.signal(number, end_by_signal)
+    end_by_signals()
     if sys.argv[1:2] == ["--within"]:
         return within(float(sys.argv[2]), sys.argv[3:])
     words = read_words(trials)
@@ -529,7 +526,8 @@ def main(trials: Sequence[Trial] = TRIALS) -> int:
     os.makedirs(keep, exist_ok=True)
     print(f"outputs are kept in {keep}", flush=True)
     runner = Runner(paths_of(words.built, words.programs), words.ports, keep)
-    runner.run_all([trial for trial in trials if not words.only or trial.name in words.only], max(1, words.jobs))
+    only = {name for word in words.only or names_of(trials) for name in (CLIENTS if word == "clients" else [word])}
+    runner.run_all([trial for trial in trials if trial.name in only], max(1, words.jobs))
     return runner.summary()
 
 

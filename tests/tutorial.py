@@ -1,15 +1,15 @@
 #!/usr/bin/env python3
-"""Runs the commands of docs/TUTORIAL.md, and compares what they print with the lines that the page shows behind each.
+"""Runs the commands of docs/TUTORIAL.md, and compares their output with the lines that the page shows behind each.
 
     tests/tutorial.py [PORT]
 
-PORT, 42000 if not given, stands in place of 42000, and those behind it in place of 42001 and so on. GB_PEER, GB_CTL, GB_AUDIT and GB_SIM
-name the programs if not those of bin/.
+PORT, 42000 if not given, replaces 42000, and the ports behind it replace 42001 and so on. GB_PEER, GB_CTL, GB_AUDIT and GB_SIM name the
+programs if not those of bin/.
 
 A command is a line of code that begins with `$ `, and the lines behind it that begin with `> `. One bash runs them all, in a temporary
-folder. Each ends with status 0, or 1 where the last line that it prints says that something was refused. Counts of events differ from run
-to run: any will do. A `fetch` is asked again until it prints what the page shows. Status 1: a command printed something else, or did not
-end. All that the commands started ends with the script. It needs Python 3.9, bash and nothing else.
+folder. Each ends with status 0, or 1 if the last line that it prints says that something was refused. Counts of events differ from run to
+run: any will do. A `fetch` is made again until it prints the lines of the page. Status 1: a command printed something else, or did not end.
+All that the commands started ends with the script. It needs Python 3.9, bash and nothing else.
 """
 import os
 import re
@@ -22,6 +22,9 @@ import threading
 import time
 
 TOP = os.path.dirname(os.path.dirname(os.path.abspath(__file__)))
+sys.path.insert(0, TOP)
+from lab.programs import program  # noqa: E402
+
 PAGE = os.path.join(TOP, "docs", "TUTORIAL.md")
 PROGRAMS = ("gb_peer", "gb_ctl", "gb_audit", "gb_sim")
 PORT = 42000
@@ -32,11 +35,10 @@ REFUSED = ("refused ", "node 2 has begun")
 
 
 def put_programs(folder):
-    """Put the programs into bin/ of a folder, where the page takes them from."""
+    """Put the programs into bin/ of a folder, as the page expects them."""
     os.mkdir(os.path.join(folder, "bin"))
     for name in PROGRAMS:
-        path = os.environ.get(name.upper()) or os.path.join(TOP, "bin", name)
-        os.symlink(os.path.abspath(path), os.path.join(folder, "bin", name))
+        os.symlink(program(name), os.path.join(folder, "bin", name))
 
 
 def commands(text):
@@ -53,7 +55,7 @@ def commands(text):
 
 
 def pattern(lines):
-    """Return the pattern of what a command prints."""
+    """Return the pattern of a command's output."""
     text = re.escape("".join(line + "\n" for line in lines))
     return re.compile(re.sub(r"(entries|torn|merged)\\ \d+", r"\1\\ \\d+", text))
 
@@ -65,7 +67,7 @@ class Shell:
         self.process = subprocess.Popen(["bash"], cwd=folder, stdin=subprocess.PIPE, stdout=subprocess.PIPE, text=True, start_new_session=True)
 
     def run(self, command):
-        """Return what a command prints on standard output, and its status."""
+        """Return a command's standard output, and its status."""
         late = threading.Timer(LIMIT, self.kill)
         late.start()
         self.process.stdin.write(f"eval {shlex.quote(command)} </dev/null\necho {shlex.quote(MARK)} $?\n")

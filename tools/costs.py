@@ -4,9 +4,9 @@
     tools/costs.py            compares each list; prints each that is not as made, and ends with status 1 if there is one
     tools/costs.py --write    writes them
 
-A list stands between the lines `<!-- figures: NAME -->` and `<!-- end of figures -->`. NAME is a section of bench/costs.txt, and each
-section has one list. A figure is a line: what was measured, what came out, and, where it was measured, the date, the commit and how,
-parted by tabs."""
+A list is between the lines `<!-- figures: NAME -->` and `<!-- end of figures -->`. NAME is a section of bench/costs.txt, and each section
+has one list. A figure is a line: what was measured, the result, and, if there was a measurement, its date, its commit and its command,
+separated by tabs."""
 import os
 import re
 import sys
@@ -27,7 +27,7 @@ def read(path):
 
 
 def sections():
-    """Returns the figures of each section: what, measured, date, commit and command."""
+    """Returns the figures of each section: what was measured, the result, date, commit and command."""
     found = {}
     for number, line in enumerate(read(FIGURES).split("\n"), 1):
         if line.startswith("[") and line.endswith("]"):
@@ -41,15 +41,15 @@ def sections():
 
 
 def source(date, commit, command):
-    """Returns the words that say where figures come from."""
+    """Returns the words for the source of figures."""
     if command.startswith("`"):
         command = "by " + command
     return ", ".join(part for part in (command, date, commit and "commit " + commit) if part)
 
 
 def groups(rows):
-    """Yields the figures that follow one another with one source: the source and the figures. A command that says no more than that of
-    the figure before is the same."""
+    """Yields the figures that follow one another with the same source: the source and the figures. A command that is only the part before a
+    comma of the command before counts as the same."""
     known, group = None, []
     for row in rows:
         date, commit, command = row[2:]
@@ -62,7 +62,7 @@ def groups(rows):
 
 
 def made(rows):
-    """Returns the text of a list. The source of several figures stands before them, and that of a single one behind it."""
+    """Returns the text of a list. The source of several figures is before them, and that of a single one behind it."""
     lines, is_first = [], True
     for known, group in groups(rows):
         head = source(*known)

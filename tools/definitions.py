@@ -6,7 +6,7 @@
     tools/definitions.py --lacking  prints the definitions that have no comment line of their own
 
 A definition stands on the page if the contract of a public function cites it, or if a reader of the theorem has to believe it
-(bench/believed.py). Its sentence is the comment above it. docs/definitions.txt has the introduction of the page, notes on crates, and
+(tools/believed.py). Its sentence is the comment above it. docs/definitions.txt has the introduction of the page, notes on crates, and
 the sentences of those that have no comment: the lines `CRATE File NAME: sentence`."""
 import os
 import re
@@ -129,7 +129,7 @@ def note_citations(specs, crates):
 
 def note_believed(specs):
     """Notes which definitions a reader of the theorem has to believe."""
-    told = subprocess.run([sys.executable, os.path.join(TOP, "bench", "believed.py"), "--list"], capture_output=True, text=True, check=True).stdout
+    told = subprocess.run([sys.executable, os.path.join(TOP, "tools", "believed.py"), "--list"], capture_output=True, text=True, check=True).stdout
     for crate, file, names in re.findall(r"^crates/(gb_\w+)/specs/(\S+)\.antt: \d+ lines: (.*)$", told, re.M):
         for name in names.split(", "):
             found = specs.named((crate, file.replace("/", "."), name))

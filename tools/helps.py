@@ -4,9 +4,9 @@
     tools/helps.py                 prints each difference, and ends with status 1 if there is one
     tools/helps.py --bin FOLDER    compares the sources with what the programs of this folder print for `--help` as well
 
-An option of a program has a name, names of its values, its least and its most number, and a number that counts if it is not given. A
-manual page has each option under OPTIONS with the same names of values, and these numbers in its text; each subcommand of gb_ctl stands
-under SUBCOMMANDS. A table of options has a row for each option, with the names of its values and these numbers."""
+An option of a program has a name, names of its values, its least and its greatest number, and its default number. A manual page has each
+option under OPTIONS with the same names of values, and these numbers in its text; each subcommand of gb_ctl is under SUBCOMMANDS. A table
+of options has a row for each option, with the names of its values and these numbers."""
 import os
 import re
 import subprocess
@@ -26,9 +26,9 @@ SOURCES = {
 SHARED = ("gb_serve_words/src/options.rt", "gb_serve_words/src/limits.rt")
 # The page with the table of a program's options.
 TABLES = {"gb_serve": "docs/OPERATING.md", "gb_web": "docs/OPERATING.md"}
-# What clap takes as any byte, and the program then reads as one of these.
+# Values that clap takes as any byte, and the program then reads as one of these.
 BYTES = {"version": {1, 2, 3}}
-# What each program has without a declaration.
+# The options of each program without a declaration.
 ALWAYS = {"--help", "--version", "-h", "-V"}
 
 
@@ -63,7 +63,7 @@ def constants(program):
 
 
 def number(words, known):
-    """Returns the number that an expression of a source names, such as `1_000`, `NODES as u32` or `NODES as i64 - 1`."""
+    """Returns the number that an expression of a source names, for instance `1_000`, `NODES as u32` or `NODES as i64 - 1`."""
     words = re.sub(r" as [iu]\d+", "", words.strip()).replace("_u", "")
     if re.fullmatch(r"[\d_]+", words):
         return int(words.replace("_", ""))
@@ -74,7 +74,7 @@ def number(words, known):
 
 
 def numbers_of(least, most, help_text, known):
-    """Returns what a reader has to find: the ends of the range, and the number that the help calls that of an option not given."""
+    """Returns the numbers that a reader has to find: the ends of the range, and the number that the help names as the default."""
     found = [number(words, known) for words in (least, most) if words]
     if None in found:
         sys.exit(f"tools/helps.py cannot read the range {least} to {most}")
@@ -96,7 +96,7 @@ def argument(text, known):
 
 
 def declared(path, known):
-    """Yields the options that a source declares by calls, in their order, those of shared functions too."""
+    """Yields the options that a source declares by calls, in their order, with those of shared functions."""
     shared = {}
     for text in map(source, SHARED):
         for found in re.finditer(r"pub fn (\w+_arg)<'a>\(alloc: Global\).*?\n}\n", text, re.S):
@@ -141,7 +141,7 @@ def of_client(known):
 
 
 def usual_numbers(path, known):
-    """Yields the options of a source that have a number if they are not given, with that number."""
+    """Yields the options of a source that have a default number, with that number."""
     text = source(path)
     for variable, name in re.findall(r'let (\w+) = matches\.get_one::<\w+>\("([a-z-]+)"\);', text):
         usual = re.search(rf"\b{variable}\.unwrap_or\(([A-Z_0-9]+)\)", text)
@@ -162,7 +162,7 @@ def options_of(program, known):
 
 
 def of_helps(program, options, known):
-    """Yields the numbers of options not given that a help leaves out."""
+    """Yields the default numbers that a help leaves out."""
     helps = {option.name: option.help for option in options}
     for name, usual in usual_numbers(SOURCES[program], known):
         if name in helps and not has_number(helps[name], usual):
@@ -192,7 +192,7 @@ def entries(text):
 
 
 def differences(where, options, rows, always):
-    """Yields how rows, each a head and its text, differ from options."""
+    """Yields the differences between rows, each a head and its text, and options."""
     heads = dict(rows)
     for option in options:
         if option.spelt() not in heads:
@@ -255,7 +255,7 @@ def table_rows(page, head):
 def of_table(program, options):
     page = TABLES[program]
     head = {"gb_serve": "| Option | What it sets |", "gb_web": "| Option | What it does |"}[program]
-    # A row may name several options that go together, as `--dir DIR --record`.
+    # A row may name several options that are used together, for instance `--dir DIR --record`.
     rows = []
     for first, others in table_rows(page, head):
         rows += [(each.strip(), others) for each in re.split(r" (?=--)", first.strip("`"))]

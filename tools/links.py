@@ -1,7 +1,7 @@
 #!/usr/bin/env python3
-"""Checks what pages say of other pages: each NAME.md that a page names is there, from the top of the repository or beside the page; behind
+"""Checks the references of pages: each NAME.md that a page names is there, from the top of the repository or beside the page; behind
 `NAME.md, "Part"` that page has a heading, or a paragraph that begins with these words in bold letters; so has the page itself behind
-`"Part", above` and `"Part", below`, before or behind that place; and each picture is there. Status 1 if something is not."""
+`"Part", above` and `"Part", below`, before or behind that position; and each picture is there. Status 1 if something is not."""
 import os
 import re
 import sys
@@ -14,7 +14,7 @@ from pages import LEFT_OUT, pages  # noqa: E402
 PAGE = re.compile(r'(?<![\w/.-])((?:[\w.-]+/)*[\w.-]+\.md)\b(?:, "([^"]+)")?')
 HERE = re.compile(r'"([^"`]+)"(?: and "[^"]+")?, (above|below)\b')
 PICTURE = re.compile(r"!\[[^\]]+\]\(([^)]+)\)")
-# Names of pages that stand for others, and pages of other folders that texts name.
+# Names of pages that mean others, and pages of other folders that texts name.
 EXAMPLES = ("NAME.md",)
 
 
@@ -24,7 +24,7 @@ def read(path):
 
 
 def parts(text):
-    """Returns the parts of a page, each with its place: its headings, and what stands in bold letters where a paragraph or an item begins."""
+    """Returns the parts of a page, each with its position: its headings, and the bold words at the beginning of a paragraph or an item."""
     found = []
     for match in re.finditer(r"^#+ (.+)$|^ *(?:[-*] |\d+\. |\| )?\*\*([^*]+?)[.:]?\*\*", text, re.M):
         found.append((plain(match.group(1) or match.group(2)), match.start()))

@@ -1,12 +1,12 @@
 #!/usr/bin/env python3
-"""Checks that no line of a page has more than 132 characters, but for lines of one word, and that README.md has at most 80 lines. Pages
-are the files NAME.md, but not those in clients/ and in crates/*/out.
+"""Checks that no line of a page has more than 132 characters, except lines of one word, and that README.md has at most 80 lines. Pages are
+the files NAME.md, except those in clients/ and in crates/*/out.
 
     tools/pages.py            prints each line that is too long, and ends with status 1 if there is one
     tools/pages.py --write    lays out anew each paragraph and each item of a list that has such a line, and writes each table
-                              that has such a row as a list; what is left is printed
+                              that has such a row as a list; lines that remain too long are printed
 
-Code, headings and pictures stay as they are. A span of code is not broken where it has at most 60 characters."""
+Code, headings and pictures are not changed. A span of code is not broken if it has at most 60 characters."""
 import os
 import re
 import sys
@@ -16,12 +16,12 @@ LIMIT = 132
 WIDTH = 128
 FIRST = 80
 SPAN = 60
-# Heads of columns that say where a figure comes from.
+# Heads of columns that name the source of a figure.
 SOURCE = ("Date", "Commit", "Command")
 # Folders whose pages are not looked at.
 LEFT_OUT = ("out", ".git", "node_modules", "__pycache__", "clients")
 ITEM = re.compile(r"^( *)([-*]|\d+\.)( +)")
-# What begins a list, a heading, a quotation or a table where it begins a line.
+# The beginning of a line that begins a list, a heading, a quotation or a table.
 BEGINS = re.compile(r"^([-*+>|]|#+|\d+[.)]|=+|-+)$|^[|>#]")
 
 
@@ -33,7 +33,7 @@ def pages(left_out=LEFT_OUT):
 
 
 def words_of(text):
-    """Returns the words of a paragraph, each with what may not be parted from it."""
+    """Returns the words of a paragraph, each with the text that must not be separated from it."""
     spans = re.sub(r"`[^`]+`", lambda it: it.group().replace(" ", "\0") if len(it.group()) <= SPAN else it.group(), text)
     words = []
     for word in spans.split():
@@ -45,7 +45,7 @@ def words_of(text):
 
 
 def wrapped(text, first, rest):
-    """Returns the lines of a paragraph; `first` stands before its first line and `rest` before the others."""
+    """Returns the lines of a paragraph; `first` is before its first line and `rest` before the others."""
     lines, line = [], first
     begun = False
     for word in words_of(text):
@@ -58,7 +58,7 @@ def wrapped(text, first, rest):
 
 
 def cells_of(row):
-    """Returns the cells of a table's row; a bar in a span of code, or behind a backslash, parts none."""
+    """Returns the cells of a table's row; a bar in a span of code, or behind a backslash, separates none."""
     row = re.sub(r"`[^`]*`", lambda it: it.group().replace("|", "\0"), row.strip().strip("|").replace("\\|", "\0"))
     return [cell.strip().replace("\0", "|") for cell in row.split("|")]
 
@@ -72,8 +72,8 @@ def sentence(text):
 
 
 def as_list(table):
-    """Returns a table as a list: of each row the first cell and the second one, and each further cell behind its column's name. Where a
-    figure comes from stands in brackets."""
+    """Returns a table as a list: of each row the first cell and the second one, and each further cell behind its column's name. The source
+    of a figure is in brackets."""
     heads, lines = cells_of(table[0]), []
     if len(heads) == 2:
         lines += [f"*{heads[0]}: {heads[1][:1].lower() + heads[1][1:]}.*", ""]

@@ -13,7 +13,7 @@ import sys
 
 TOP = os.path.dirname(os.path.dirname(os.path.abspath(__file__)))
 FOLDER = os.path.join(TOP, "docs", "pictures")
-# Names of colours: the line and the text of a light page, and the same of a dark one. `ink` is for what has no colour of its own.
+# Names of colours: the line and the text of a light page, and the same of a dark one. `ink` is for parts that have no colour of their own.
 COLOURS = {
     "ink": ("#24292f", "#e6edf3"),
     "soft": ("#6e7781", "#8b949e"),
@@ -52,12 +52,12 @@ class Picture:
         self.parts.append(f'<rect x="{x}" y="{y}" width="{width}" height="{height}" rx="6" class="l-{colour} f-{colour}" stroke-width="1.5"{dash}/>')
 
     def text(self, x, y, words, colour="ink", anchor="middle", size=14, bold=False, mono=False):
-        """Writes a line of words; y is the line on which they stand."""
+        """Writes a line of words; y is their baseline."""
         marks = f"t-{colour}" + (" b" if bold else "") + (" m" if mono else "")
         self.parts.append(f'<text x="{x}" y="{y}" class="{marks}" text-anchor="{anchor}" font-size="{size}">{html.escape(words)}</text>')
 
     def line(self, x1, y1, x2, y2, colour="ink", arrow=False, dashed=False, width=1.5):
-        """Draws a line, with an arrow at its end if wanted."""
+        """Draws a line, with an arrow at its end if `arrow` is true."""
         dash = ' stroke-dasharray="5 4"' if dashed else ""
         self.parts.append(f'<line x1="{x1}" y1="{y1}" x2="{x2}" y2="{y2}" class="l-{colour}" stroke-width="{width}"{dash}/>')
         if arrow:

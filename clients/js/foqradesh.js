@@ -111,7 +111,7 @@ const REFUSAL_TEXTS = new Map(REFUSALS.map((made) => [`refused ${made.number} ${
 /**
  * A request got no answer that could be read. `isUnknown` is true if it may have been done, and false if it was certainly not sent whole. `said`
  * is the number that a say came with, or null: with it the say may be repeated, and is done once at most. `generation` is the
- * generation in which a `Room` said it.
+ * generation in which a `Room` said it. `node` is the node that a `Room` asked, or for whose messages it waited.
  */
 export class UnansweredError extends FoqradeshError {
   /**
@@ -126,6 +126,8 @@ export class UnansweredError extends FoqradeshError {
     this.said = null;
     /** @type {number | null} */
     this.generation = null;
+    /** @type {number | null} */
+    this.node = null;
   }
 }
 /** There is no connection, or it ended before the reply. */
@@ -221,6 +223,21 @@ function hex(bytes) {
  */
 function unhex(digits) {
   return Uint8Array.from(digits.match(/../g) ?? [], (pair) => parseInt(pair, 16));
+}
+
+/**
+ * Returns bytes behind one another.
+ * @param {...Uint8Array} parts
+ * @returns {Uint8Array}
+ */
+function joined(...parts) {
+  const whole = new Uint8Array(parts.reduce((sum, part) => sum + part.length, 0));
+  let place = 0;
+  for (const part of parts) {
+    whole.set(part, place);
+    place += part.length;
+  }
+  return whole;
 }
 
 /**
@@ -547,9 +564,7 @@ const byTcp = (host, port) => (events) => {
   let isOver = false;
   let held = new Uint8Array();
   const take = (/** @type {Uint8Array} */ piece) => {
-    const whole = new Uint8Array(held.length + piece.length);
-    whole.set(held);
-    whole.set(piece, held.length);
+    const whole = joined(held, piece);
     let place = 0;
     while (whole.length - place >= 4) {
       const length = new DataView(whole.buffer, place, 4).getUint32(0);
@@ -808,6 +823,13 @@ class Numbers {
     if (taken !== null && this.#next.get(address)?.turn === taken.turn) this.forget(address);
   }
 }
+
+/**
+ * Returns the least whole number of milliseconds that is no shorter than these seconds: a wait that is cut down ends before its time, and its caller asks
+ * again for no wait at all. Millionths of a millisecond are the fault of binary fractions, and do not count.
+ * @param {number} seconds
+ */
+const milliseconds = (seconds) => Math.ceil(Number((seconds * 1000).toFixed(6)));
 
 /**
  * @param {number} tenant
@@ -1111,7 +1133,7 @@ export class Session {
       const token = await this.#token("member", tenant, checkGroup(group).group);
       words.push(`${token} ${addressOf(tenant, group)} ${checkNumber(place, U32, "a place")} ${checkNumber(most, U32, "the most entries")}`);
     }
-    words.push(String(Math.floor(seconds * 1000)));
+    words.push(String(milliseconds(seconds)));
     const link = this.#idle.pop() ?? this.#newLink();
     this.#busy.add(link);
     try {
@@ -1201,6 +1223,7 @@ async function abortable(promise, signal) {
 // stands before a payload. A message that begins otherwise was said by a client that knows no rooms: it is counted, and not shown.
 
 const MARKER = Uint8Array.of(0);
+const PAYLOAD = Uint8Array.of(1);
 const LAST_GENERATION = U32;
 const LIVING = 4; // generations that live at a node at most
 const LOOKED_AT = 16; // generations at a node, down from the greatest, that are asked for
@@ -1281,11 +1304,53 @@ class Nodes {
 
   /** @param {number} generation */
   name = (generation) => ({ group: this.number, generation });
-  own = () => this.at(this.node);
+  /** @param {number} generation */
+  text = (generation) => `generation ${generation} of group ${this.number} of tenant ${this.tenant}`;
+
   /** @param {number} node */
-  at = (node) => /** @type {Session} */ (this.sessions.get(node));
+  at(node) {
+    const session = this.sessions.get(node);
+    if (session === undefined) throw new MissingTokenError(`no session of node ${node} was given`);
+    return session;
+  }
+
+  /**
+   * Asks a node. An error without an answer gets its number.
+   * @template T
+   * @param {number} node
+   * @param {(session: Session) => Promise<T>} act
+   * @returns {Promise<T>}
+   */
+  async ask(node, act) {
+    try {
+      return await act(this.at(node));
+    } catch (error) {
+      if (error instanceof UnansweredError) error.node ??= node;
+      throw error;
+    }
+  }
+
+  /**
+   * Returns the node whose member says what this room says in a generation.
+   * @param {number} generation
+   */
+  speaker(generation) {
+    return this.node;
+  }
+
   running = () => this.spec.members.filter((member) => !this.absent.has(member));
   others = () => this.running().filter((member) => member !== this.node && this.sessions.has(member));
+
+  /**
+   * Waits at a node until one of the logs has entries behind its place, at most these seconds.
+   * @param {number} node
+   * @param {{ generation: number, place: number }[]} logs
+   * @param {number} seconds
+   */
+  wait(node, logs, seconds) {
+    const places = logs.map(({ generation, place }) => ({ tenant: this.tenant, group: this.name(generation), place }));
+    return this.ask(node, (it) => it.wait(places, { seconds }));
+  }
 
   /**
    * Returns true if a generation lives at a node, false if it can be made there no more, and null if it may be made still.
@@ -1294,7 +1359,7 @@ class Nodes {
    */
   async look(node, generation) {
     try {
-      await this.at(node).fetch(this.tenant, this.name(generation), 0, 0);
+      await this.ask(node, (it) => it.fetch(this.tenant, this.name(generation), 0, 0));
     } catch (error) {
       if (error instanceof SpentError) return false;
       if (error instanceof NoGroupError) return null;
@@ -1337,8 +1402,23 @@ class Nodes {
   }
 
   /**
+   * Returns the generations above `known` that live here, up to one that was started here. `known` was the greatest here before other nodes were asked which is
+   * the newest: others may have made more of them here meanwhile, and can make none below the one that was started.
+   * @param {number} known
+   * @param {number} started
+   */
+  async between(known, started) {
+    /** @type {number[]} */
+    const living = [];
+    for (let generation = Math.max(known + 1, started - LOOKED_AT); generation < started; generation += 1) {
+      if (await this.look(this.node, generation)) living.push(generation);
+    }
+    return [...living, started];
+  }
+
+  /**
    * Returns the generation to be in, where `known` is the greatest that this node has made. It is the greatest that any node has made; the next one, if something
-   * was said in that and this node has missed it. A node that cannot be asked is passed over.
+   * was said in that and this node has missed it. That is not so where it was made here while the others were asked. A node that cannot be asked is passed over.
    * @param {number} known
    */
   async newest(known) {
@@ -1352,7 +1432,7 @@ class Nodes {
         if (!isOne(error, UnansweredError, MissingTokenError, DeniedError)) throw error;
       }
     }
-    return isMissed ? newest + 1 : newest;
+    return isMissed && !(await this.look(this.node, newest)) ? newest + 1 : newest;
   }
 
   /**
@@ -1362,7 +1442,7 @@ class Nodes {
    */
   async #isUsed(node, generation) {
     try {
-      await this.at(node).fetch(this.tenant, this.name(generation), 1, 0);
+      await this.ask(node, (it) => it.fetch(this.tenant, this.name(generation), 1, 0));
     } catch (error) {
       if (isOne(error, BadPlaceError, NoGroupError)) return false;
       if (!(error instanceof SpentError)) throw error;
@@ -1380,7 +1460,10 @@ class Nodes {
     if (generation > LAST_GENERATION) throw new SpentError(`refused 3 Spent: group ${this.number} of tenant ${this.tenant} is used up`);
     if (this.isGuest) return this.#await(generation, end);
     for (const node of this.running()) {
-      await persist(() => this.at(node).make(this.tenant, this.name(generation), this.spec), end).catch((error) => {
+      const make = () => this.ask(node, (it) => it.make(this.tenant, this.name(generation), this.spec));
+      await persist(make, end).catch((error) => {
+        const where = `${this.text(generation)} at node ${node}, where ${LIVING} live that its readers have not done with`;
+        if (error instanceof NoRoomError) throw new NoRoomError(`${error.message}: ${where}`);
         if (!(error instanceof SpentError)) throw error;
       });
     }
@@ -1396,7 +1479,8 @@ class Nodes {
    * @param {number} end
    */
   async #open(node, generation, end) {
-    await persist(() => this.at(node).open(this.tenant, this.name(generation)), end).catch((error) => {
+    const open = () => this.ask(node, (it) => it.open(this.tenant, this.name(generation)));
+    await persist(open, end).catch((error) => {
       if (!isOne(error, WrongPhaseError, SpentError)) throw error;
     });
   }
@@ -1407,30 +1491,41 @@ class Nodes {
    */
   async #await(generation, end) {
     for (const next = tries(); !(await this.look(this.node, generation)); ) {
-      if (now() >= end) throw new NoGroupError(`refused 2 NoGroup: nobody has made generation ${generation} of group ${this.number} yet`);
+      if (now() >= end) throw new NoGroupError(`refused 2 NoGroup: nobody has made ${this.text(generation)} yet`);
       await sleep(next());
     }
   }
 
   /**
-   * Says this member's marker in a generation, if none is known to stand there. A second one does no harm.
+   * Says the marker of the member that speaks in a generation, if none is known to stand there. A second one does no harm.
    * @param {number} generation
    * @param {number} end
    */
   async mark(generation, end) {
     if (this.marked.has(generation)) return;
-    const say = () => persist(() => this.own().say(this.tenant, this.name(generation), MARKER), end);
+    await this.sayLast(this.speaker(generation), generation, MARKER, end);
+    this.noteMarked(generation);
+  }
+
+  /**
+   * Says a message for the member of a node that may be said twice, if it may say one more. What may pass is tried again until the time is over.
+   * @param {number} node
+   * @param {number} generation
+   * @param {Uint8Array} message
+   * @param {number} end
+   */
+  async sayLast(node, generation, message, end) {
+    const say = () => persist(() => this.ask(node, (it) => it.say(this.tenant, this.name(generation), message)), end);
     try {
       await say().catch(async (error) => {
         if (!(error instanceof WrongPhaseError) || this.isGuest) throw error;
-        await this.#open(this.node, generation, end);
+        await this.#open(node, generation, end);
         await say();
       });
     } catch (error) {
       if (!isOne(error, BudgetError, BytesError, SpentError)) throw error;
     }
-    this.own().forgetNumber(this.tenant, this.name(generation));
-    this.noteMarked(generation);
+    this.at(node).forgetNumber(this.tenant, this.name(generation));
   }
 
   /** @param {number} generation */
@@ -1511,6 +1606,15 @@ class Speaker {
   }
 
   end = () => now() + this.patience;
+
+  /**
+   * Returns the node that leads the generation in which is spoken, or null.
+   * @returns {number | null}
+   */
+  leader() {
+    return null;
+  }
+
   /** @param {number} generation */
   isInDoubt = (generation) => this.doubt.generation === generation && now() < this.doubt.until;
 
@@ -1523,10 +1627,11 @@ class Speaker {
     const newest = await this.nodes.newest(greatest);
     if (newest > greatest || living.at(-1) !== greatest) {
       const target = newest > greatest ? newest : greatest + 1;
+      for (const generation of living) await this.close(generation, end); // There may be no room for the next one until these are read.
       await this.nodes.start(target, end);
-      living.push(target);
-    } else if (!(await this.#isStarted(greatest, end, living.length > 1))) living.pop();
-    for (const generation of living.slice(0, -1)) await this.nodes.mark(generation, end);
+      living.push(...(await this.nodes.between(greatest, target)));
+    } else if (!(await this.isStarted(greatest, end, living.length > 1))) living.pop();
+    for (const generation of living.slice(0, -1)) await this.close(generation, end);
     this.speech = new Speech(/** @type {number} */ (living.at(-1)));
   }
 
@@ -1536,7 +1641,7 @@ class Speaker {
    * @param {number} end
    * @param {boolean} isSpare
    */
-  async #isStarted(generation, end, isSpare) {
+  async isStarted(generation, end, isSpare) {
     try {
       await this.nodes.start(generation, isSpare ? now() : end);
     } catch (error) {
@@ -1548,6 +1653,15 @@ class Speaker {
   }
 
   /**
+   * Says nothing more in a generation, behind a marker.
+   * @param {number} generation
+   * @param {number} end
+   */
+  close(generation, end) {
+    return this.nodes.mark(generation, end);
+  }
+
+  /**
    * Speaks behind this generation from now on, in which the member's marker stands.
    * @param {number} generation
    */
@@ -1556,7 +1670,7 @@ class Speaker {
   }
 
   /** @returns {Speech | null} */
-  #current() {
+  current() {
     for (const generation of [...this.nodes.marked].sort((low, high) => low - high)) this.leave(generation);
     return this.speech;
   }
@@ -1565,9 +1679,9 @@ class Speaker {
    * @param {Speech} speech
    * @param {number} end
    */
-  async #goOn(speech, end) {
+  async goOn(speech, end) {
     await this.nodes.start(speech.generation + 1, end);
-    await this.nodes.mark(speech.generation, end);
+    await this.close(speech.generation, end);
     this.leave(speech.generation);
   }
 
@@ -1575,13 +1689,13 @@ class Speaker {
    * Goes on if nothing has to be waited for. Returns false if something has.
    * @param {Speech} speech
    */
-  async #goesOnEarly(speech) {
+  async goesOnEarly(speech) {
     const begun = now();
     if (begun < this.tryAt) return false;
     try {
-      await this.#goOn(speech, begun);
+      await this.goOn(speech, begun);
     } catch (error) {
-      if (!mayPass(error) && !isOne(error, MissingTokenError, NoGroupError)) throw error;
+      if (!mayPass(error) && !(error instanceof MissingTokenError) && !(this.nodes.isGuest && error instanceof NoGroupError)) throw error;
       this.tryAt = now() + Math.max(AGAIN, SLOWER * (now() - begun));
       return false;
     }
@@ -1595,17 +1709,17 @@ class Speaker {
    */
   async say(payload, repeat) {
     const spec = this.nodes.spec;
-    const message = Uint8Array.of(1, ...bytesOf(payload));
+    const message = joined(PAYLOAD, bytesOf(payload));
     if (message.length > LONGEST_PAYLOAD) throw new TooLongError();
     if (message.length + MARKER.length > spec.totalBytes) throw new BytesError(`refused 9 Bytes: no generation has room for ${message.length} bytes and a marker`);
     const end = this.end();
     if (repeat !== undefined && (await this.#isSaidAgain(message, repeat, end))) return repeat;
     const next = tries();
     for (let lost = 0; ; ) {
-      const speech = this.#current();
+      const speech = this.current();
       if (speech === null) await this.join(end);
-      else if (!speech.hasRoom(message.length, spec)) await this.#goOn(speech, end);
-      else if (!(speech.isLate(spec) && (await this.#goesOnEarly(speech)))) {
+      else if (!speech.hasRoom(message.length, spec)) await this.goOn(speech, end);
+      else if (!(speech.isLate(spec) && (await this.goesOnEarly(speech)))) {
         try {
           const number = await this.#sayNext(speech, message, end);
           if (number !== null) return { generation: speech.generation, number };
@@ -1613,7 +1727,7 @@ class Speaker {
           if (isOne(error, SpentError, NoGroupError)) {
             lost += 1;
             if (lost > MOST_LOST) throw error;
-            if (this.#current() === speech) this.speech = null;
+            if (this.current() === speech) this.speech = null;
           } else if (isOne(error, WindowError, OutOfMemoryError) && end > now()) await sleep(Math.min(end - now(), next()));
           else throw error;
         }
@@ -1630,13 +1744,13 @@ class Speaker {
   async #sayNext(speech, message, end) {
     let number;
     try {
-      number = await this.#settled(message, { generation: speech.generation, number: speech.next }, false);
+      number = await this.settled(message, { generation: speech.generation, number: speech.next }, false);
     } catch (error) {
       if (error instanceof BadPlaceError) await this.#learn(speech, end);
       else if (isOne(error, BudgetError, BytesError)) speech.isFull = true;
       else if (error instanceof WrongPhaseError && !speech.wasOpened && !this.nodes.isGuest) {
-        speech.wasOpened = true;
         await this.nodes.start(speech.generation, end);
+        speech.wasOpened = true;
       } else throw error;
       return null;
     }
@@ -1650,12 +1764,12 @@ class Speaker {
    * @param {RoomNumber} named
    * @param {boolean} isRepeated
    */
-  async #settled(message, { generation, number }, isRepeated) {
+  async settled(message, { generation, number }, isRepeated) {
     const nodes = this.nodes;
     let until = -Infinity;
     this.doubt = { generation, until: Infinity };
     try {
-      return await nodes.own().say(nodes.tenant, nodes.name(generation), message, { number, isRepeated });
+      return await nodes.ask(nodes.speaker(generation), (it) => it.say(nodes.tenant, nodes.name(generation), message, { number, isRepeated }));
     } catch (error) {
       if (error instanceof UnansweredError && (isRepeated || error.isUnknown)) {
         error.generation = generation;
@@ -1676,13 +1790,14 @@ class Speaker {
     const nodes = this.nodes;
     for (const number = speech.next; speech.next === number; ) {
       const seconds = Math.min(Math.max(0, end - now()), FOLLOW_WAIT);
-      const { entries } = await nodes.own().wait([{ tenant: nodes.tenant, group: nodes.name(speech.generation), place: speech.place }], { seconds });
+      const { entries } = await nodes.wait(nodes.node, [speech], seconds);
       for (const entry of entries) {
         speech.place += 1;
         if (entry.origin === nodes.node) speech.found(entry);
       }
       if (entries.length === 0 && now() >= end && speech.next === number) {
-        throw new BadPlaceError(`refused 11 BadPlace: another client of the member has said message ${number} of generation ${speech.generation}, and it is not delivered yet`);
+        const what = `message ${number} of ${nodes.text(speech.generation)}, and it is not delivered yet`;
+        throw new BadPlaceError(`refused 11 BadPlace: another client of the member has said ${what}`);
       }
     }
     if (speech.hasMarker) {
@@ -1700,7 +1815,7 @@ class Speaker {
   async #isSaidAgain(message, repeat, end) {
     for (const next = tries(); ; ) {
       try {
-        await this.#settled(message, repeat, true);
+        await this.settled(message, repeat, true);
         break;
       } catch (error) {
         if (isOne(error, BadPlaceError, BudgetError, BytesError, TooLongError, WrongPhaseError)) return false;
@@ -1763,8 +1878,11 @@ class ReadLog {
 
   /** @param {number} node */
   of = (node) => /** @type {Heard} */ (this.heard.get(node));
+
   /** Returns true if some member has gone on, or nothing more can be read here. */
-  isLeft = () => this.isGone || [...this.heard.values()].some((heard) => heard.end !== null);
+  isLeft() {
+    return this.isGone || [...this.heard.values()].some((heard) => heard.end !== null);
+  }
 
   /**
    * Notes an entry that was read. What is to be shown of it is held.
@@ -1773,9 +1891,15 @@ class ReadLog {
    */
   take({ origin, number, payload }, spec) {
     const isBeforeTheEnd = this.of(origin).hear({ origin, number, payload }, spec);
-    if (isBeforeTheEnd && payload[0] === 1) this.held.get(origin)?.push({ origin, generation: this.generation, number, payload: payload.slice(1) });
+    if (isBeforeTheEnd && payload[0] === PAYLOAD[0]) this.held.get(origin)?.push({ origin, generation: this.generation, number, payload: payload.slice(1) });
   }
 }
+
+/**
+ * A generation that was read to its end, and is to be dropped at this member's node, when `needed` entries stand in the log of each other member's node. `have`
+ * are the nodes where they are known to.
+ * @typedef {{ generation: number, needed: number, tryAt: number, next: () => number, have: Set<number> }} Ended
+ */
 
 /** What is read at a member's node. */
 class Reader {
@@ -1797,10 +1921,7 @@ class Reader {
      */
     this.logs = new Map();
     this.last = -1;
-    /**
-     * Generations that were read to their ends, and are to be dropped here.
-     * @type {{ generation: number, needed: number, tryAt: number, next: () => number, have: Set<number> }[]}
-     */
+    /** @type {Ended[]} */
     this.ended = [];
     /** A marker could not be said yet. */
     this.owes = false;
@@ -1809,9 +1930,18 @@ class Reader {
   }
 
   lowestFirst = () => [...this.logs.values()].sort((low, high) => low.generation - high.generation);
+
+  /**
+   * @param {number} generation
+   * @returns {ReadLog}
+   */
+  newLog(generation) {
+    return new ReadLog(generation, this.nodes.spec.members);
+  }
+
   /** @param {number} generation */
   #add(generation) {
-    if (generation > this.last && !this.logs.has(generation)) this.logs.set(generation, new ReadLog(generation, this.nodes.spec.members));
+    if (generation > this.last && !this.logs.has(generation)) this.logs.set(generation, this.newLog(generation));
   }
 
   /**
@@ -1828,11 +1958,10 @@ class Reader {
     else if (!(await this.#extends())) most = Math.min(most, AGAIN);
     const reads = this.lowestFirst().filter((log) => !log.isGone).map((log) => ({ log, place: log.place }));
     if (reads.length === 0) return void (await sleep(Math.min(most, /** @type {number} */ (TRIES.at(-1)))));
-    const places = reads.map(({ log, place }) => ({ tenant: nodes.tenant, group: nodes.name(log.generation), place }));
     try {
-      const found = await abortable(nodes.own().wait(places, { seconds: most }), signal);
+      const found = await abortable(nodes.wait(nodes.node, reads.map(({ log }) => log), most), signal);
       if (found !== undefined && reads[found.index].log.place === reads[found.index].place) {
-        this.#take(reads[found.index].log, found.entries);
+        this.take(reads[found.index].log, found.entries);
         this.hasTaken = found.entries.length > 0;
       }
     } catch (error) {
@@ -1844,10 +1973,11 @@ class Reader {
   }
 
   /**
+   * Notes entries of a log, and shows what may be shown.
    * @param {ReadLog} log
    * @param {Entry[]} entries
    */
-  #take(log, entries) {
+  take(log, entries) {
     for (const entry of entries) {
       log.place += 1;
       if (!log.heard.has(entry.origin)) continue;
@@ -1872,7 +2002,7 @@ class Reader {
         if (mayPass(error) || (nodes.isGuest && error instanceof NoGroupError)) return;
         throw error;
       }
-      further.push(target);
+      further.push(...(await nodes.between(Math.max(greatest, this.last), target)));
     }
     further.forEach((generation) => this.#add(generation));
   }
@@ -1892,7 +2022,8 @@ class Reader {
   async #passOver() {
     for (const log of this.lowestFirst()) {
       const isLiving = await this.nodes.look(this.nodes.node, log.generation);
-      if (isLiving === null) throw new NoGroupError(`refused 2 NoGroup: generation ${log.generation} was read at node ${this.nodes.node}, whose server was started anew since`);
+      const what = `${this.nodes.text(log.generation)} was read at node ${this.nodes.node}, whose server was started anew since`;
+      if (isLiving === null) throw new NoGroupError(`refused 2 NoGroup: ${what}`);
       log.isGone ||= !isLiving;
     }
   }
@@ -1921,21 +2052,33 @@ class Reader {
 
   /** Shows what may be shown, and ends the generations that were read to their ends. */
   release() {
-    const { nodes } = this;
-    nodes.spec.members.forEach((origin) => this.#show(origin));
+    this.showAll();
     for (const log of this.lowestFirst()) {
-      if (!nodes.spec.members.every((origin) => this.#isOver(log, origin))) break;
+      if (!this.hasEnded(log)) break;
       this.logs.delete(log.generation);
       this.last = log.generation;
-      if (!log.isGone) this.ended.push({ generation: log.generation, needed: this.#needed(log), tryAt: now(), next: tries(), have: new Set() });
+      if (!log.isGone) this.ended.push({ generation: log.generation, needed: this.needed(log), tryAt: now(), next: tries(), have: new Set() });
     }
+  }
+
+  /** Shows what may be shown of all members' messages. */
+  showAll() {
+    this.nodes.spec.members.forEach((origin) => this.#show(origin));
+  }
+
+  /**
+   * Returns true if nothing more is to be shown from a generation.
+   * @param {ReadLog} log
+   */
+  hasEnded(log) {
+    return this.nodes.spec.members.every((origin) => this.#isOver(log, origin));
   }
 
   /**
    * Returns how many entries each other running node's log has in the end. In a best-effort group that leaves out what a member said that crashed.
    * @param {ReadLog} log
    */
-  #needed(log) {
+  needed(log) {
     if (!["beb", "fbeb"].includes(this.nodes.spec.kind)) return log.place;
     return this.nodes.running().reduce((sum, node) => sum + log.of(node).count, 0);
   }
@@ -1983,26 +2126,774 @@ class Reader {
   /**
    * Drops a generation at this member's node if each other node has the whole log: what waits in a dropped group is given up, so a node that lacks messages
    * might never get them. Where this client may not ask a node, it waits for the end of the next generation.
-   * @param {{ generation: number, needed: number, have: Set<number> }} ended
+   * @param {Ended} ended
    */
   async #isDropped(ended) {
     const { nodes } = this;
     const name = nodes.name(ended.generation);
     for (const node of nodes.others().filter((it) => !ended.have.has(it))) {
       try {
-        await nodes.at(node).fetch(nodes.tenant, name, ended.needed, 0);
+        if (!(await this.hasAll(node, ended))) return false;
       } catch (error) {
-        if (error instanceof BadPlaceError) return false;
         if (isOne(error, MissingTokenError, DeniedError)) {
           if (this.last <= ended.generation) return false;
         } else if (!isOne(error, SpentError, NoGroupError)) throw error;
       }
       ended.have.add(node);
     }
-    await nodes.own().drop(nodes.tenant, name).catch((error) => {
+    try {
+      await nodes.ask(nodes.node, (it) => it.drop(nodes.tenant, name));
+    } catch (error) {
       if (!isOne(error, SpentError, NoGroupError)) throw error;
-    });
+    }
     return true;
+  }
+
+  /**
+   * Finds out whether a node has the whole log of a generation that was read to its end.
+   * @param {number} node
+   * @param {Ended} ended
+   * @returns {Promise<boolean>}
+   */
+  async hasAll(node, ended) {
+    try {
+      await this.nodes.ask(node, (it) => it.fetch(this.nodes.tenant, this.nodes.name(ended.generation), ended.needed, 0));
+    } catch (error) {
+      if (error instanceof BadPlaceError) return false;
+      throw error;
+    }
+    return true;
+  }
+}
+
+// Rooms with a leader. Their generations are one totally ordered log, as in Balakrishnan et al., "Virtual Consensus in Delos" (OSDI 2020): where a leader crashed,
+// each member that runs seals its generation, and the next leader's first message says where that one ends (docs/CLIENTS.md, "A room with a leader"). Byte 2
+// alone is a seal. Byte 3 stands before what is said: the node of the member that says it, one byte; eight bytes that the room has drawn; and the payload. Byte 4
+// stands before the ends of generations: for each its number, four bytes, and how many of its leader's messages count, two bytes, both with the high byte first.
+
+const SEAL = Uint8Array.of(2);
+const SAID = 3;
+const ENDS = 4;
+const IDENTITY = 8; // bytes of a message that name the room which said it
+const HEAD = 2 + IDENTITY;
+const END = 6; // bytes of the end of one generation
+const LONGEST_ENDS = 1 + LIVING * END;
+/** The kinds in which all running members deliver what any member has, in the leader's order. */
+const KINDS_OF_A_LEADER = ["fallack", "fmajority"];
+
+/**
+ * Returns the message that tells how many messages count in each of some generations.
+ * @param {Map<number, number>} ends
+ */
+function endsMessage(ends) {
+  const view = new DataView(new ArrayBuffer(1 + END * ends.size));
+  view.setUint8(0, ENDS);
+  [...ends].sort(([low], [high]) => low - high).forEach(([generation, count], place) => {
+    view.setUint32(1 + END * place, generation);
+    view.setUint16(5 + END * place, count);
+  });
+  return new Uint8Array(view.buffer);
+}
+
+/**
+ * Returns the ends that a message tells, which are none if it is another message.
+ * @param {Uint8Array} message
+ */
+function readEnds(message) {
+  /** @type {Map<number, number>} */
+  const ends = new Map();
+  if (message[0] !== ENDS || message.length % END !== 1) return ends;
+  const view = new DataView(message.buffer, message.byteOffset, message.length);
+  for (let place = 1; place < message.length; place += END) ends.set(view.getUint32(place), view.getUint16(place + 4));
+  return ends;
+}
+
+/** The nodes of a room whose members say everything through one of them at a time. */
+class LedNodes extends Nodes {
+  /**
+   * @param {Map<number, Session>} sessions
+   * @param {number} tenant
+   * @param {number} number
+   * @param {Spec} spec
+   * @param {number} node
+   * @param {boolean} isGuest
+   * @param {number} leader
+   */
+  constructor(sessions, tenant, number, spec, node, isGuest, leader) {
+    super(sessions, tenant, number, spec, node, isGuest);
+    if (!spec.members.includes(leader)) throw new RangeError(`the leader, node ${leader}, is no member`);
+    if (!KINDS_OF_A_LEADER.includes(spec.kind)) throw new RangeError(`with a leader the kind is one of ${KINDS_OF_A_LEADER.join(", ")}`);
+    if (spec.messages < 3 || spec.totalBytes < 2 * LONGEST_ENDS) {
+      throw new RangeError(`with a leader a generation has room for the ends, a message and a marker: 3 messages, ${2 * LONGEST_ENDS} bytes`);
+    }
+    this.leader = leader;
+    /**
+     * How many messages count in the latest generations whose end is known here; null: all up to the marker.
+     * @type {Map<number, number | null>}
+     */
+    this.ends = new Map();
+  }
+
+  /**
+   * Returns the node that leads a generation: the members take turns, from the first on.
+   * @param {number} generation
+   */
+  speaker(generation) {
+    const { members } = this.spec;
+    return members[(members.indexOf(this.leader) + generation) % members.length];
+  }
+
+  /**
+   * Notes what the logs at this member's node tell. A generation that is missing between them is there no more.
+   * @param {LedLog[]} logs lowest first
+   */
+  judge(logs) {
+    for (const { generation, sealed } of logs) {
+      // This member has sealed it here, so its leader has crashed: it is enough that one room was told.
+      if (sealed !== null && this.speaker(generation) !== this.node) this.absent.add(this.speaker(generation));
+    }
+    for (let place = logs.length - 1; place >= 0; place -= 1) this.#decide(logs[place], logs.slice(place + 1));
+  }
+
+  /**
+   * Notes how many messages count in a generation. The first message of the next one in which something counts tells of all those before it that no other one
+   * tells of. Where it says nothing of one, that one ends with its marker. Where nothing tells any more how a sealed one ends, it is passed over.
+   * @param {LedLog} log
+   * @param {LedLog[]} laters
+   */
+  #decide(log, laters) {
+    let next = log.generation;
+    for (const later of this.ends.has(log.generation) ? [] : laters) {
+      next += 1;
+      const isMissing = later.generation !== next;
+      const first = isMissing ? null : later.first();
+      if (first !== null) this.ends.set(log.generation, readEnds(first).get(log.generation) ?? null);
+      else if (isMissing || later.isGone) log.isGone ||= log.sealed !== null;
+      else if (later.isOver()) continue;
+      break;
+    }
+    const end = this.ends.get(log.generation);
+    if (end === undefined) return;
+    log.decide(end);
+    for (const old of [...this.ends.keys()]) if (old <= log.generation - LOOKED_AT) this.ends.delete(old);
+  }
+
+  /**
+   * Returns the nodes whose members seal a generation: those that run, but for its leader.
+   * @param {number} generation
+   */
+  sealing = (generation) => this.running().filter((node) => node !== this.speaker(generation));
+}
+
+/** What was read of a generation's log at a node. */
+class LedLog extends ReadLog {
+  /**
+   * @param {number} generation
+   * @param {LedNodes} nodes
+   * @param {number} node
+   */
+  constructor(generation, nodes, node) {
+    super(generation, []);
+    this.leader = nodes.speaker(generation);
+    this.node = node;
+    /**
+     * The leader's messages, in its order, and their bytes.
+     * @type {Uint8Array[]}
+     */
+    this.messages = [];
+    this.used = 0;
+    /**
+     * The number of its last message: its marker, or the last that it may say.
+     * @type {number | null}
+     */
+    this.last = null;
+    /**
+     * How many of them stood before the seal of this node's member.
+     * @type {number | null}
+     */
+    this.sealed = null;
+    /** Whether a later generation tells how this one ends. */
+    this.isDecided = false;
+    /**
+     * How many messages count then, or null: all up to the marker.
+     * @type {number | null}
+     */
+    this.end = null;
+    this.shown = 0;
+  }
+
+  /**
+   * @param {Entry} entry
+   * @param {Spec} spec
+   */
+  take({ origin, payload }, spec) {
+    if (origin === this.leader) {
+      this.messages.push(payload);
+      this.used += payload.length;
+      const isFull = this.messages.length >= spec.messages || this.used >= spec.totalBytes;
+      if (isFull || areEqual(payload, MARKER)) this.last ??= this.messages.length;
+    } else if (origin === this.node && areEqual(payload, SEAL)) this.sealed ??= this.messages.length;
+  }
+
+  /** Returns true if the members go on to the next generation. */
+  isLeft() {
+    return this.isGone || this.last !== null || this.sealed !== null;
+  }
+
+  /** Returns how many of the leader's messages that were read count for certain. */
+  count() {
+    return Math.min(this.messages.length, (this.isDecided ? this.end : this.sealed) ?? Infinity, this.last ?? Infinity);
+  }
+
+  /**
+   * Notes how many messages count.
+   * @param {number | null} end
+   */
+  decide(end) {
+    if (!this.isDecided) [this.isDecided, this.end] = [true, end];
+  }
+
+  /** Returns true if all messages that count were read. */
+  isOver() {
+    const end = Math.min(this.last ?? Infinity, this.end ?? Infinity);
+    return this.isGone || this.count() >= end;
+  }
+
+  /** Returns the first message that counts and is no marker, if one is known, or null. */
+  first() {
+    return this.count() > 0 && !areEqual(this.messages[0], MARKER) ? this.messages[0] : null;
+  }
+
+  /** Returns what counts and was not shown before. */
+  fresh() {
+    /** @type {RoomEntry[]} */
+    const entries = [];
+    for (; this.shown < this.count(); this.shown += 1) {
+      const message = this.messages[this.shown];
+      if (message[0] !== SAID || message.length < HEAD) continue;
+      entries.push({ origin: message[1], generation: this.generation, number: this.shown + 1, payload: message.slice(HEAD) });
+    }
+    return entries;
+  }
+}
+
+/** What is read at a member's node of a room with a leader: one line of messages. */
+class LedReader extends Reader {
+  /**
+   * @param {LedNodes} nodes
+   * @param {Speaker} speaker
+   */
+  constructor(nodes, speaker) {
+    super(nodes, speaker);
+    this.led = nodes;
+    /**
+     * How many messages of the leader count in a generation that was sealed and read.
+     * @type {Map<number, number>}
+     */
+    this.counts = new Map();
+  }
+
+  /** @param {number} generation */
+  newLog(generation) {
+    return new LedLog(generation, this.led, this.led.node);
+  }
+
+  /**
+   * @param {ReadLog} log
+   * @param {Entry[]} entries
+   */
+  take(log, entries) {
+    for (const entry of entries) {
+      log.place += 1;
+      log.take(entry, this.led.spec);
+    }
+  }
+
+  showAll() {
+    const logs = /** @type {LedLog[]} */ (this.lowestFirst());
+    this.led.judge(logs);
+    for (const log of logs) {
+      this.ready.push(...log.fresh());
+      if (!log.isOver()) return;
+      this.led.noteMarked(log.generation);
+    }
+  }
+
+  /** @param {ReadLog} log */
+  hasEnded(log) {
+    return log instanceof LedLog && log.isOver();
+  }
+
+  /** @param {ReadLog} log */
+  needed(log) {
+    if (log instanceof LedLog && log.place !== log.messages.length) this.counts.set(log.generation, log.count());
+    return log.place;
+  }
+
+  /** Says nothing: who goes on says the leader's marker, or seals. */
+  async keepUp() {}
+
+  /**
+   * Finds out whether a node has all messages that count. In a generation that was sealed other messages stand too, and in another place at each node.
+   * @param {number} node
+   * @param {Ended} ended
+   * @returns {Promise<boolean>}
+   */
+  async hasAll(node, ended) {
+    const count = this.counts.get(ended.generation);
+    if (count === undefined) return super.hasAll(node, ended);
+    const log = new LedLog(ended.generation, this.led, node);
+    while (log.messages.length < count) {
+      const entries = await this.led.ask(node, (it) => it.fetch(this.led.tenant, this.led.name(log.generation), log.place));
+      if (entries.length === 0) return false;
+      this.take(log, entries);
+    }
+    return true;
+  }
+}
+
+/** A generation as a speaker knows it: also what was read of it at other nodes, where it was sealed, and the nodes whose members have said the seal. */
+class SpokenLog extends LedLog {
+  /** @type {Map<number, LedLog>} */
+  others = new Map();
+  /** @type {Set<number>} */
+  seals = new Set();
+}
+
+/** What a member says through the leader. */
+class LedSpeaker extends Speaker {
+  /**
+   * @param {LedNodes} nodes
+   * @param {number} patience
+   */
+  constructor(nodes, patience) {
+    super(nodes, patience);
+    this.led = nodes;
+    this.identity = crypto.getRandomValues(new Uint8Array(IDENTITY));
+    /** @type {Map<number, SpokenLog>} */
+    this.logs = new Map();
+    /**
+     * What was said last, if it is not known whether it counts.
+     * @type {{ named: RoomNumber, message: Uint8Array } | null}
+     */
+    this.open = null;
+  }
+
+  leader() {
+    return this.speech === null ? null : this.led.speaker(this.speech.generation);
+  }
+
+  /**
+   * Returns what was read of a generation here. Those that are long over are forgotten.
+   * @param {number} generation
+   */
+  #log(generation) {
+    const known = this.logs.get(generation) ?? new SpokenLog(generation, this.led, this.led.node);
+    if (!this.logs.has(generation)) {
+      for (const old of [...this.logs.keys()]) if (old < generation - 2 * LIVING) this.logs.delete(old);
+      this.logs.set(generation, known);
+    }
+    return known;
+  }
+
+  #lowestFirst = () => [...this.logs.values()].sort((low, high) => low.generation - high.generation);
+
+  /**
+   * Returns true if a generation ends by seals: its leader crashed, for some member.
+   * @param {number} generation
+   */
+  #isCut = (generation) => this.led.absent.has(this.led.speaker(generation)) || this.#log(generation).sealed !== null;
+
+  /**
+   * A guest says something only where it has a session of each member's node.
+   * @param {number} end
+   */
+  async join(end) {
+    this.led.running().forEach((node) => this.led.at(node));
+    await super.join(end);
+  }
+
+  /** Takes a generation that was begun as started: its leader can say something only then. */
+  async isStarted() {
+    return true;
+  }
+
+  /**
+   * Starts the next generation, and closes this one. One whose leader crashed before anything stood there may not be made at each node yet. It is made there
+   * first: where it is not, nobody knows that its end has to be told.
+   * @param {Speech} speech
+   * @param {number} end
+   */
+  async goOn(speech, end) {
+    const { generation } = speech;
+    if (this.#isCut(generation) && this.#log(generation).place === 0) await this.led.start(generation, end);
+    await super.goOn(speech, end);
+  }
+
+  /**
+   * Has nothing more count in a generation, by its leader's marker or by seals.
+   * @param {number} generation
+   * @param {number} end
+   */
+  async close(generation, end) {
+    if (this.#log(generation).place === 0) await this.#readAll();
+    const log = this.#log(generation);
+    if (log.isOver()) return;
+    if (!this.#isCut(generation)) return this.led.mark(generation, end);
+    for (const node of this.led.sealing(generation).filter((it) => !log.seals.has(it))) {
+      await this.led.sayLast(node, generation, SEAL, end).catch((error) => {
+        if (!(error instanceof NoGroupError)) throw error;
+      });
+      log.seals.add(node);
+    }
+  }
+
+  // What is read.
+
+  /**
+   * Reads on at this member's node, where generations are not over, and waits a little. Returns true if something came, and what is known may have changed.
+   * @param {number} end
+   */
+  async #read(end) {
+    const { led } = this;
+    await this.#extend();
+    const logs = this.#lowestFirst().filter((log) => !log.isOver()).slice(-LIVING);
+    const seconds = Math.min(AGAIN, Math.max(0, end - now()));
+    if (logs.length === 0) {
+      await sleep(seconds);
+      return false;
+    }
+    try {
+      const { entries, index } = await led.wait(led.node, logs, seconds);
+      if (entries.length === 0) return false;
+      for (const entry of entries) {
+        logs[index].place += 1;
+        logs[index].take(entry, led.spec);
+      }
+    } catch (error) {
+      if (!isOne(error, SpentError, NoGroupError)) throw error;
+      for (const log of logs) {
+        const isLiving = await led.look(led.node, log.generation);
+        log.isGone = isLiving === false;
+        if (isLiving === null) [this.logs, led.ends].forEach((known) => known.delete(log.generation)); // The server was started anew.
+      }
+    }
+    led.judge(this.#lowestFirst());
+    return true;
+  }
+
+  /** Reads what is there now. */
+  async #readAll() {
+    while (await this.#read(now()));
+  }
+
+  /** Reads the next generation too, once the members go on to it, and those between that live. */
+  async #extend() {
+    const newest = this.#lowestFirst().at(-1);
+    if (newest === undefined) return;
+    for (let { generation } = this.#lowestFirst()[0]; generation < newest.generation; generation += 1) {
+      const isNeeded = this.logs.get(generation)?.isOver() === false && !this.logs.has(generation + 1);
+      if (isNeeded && (await this.led.look(this.led.node, generation + 1))) this.#log(generation + 1);
+    }
+    if (newest.generation === LAST_GENERATION || !newest.isLeft()) return;
+    const isLiving = await this.led.look(this.led.node, newest.generation + 1);
+    if (isLiving) this.#log(newest.generation + 1);
+    else if (isLiving === false) (await this.led.found()).living.filter((it) => it > newest.generation).forEach((it) => this.#log(it));
+  }
+
+  /** @param {number} generation */
+  #hasFirst = (generation) => this.#log(generation).messages.length > 0;
+
+  // How a generation begins.
+
+  /**
+   * Has the first message of a generation tell how those before it end, if seals end them. What was said first is read if another room was first.
+   * @param {number} generation
+   * @param {number} end
+   */
+  async #begin(generation, end) {
+    if (generation === 0 || this.#hasFirst(generation)) return;
+    const ends = await this.#endsBefore(generation, end);
+    if (ends.size === 0 || this.#hasFirst(generation)) return;
+    try {
+      await this.#sayEnds(generation, endsMessage(ends), end);
+    } catch (error) {
+      if (error instanceof UnansweredError) [error.generation, error.said] = [null, null]; // What is to be said was not.
+      if (!(error instanceof BadPlaceError)) throw error;
+    }
+    while (!this.#hasFirst(generation) && !this.#isCut(generation)) {
+      if (!(await this.#read(end)) && now() >= end) throw this.#late(`the first message of ${this.led.text(generation)}`, generation);
+    }
+  }
+
+  /**
+   * @param {number} generation
+   * @param {Uint8Array} message
+   * @param {number} end
+   */
+  async #sayEnds(generation, message, end) {
+    const say = () => this.settled(message, { generation, number: 1 }, false);
+    await say().catch(async (error) => {
+      if (!isOne(error, WrongPhaseError, NoGroupError)) throw error;
+      await this.led.start(generation, end);
+      await say();
+    });
+  }
+
+  /**
+   * Closes the generations before one, and returns how many messages count in those sealed. It goes down to one whose first message tells of those before it, or
+   * that was dropped here, since its end and theirs were known then. It ends early if somebody else has said the first message of this generation.
+   * @param {number} generation
+   * @param {number} end
+   */
+  async #endsBefore(generation, end) {
+    const { led } = this;
+    /** @type {Map<number, number>} */
+    const ends = new Map();
+    for (let lower = generation - 1; lower >= Math.max(0, generation - LIVING); lower -= 1) {
+      if (!(await led.look(led.node, lower))) return ends;
+      const log = this.#log(lower);
+      while (!log.isOver() && !this.#hasFirst(generation)) {
+        await this.close(lower, end);
+        if (log.isOver()) break;
+        const cut = this.#isCut(lower) ? await this.#cut(lower, end) : null;
+        if (cut !== null) {
+          ends.set(lower, cut.length);
+          if (cut.length > 0 && !areEqual(cut[0], MARKER)) return ends;
+          break;
+        }
+        if (!(await this.#read(end)) && now() >= end) throw this.#late(`the end of ${led.text(lower)}`, lower);
+      }
+      if (this.#hasFirst(generation) || log.first() !== null) return ends;
+    }
+    return ends;
+  }
+
+  /**
+   * Returns the messages that stand before the seals of all members. The most that stand before one of the seals are taken, since that node's readers may have
+   * shown them. Returns null if some seal is not there yet.
+   * @param {number} generation
+   * @param {number} end
+   */
+  async #cut(generation, end) {
+    const { led } = this;
+    /** @type {Uint8Array[]} */
+    let longest = [];
+    for (const node of led.sealing(generation)) {
+      const log = node === led.node ? this.#log(generation) : await this.#other(generation, node, end);
+      let messages = log.messages.slice(0, log.count());
+      if (log.isGone) {
+        await this.#readAll(); // It was dropped there, so all that count stand here too.
+        const own = this.#log(generation);
+        messages = own.messages.slice(0, own.last ?? undefined);
+      } else if (log.sealed === null) return null;
+      if (messages.length > longest.length) longest = messages;
+    }
+    return longest;
+  }
+
+  /**
+   * Reads the log of a generation at another node, up to its member's seal.
+   * @param {number} generation
+   * @param {number} node
+   * @param {number} end
+   */
+  async #other(generation, node, end) {
+    const { led } = this;
+    const { others } = this.#log(generation);
+    const log = others.get(node) ?? new LedLog(generation, led, node);
+    others.set(node, log);
+    try {
+      while (log.sealed === null && !log.isGone) {
+        const { entries } = await led.wait(node, [log], Math.min(AGAIN, Math.max(0, end - now())));
+        if (entries.length === 0) break;
+        for (const entry of entries) {
+          log.place += 1;
+          log.take(entry, led.spec);
+        }
+      }
+    } catch (error) {
+      if (!isOne(error, SpentError, NoGroupError)) throw error;
+      log.isGone = true;
+    }
+    return log;
+  }
+
+  /**
+   * Returns that something is not delivered yet, for which a generation's leader is due.
+   * @param {string} what
+   * @param {number} generation
+   */
+  #late(what, generation) {
+    const error = new TimedOutError(`${what} is not delivered yet`, false);
+    error.node = this.led.speaker(generation);
+    return error;
+  }
+
+  // What is said.
+
+  /**
+   * Returns the generation in which a message of this length is said next.
+   * @param {number} length
+   * @param {number} end
+   */
+  async #prepare(length, end) {
+    const { spec } = this.led;
+    for (;;) {
+      if (this.current() === null) await this.join(end);
+      const speech = /** @type {Speech} */ (this.speech);
+      const { generation } = speech;
+      if (this.#log(generation).place === 0) await this.#readAll();
+      if (!this.#isCut(generation)) await this.#begin(generation, end);
+      const log = this.#log(generation);
+      if (log.isGone) {
+        this.speech = null;
+        continue;
+      }
+      [speech.next, speech.used] = [log.messages.length + 1, log.used];
+      if (log.isLeft() && this.logs.has(generation + 1)) this.leave(generation);
+      else if (log.isLeft() || this.#isCut(generation) || !speech.hasRoom(length, spec)) await this.goOn(speech, end);
+      else if (!(speech.isLate(spec) && (await this.goesOnEarly(speech)))) return generation;
+    }
+  }
+
+  /**
+   * Says a message once, and waits until it counts.
+   * @param {Payload} payload
+   * @param {RoomNumber | undefined} repeat
+   * @returns {Promise<RoomNumber>}
+   */
+  async say(payload, repeat) {
+    const message = joined(Uint8Array.of(SAID, this.led.node), this.identity, bytesOf(payload));
+    if (message.length > LONGEST_PAYLOAD) throw new TooLongError();
+    if (message.length + MARKER.length > this.led.spec.totalBytes) throw new BytesError("refused 9 Bytes: no generation has room for it and a marker");
+    if (repeat !== undefined && !this.#isOpen(repeat, message)) throw new RangeError("with a leader, a say is repeated by the room that said it last");
+    const end = this.end();
+    if (repeat !== undefined && (await this.#isSaidBefore(repeat, message, end))) return repeat;
+    const next = tries();
+    for (let lost = 0; ; ) {
+      let named;
+      try {
+        const generation = await this.#prepare(message.length, end);
+        named = await this.#sayThrough(generation, message, end);
+      } catch (error) {
+        if (isOne(error, SpentError, NoGroupError) && lost < LIVING) {
+          lost += 1;
+          this.speech = null;
+        } else if (isOne(error, WindowError, OutOfMemoryError) && end > now()) await sleep(Math.min(end - now(), next()));
+        else throw error;
+        continue;
+      }
+      if (named !== null && (await this.#counts(named, message, end))) return named;
+    }
+  }
+
+  /**
+   * Returns true if this message was said last, with this number, and it is not known whether it counts.
+   * @param {RoomNumber} named
+   * @param {Uint8Array} message
+   */
+  #isOpen(named, message) {
+    const { open } = this;
+    return open !== null && open.named.generation === named.generation && open.named.number === named.number && areEqual(open.message, message);
+  }
+
+  /**
+   * Says a message by the leader, with its next number. Returns the number, also where it may be said, or null if it was not and more is known now.
+   * @param {number} generation
+   * @param {Uint8Array} message
+   * @param {number} end
+   * @returns {Promise<RoomNumber | null>}
+   */
+  async #sayThrough(generation, message, end) {
+    const speech = /** @type {Speech} */ (this.speech);
+    const named = { generation, number: this.#log(generation).messages.length + 1 };
+    this.open = { named, message };
+    try {
+      await this.settled(message, named, false);
+    } catch (error) {
+      if (error instanceof UnknownOutcomeError) return named;
+      if (isOne(error, BadPlaceError, BudgetError, BytesError, WrongPhaseError, NoGroupError) || (error instanceof UnansweredError && !error.isUnknown)) this.open = null;
+      if (error instanceof BadPlaceError) await this.#readUpTo(named, end, error);
+      else if (isOne(error, BudgetError, BytesError)) speech.isFull = true;
+      else if (isOne(error, WrongPhaseError, NoGroupError) && !speech.wasOpened) {
+        await this.led.start(generation, end); // Somebody has begun it, and has not come as far as the leader's node.
+        speech.wasOpened = true;
+      } else throw error;
+      return null;
+    }
+    return named;
+  }
+
+  /**
+   * Reads the message with a number that another one has. Throws the refusal if it is not there before the time is over.
+   * @param {RoomNumber} named
+   * @param {number} end
+   * @param {BadPlaceError} refusal
+   */
+  async #readUpTo({ generation, number }, end, refusal) {
+    while (this.#log(generation).messages.length < number && !this.#isCut(generation) && !this.#log(generation).isGone) {
+      if (!(await this.#read(end)) && now() >= end) throw refusal;
+    }
+  }
+
+  /**
+   * Finds out whether a message counts whose answer was lost.
+   * @param {RoomNumber} named
+   * @param {Uint8Array} message
+   * @param {number} end
+   */
+  async #isSaidBefore(named, message, end) {
+    try {
+      if (!this.#isCut(named.generation)) await this.settled(message, named, true);
+    } catch (error) {
+      if (isOne(error, BadPlaceError, BudgetError, BytesError, TooLongError, WrongPhaseError)) {
+        this.open = null;
+        return false;
+      }
+      if (!(error instanceof UnknownOutcomeError)) throw error;
+    }
+    return this.#counts(named, message, end);
+  }
+
+  /**
+   * Waits until it is known whether a message that was said counts: it has this number then. UnknownOutcomeError: it is not known before the time is over.
+   * @param {RoomNumber} named
+   * @param {Uint8Array} message
+   * @param {number} end
+   */
+  async #counts({ generation, number }, message, end) {
+    let until = this.end();
+    try {
+      const counts = await this.#waitFor({ generation, number }, message, end);
+      [until, this.open] = [-Infinity, null];
+      return counts;
+    } catch (error) {
+      if (!(error instanceof FoqradeshError)) throw error;
+      const unknown = new UnknownOutcomeError(`message ${number} of ${this.led.text(generation)} may count: ${error.message}`, number, { cause: error });
+      unknown.generation = generation;
+      unknown.node = error instanceof UnansweredError ? error.node : null;
+      throw unknown;
+    } finally {
+      this.doubt = { generation, until };
+    }
+  }
+
+  /**
+   * @param {RoomNumber} named
+   * @param {Uint8Array} message
+   * @param {number} end
+   */
+  async #waitFor({ generation, number }, message, end) {
+    const log = this.#log(generation);
+    const isKnown = () => log.count() >= number || log.isOver();
+    while (!isKnown()) {
+      this.doubt = { generation, until: Infinity };
+      if (!log.isDecided && this.led.absent.has(log.leader)) await this.#prepare(message.length, end);
+      if (!isKnown() && !(await this.#read(end)) && now() >= end) throw this.#late("it", generation);
+    }
+    if (log.isGone && log.count() < number) throw new SpentError(`refused 3 Spent: ${this.led.text(generation)}`);
+    return log.count() >= number && areEqual(log.messages[number - 1], message);
   }
 }
 
@@ -2014,6 +2905,12 @@ class Reader {
  *
  * A guest has a session of its own node alone and the member's token, as a page in a browser has. It makes and drops nothing: it goes on once another client
  * has made and opened the next generation.
+ *
+ * With a leader what all members say goes through one of them, so that all read it in one order, also where the leader crashes: generation by generation the
+ * members take turns as leaders. The kind is `fallack` or `fmajority`, and a generation takes 3 messages and 50 bytes at least. Each session needs the member's
+ * token at its own node. A say returns when its message has its place in that order, read at the member's own node. Its number is that of the message among the
+ * leader's in the generation, and `origin` of an entry is the node of the room that said it. A guest reads there; it says something where it has a session of
+ * each member's node.
  */
 export class Room {
   /**
@@ -2021,18 +2918,32 @@ export class Room {
    * @param {number} tenant
    * @param {number} number
    * @param {Spec} spec what each generation is made with, so all members give the same; its `messages` and `totalBytes` are at least 2
-   * @param {{ node: number, patience?: number, isGuest?: boolean }} options `node` is the member that speaks and reads here; `patience` is how long a say waits
-   *   for what may pass, in seconds
+   * @param {{ node: number, leader?: number | null, patience?: number, isGuest?: boolean }} options `node` is the member that speaks and reads here; `leader` is
+   *   the node that leads generation 0, and all rooms give the same; `patience` is how long a say waits for what may pass, in seconds
    */
-  constructor(sessions, tenant, number, spec, { node, patience = 30, isGuest = false }) {
+  constructor(sessions, tenant, number, spec, { node, leader = null, patience = 30, isGuest = false }) {
     const held = sessions instanceof Map ? sessions : new Map(Object.entries(sessions).map(([name, session]) => [Number(name), session]));
-    this.#nodes = new Nodes(held, tenant, number, spec, node, isGuest);
-    this.#speaker = new Speaker(this.#nodes, patience);
-    this.#reader = new Reader(this.#nodes, this.#speaker);
+    this.tenant = tenant;
+    this.number = number;
+    this.spec = spec;
+    this.node = node;
+    if (leader === null) {
+      this.#nodes = new Nodes(held, tenant, number, spec, node, isGuest);
+      this.#speaker = new Speaker(this.#nodes, patience);
+      this.#reader = new Reader(this.#nodes, this.#speaker);
+    } else {
+      const nodes = new LedNodes(held, tenant, number, spec, node, isGuest, leader);
+      this.#nodes = nodes;
+      this.#speaker = new LedSpeaker(nodes, patience);
+      this.#reader = new LedReader(nodes, this.#speaker);
+    }
   }
 
+  /** @type {Nodes} */
   #nodes;
+  /** @type {Speaker} */
   #speaker;
+  /** @type {Reader} */
   #reader;
   /** @type {Promise<unknown>} */
   #turn = Promise.resolve();
@@ -2040,6 +2951,11 @@ export class Room {
   /** The generation in which the member speaks, or null if that is not known yet. */
   get generation() {
     return this.#speaker.speech?.generation ?? null;
+  }
+
+  /** The node that leads that generation; null without a leader, or if it is not known yet. */
+  get leader() {
+    return this.#speaker.leader();
   }
 
   /**
@@ -2072,6 +2988,10 @@ export class Room {
    *
    * What is returned stands, once. Where a refusal is thrown the message was not said. An `UnansweredError` with a `generation`: it may or may not be said, once at
    * most; a say of the same payload with `repeat` as `{ generation: error.generation, number: error.said }` goes on where it ended.
+   *
+   * With a leader a payload has 4,086 bytes at most, and `repeat` is for the last say of the same room, else RangeError is thrown. Where a member crashed, the error
+   * has its node as `node`: give that to `without`, and say the message again, with `repeat` if the error has a `generation`. If it led, the others seal its
+   * generation, and the next leader goes on. UnknownOutcomeError: the message was said, and is not delivered here yet. It may pass.
    * @param {Payload} payload
    * @param {{ repeat?: RoomNumber }} options
    * @returns {Promise<RoomNumber>}
@@ -2112,7 +3032,8 @@ export class Room {
   }
 
   /**
-   * Goes on without the member of a node that has crashed, and does not come back. Each room of each other member has to be given this.
+   * Goes on without the member of a node that has crashed, and does not come back. Each room of each other member has to be given this; with a leader one room is
+   * enough, as the others find the seals of the first generation that the node leads and the room leaves.
    * @param {number} node
    */
   without(node) {

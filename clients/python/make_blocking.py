@@ -1,12 +1,12 @@
 #!/usr/bin/env python3
-"""Makes the blocking classes of the package from those for asyncio, so that each word is written once.
+"""Makes the blocking classes of the package from those for asyncio, so that each text is written once.
 
     make_blocking.py            writes the files
     make_blocking.py --check    compares them: status 1 if one is not as it is made
 
-`_async_client.py`, `_async_group.py` and `_async_room.py` are what people change. `_client.py`, `_group.py` and `_room.py` are made from
-them: `async` and `await` go, names lose their `Async`, what stands in `_async.py` is taken from `_blocking.py`, and a few texts that hold for
-asyncio alone are replaced by those of TEXTS. It needs Python 3.9 and nothing else.
+`_async_client.py`, `_async_group.py` and `_async_room.py` are the files that people change. `_client.py`, `_group.py` and `_room.py` are
+made from them: `async` and `await` are removed, names lose their `Async`, names of `_async.py` are taken from `_blocking.py`, and a few
+texts that are true for asyncio alone are replaced by those of TEXTS. It needs Python 3.9 and nothing else.
 """
 import os
 import re
@@ -15,7 +15,7 @@ import sys
 PACKAGE = os.path.join(os.path.dirname(os.path.abspath(__file__)), "foqradesh")
 
 MADE = {"_async_client.py": "_client.py", "_async_group.py": "_group.py", "_async_room.py": "_room.py"}
-"""What each file is made from."""
+"""Sources, and the files that are made from them."""
 
 RULES = (
     (r"\basync (def|with|for)\b", r"\1"),
@@ -28,7 +28,7 @@ RULES = (
     (r"^import asyncio\n", ""),
     (r"\basyncio\.Task\b", "Ticket"),
 )
-"""Patterns, and what stands in their place."""
+"""Patterns, and their replacements."""
 
 TEXTS = {
     "_async_client.py": (
@@ -50,11 +50,11 @@ TEXTS = {
         ),
     ),
 }
-"""Texts that hold for asyncio alone, as patterns behind RULES, each of which is there once, and those of the blocking classes."""
+"""Texts that are true for asyncio alone, as patterns that are used after RULES and match once each, and those of the blocking classes."""
 
 
 def blocking(name, text):
-    """Return the text of the blocking file that is made from a file. ValueError: a text of TEXTS is not there once."""
+    """Return the text of the blocking file that is made from a file. Raises ValueError if a text of TEXTS is not there exactly once."""
     for pattern, instead in RULES:
         text = re.sub(pattern, instead, text, flags=re.MULTILINE)
     for told, instead in TEXTS[name]:

@@ -1,7 +1,7 @@
 """Builds this package's wheel with the standard library alone, so that `pip install` needs no index (PEP 517; the binary distribution format).
 
-pip calls `build_wheel` and `build_sdist`. What they write of the package stands in the table [project] of pyproject.toml, of which this
-module reads lines `key = "text"`, the names of `authors`, the lists `keywords` and `classifiers`, and the lines of the table [project.scripts].
+pip calls `build_wheel` and `build_sdist`. The data of the package that they write are in the table [project] of pyproject.toml. This module reads its
+lines `key = "text"`, the names of `authors`, the lists `keywords` and `classifiers`, and the lines of the table [project.scripts].
 """
 import base64
 import hashlib

@@ -20,14 +20,14 @@ HERE = os.path.dirname(os.path.abspath(__file__))
 
 
 def filled(name, words):
-    """The text of a file, with each word between two @ replaced."""
+    """Returns the text of a file, with each word between two @ replaced."""
     with open(os.path.join(HERE, name), encoding="ascii") as file:
         text = file.read()
     return re.sub("@([A-Z]+)@", lambda found: words[found[1]], text)
 
 
 def objects(name, run, nodes):
-    """The text of all objects of one run of a cluster."""
+    """Returns the text of all objects of one run of a cluster."""
     hosts = [f"{name}-run-{run}-{node}.{name}" for node in range(nodes)]
     places = "\n".join(f'    [[node]]\n    packets = "{host}:24000"\n    sessions = "{host}:24064"' for host in hosts)
     words = {"NAME": name, "RUN": str(run), "PLACES": places, "HOSTS": " ".join(hosts)}

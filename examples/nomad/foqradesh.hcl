@@ -111,7 +111,7 @@ EOF
 EOF
         }
 
-        # bench/capacity.py tells what a node needs. No limit of cpu: a node that is held back may be noticed as crashed.
+        # tools/capacity.py tells what a node needs. No limit of cpu: a node that is held back may be noticed as crashed.
         resources {
           cpu    = 1000
           memory = 2048

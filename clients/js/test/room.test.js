@@ -35,25 +35,29 @@ test("the worked conversation of the Python package's page", { skip }, async (co
   assert.deepEqual(entries.map(({ origin, generation, number, text }) => [origin, generation, number, text]), [[0, 0, 1, "one"], [0, 0, 2, "two"], [0, 0, 3, "three"], [0, 1, 1, "four"]]);
 });
 
-test("a long conversation of three, each message once and in order", { skip }, async (context) => {
+test("a long conversation of three, each message once and in order, and with a leader in one order", { skip }, async (context) => {
   const { sessions } = await cluster(context, 3);
   const spec = { kind: "fallack", members: [0, 1, 2], messages: 8, totalBytes: 512, window: 8 };
-  const rooms = [0, 1, 2].map((node) => new Room(sessions(), 7, 2, spec, { node }));
-  const count = 25;
-  const reading = rooms.map((room) => read(room, 3 * count));
-  const speaking = rooms.map(async (room, node) => {
-    for (let number = 0; number < count; number += 1) await room.say(`${node} ${number}`);
-  });
-  await Promise.all(speaking);
-  for (const entries of await Promise.all(reading)) {
-    for (const node of [0, 1, 2]) {
-      const texts = entries.filter(({ origin }) => origin === node).map(({ text }) => text);
-      assert.deepEqual(texts, Array.from({ length: count }, (_, number) => `${node} ${number}`));
+  for (const [group, leader] of [[2, null], [3, 1]]) {
+    const rooms = [0, 1, 2].map((node) => new Room(sessions(), 7, group, spec, { node, leader }));
+    const count = 25;
+    const reading = rooms.map((room) => read(room, 3 * count));
+    const speaking = rooms.map(async (room, node) => {
+      for (let number = 0; number < count; number += 1) await room.say(`${node} ${number}`);
+    });
+    await Promise.all(speaking);
+    const heard = await Promise.all(reading);
+    for (const entries of heard) {
+      if (leader !== null) assert.deepEqual(entries, heard[0]);
+      for (const node of [0, 1, 2]) {
+        const texts = entries.filter(({ origin }) => origin === node).map(({ text }) => text);
+        assert.deepEqual(texts, Array.from({ length: count }, (_, number) => `${node} ${number}`));
+      }
     }
+    assert.ok(rooms.every((room) => /** @type {number} */ (room.generation) >= 3));
+    const { rows } = await sessions()[0].listGroups();
+    assert.ok(rows.filter((row) => row.group === group && row.phase !== "dropped").length <= 4);
   }
-  assert.ok(rooms.every((room) => /** @type {number} */ (room.generation) >= 3));
-  const { rows } = await sessions()[0].listGroups();
-  assert.ok(rows.filter(({ phase }) => phase !== "dropped").length <= 4);
 });
 
 test("a guest by a door goes on once another has made the next generation", { skip: skip || lacks("web") || (typeof WebSocket === "undefined" && "this Node has no WebSocket") }, async (context) => {

@@ -1,4 +1,4 @@
-// Servers for tests: a gb_serve of some nodes, a gb_web before one, and one that answers as a test says.
+// Servers for tests: a gb_serve of some nodes, a gb_web before one, and one whose answers a test chooses.
 import { spawn } from "node:child_process";
 import { once } from "node:events";
 import { existsSync } from "node:fs";
@@ -73,8 +73,8 @@ export function sessionOf(context, port, node, options) {
 }
 
 /**
- * Starts a server that answers each request by `answer(text, count)`: a text, a list of pieces of bytes that come one after the other, or null to close the
- * connection. Returns its address and its requests.
+ * Starts a server that answers each request with the result of `answer(text, count)`: a text, a list of pieces of bytes that come one after the other, or null
+ * to close the connection. Returns its address and its requests.
  */
 export async function fake(context, answer) {
   const requests = [];

@@ -8,7 +8,7 @@ const { BadReplyError, BadPlaceError, BudgetError, ConnectionFailedError, Denied
 const TOKEN = "ab".repeat(32);
 const tokens = new Tokens({ admin: TOKEN, tenant: TOKEN, member: TOKEN, node: 0 });
 
-/** Returns a session of a server that answers as `answer` says, and the requests that come there. */
+/** Returns a session of a server whose answers are those of `answer`, and the requests that come there. */
 async function against(context, answer, options = { seconds: 5 }) {
   const { address, requests } = await fake(context, answer);
   const session = new Session(address, tokens, options);
@@ -60,7 +60,7 @@ test("requests are sent ahead, and replies come in their order", async (context)
 });
 
 test("a say whose reply was lost is said once", async (context) => {
-  // The first answer is lost behind the say, so the second is refused, and the log has it.
+  // The first reply is lost after the say was done, so the second say is refused, and the log has the message.
   const { session, requests } = await against(context, (text, count) => (count === 1 ? null : text.startsWith("say") ? "refused 11 BadPlace" : "log 1 0:5:68656c6c6f"));
   assert.equal(await session.say(7, 1, "hello", { number: 5 }), 5);
   assert.equal(requests.length, 3);

@@ -1,8 +1,8 @@
 """A client of the group broadcast service Foqradesh.
 
 `Client` asks one node over one connection, `AsyncClient` does so for asyncio. `Group` and
-`AsyncGroup` make a group at all its members' nodes, and `Room` and `AsyncRoom` go on from one to
-the next. The package's README tells how to begin. Modules whose names begin with `_` are private.
+`AsyncGroup` make a group at all its members' nodes, and `Room` and `AsyncRoom` go on from one group
+to the next. Begin with the package's README. Modules whose names begin with `_` are private.
 """
 
 from ._async_client import AsyncClient, AsyncPipeline

@@ -1,6 +1,6 @@
-"""What a client, a pipeline and a room for asyncio do by themselves.
+"""The parts of a client, a pipeline and a room that are for asyncio alone.
 
-`_async_client` and `_async_room` have the rest, which their blocking twins have alike.
+`_async_client` and `_async_room` have the rest, which is the same in their blocking twins.
 """
 
 from __future__ import annotations
@@ -23,7 +23,7 @@ T = TypeVar("T")
 
 
 class ClientBase:
-    """A client's connections, and how an operation is run over one of them."""
+    """A client's connections, and a way to run an operation over one of them."""
 
     def __init__(
         self,
@@ -32,7 +32,7 @@ class ClientBase:
         time_limit: float,
         ssl: Optional[SSLContext],
     ) -> None:
-        """Makes a client. Nothing is sent yet."""
+        """Make a client. Nothing is sent yet."""
         self.operations = Operations(secrets_of(secrets), time_limit, time.monotonic)
         self._address = check_address(address)
         self._ssl = ssl
@@ -87,9 +87,9 @@ class ClientBase:
         repeated: bool,
         again: bool = True,
     ) -> int:
-        """Say a message, with `again` once more if it was certainly not said.
+        """Say a message, with `again` a second time if it was certainly not said.
 
-        Where the next number is not known, one say teaches it before the others are sent.
+        If the next number is not known, the first say finds it before the others are sent.
         """
         address = address_of(tenant, group)
         numbers = self.operations.numbers
@@ -103,16 +103,16 @@ class ClientBase:
 
 
 class PipelineBase:
-    """What a pipeline has sent ahead."""
+    """The requests that a pipeline has sent ahead."""
 
     def __init__(self, client: ClientBase) -> None:
-        """Makes a pipeline of a client."""
+        """Make a pipeline of a client."""
         self._client = client
         self._operations = client.operations
         self._tasks: List[asyncio.Task[object]] = []
 
     async def settle(self) -> None:
-        """Take all replies to what was sent until now."""
+        """Take all replies to the requests that were sent until now."""
         tasks, self._tasks = self._tasks, []
         await asyncio.gather(*tasks, return_exceptions=True)
 
@@ -132,17 +132,17 @@ class PipelineBase:
         number: Optional[int],
         repeated: bool,
     ) -> asyncio.Task[int]:
-        """Send a say, behind the one that teaches the next number if it is not known."""
+        """Send a say, behind the say that finds the next number if that is not known."""
         return self._start_task(
             self._client._say_in_turn(tenant, group, payload, number, repeated, False)
         )
 
 
 class RoomBase:
-    """How a room's plans are run over clients."""
+    """A room's plans, and a way to run them over clients."""
 
     def __init__(self, clients: Mapping[int, ClientBase], plans: RoomPlans) -> None:
-        """Takes the clients and the plans."""
+        """Take the clients and the plans."""
         self._clients = dict(clients)
         self._plans = plans
         self._drops: Optional[bool] = None
@@ -174,7 +174,7 @@ class RoomBase:
             plan.close()
 
     def _saying(self) -> asyncio.Lock:
-        """Return the turn of those who say, which belongs to the event loop that runs."""
+        """Return the lock that makes says take turns, which belongs to the event loop that runs."""
         if self._turn is None:
             self._turn = asyncio.Lock()
         return self._turn

@@ -25,12 +25,12 @@ class AsyncPipeline(PipelineBase):
 
     **Says.** A say in a group whose next number the client does not know waits for its own reply.
     All others are sent ahead with numbers that follow one another. So if one of them is refused,
-    those behind it are refused BadPlaceError, and are not said: what was said of them is a front
-    part, in order, as long as no other client speaks for the member.
+    those behind it are refused with BadPlaceError, and are not said: the messages that were said
+    are the first of them, in order, if no other client speaks for the member.
     """
 
     async def __aenter__(self) -> AsyncPipeline:
-        """Begin."""
+        """Return the pipeline."""
         return self
 
     async def __aexit__(
@@ -45,7 +45,7 @@ class AsyncPipeline(PipelineBase):
     def add_tenant(
         self, tenant: int, key: bytes, groups: int, messages: int, total_bytes: int, window: int
     ) -> asyncio.Task[None]:
-        """Take a tenant in, as `AsyncClient.add_tenant`."""
+        """Add a tenant, as `AsyncClient.add_tenant`."""
         return self._start(
             self._operations.add_tenant(tenant, key, groups, messages, total_bytes, window)
         )
@@ -75,7 +75,7 @@ class AsyncPipeline(PipelineBase):
         number: Optional[int] = None,
         repeated: bool = False,
     ) -> asyncio.Task[int]:
-        """Say a message, as `AsyncClient.say`. BadPlaceError is raised without a number too."""
+        """Say a message, as `AsyncClient.say`. BadPlaceError may be raised without a number too."""
         return self._start_say(tenant, group, payload, number, repeated)
 
     def fetch(
@@ -90,22 +90,22 @@ class AsyncClient(ClientBase):
 
     Tasks may ask at the same time: their requests go over one connection, in the order in which
     they are begun, each ahead of the replies before it. `wait` and `follow` have connections of
-    their own, since what stands behind a wait in a connection waits too. A task that is cancelled
-    while it waits for a reply leaves open whether its request is done. Says that are begun
-    together take numbers in the order in which they are begun. Where one is refused, those behind
-    it are said again, each by itself, so they may be said in another order: await each before the
-    next, or use `pipeline`, where the order matters.
+    their own, because requests behind a wait in a connection wait too. If a task is cancelled while
+    it waits for a reply, it is not known whether its request is done. Says that are begun together
+    take numbers in the order in which they are begun. If one is refused, those behind it are said
+    again, each by itself, so they may be said in another order: await each before the next, or use
+    `pipeline`, where the order matters.
 
-    A connection is opened at the first request, and opened again when it ended. What only reads
+    A connection is opened at the first request, and again after it ended. Requests that only read
     (`fetch`, `wait`, `status`, `list_groups`) and a say with a number are then sent again. The
-    others are not: where such a request may have been done it raises ConnectionFailedError or
+    others are not: if such a request may have been done, it raises ConnectionFailedError or
     TimedOutError, with `is_unknown` True.
 
     A group is named by its number, or by a `Generation` of its room (docs/FORMATS.md, "Rooms").
 
-    Each word raises the refusal that it was answered (`RefusedError` and its classes),
+    Each method raises the refusal that the node replied (`RefusedError` and its classes),
     ConnectionFailedError, TimedOutError, BadReplyError, or MissingTokenError if the client has no
-    token for it.
+    token for the request.
     """
 
     def __init__(
@@ -116,13 +116,13 @@ class AsyncClient(ClientBase):
         time_limit: float = 10.0,
         ssl: Optional[SSLContext] = None,
     ) -> None:
-        """Makes a client. Nothing is sent yet.
+        """Make a client. Nothing is sent yet.
 
         `address` is the host and the port of the node's sessions (`node_address` makes it).
-        `secrets` are `Keys` or `Tokens`, or a single token, as text, for all that is asked.
-        `time_limit` is how long a reply may take, in seconds. With `ssl` the address is one of
-        TLS, as of a proxy before the node, and the context checks that its certificate names the
-        host; a node itself speaks no TLS.
+        `secrets` are `Keys` or `Tokens`, or a single token, as text, for all requests. `time_limit`
+        is how long a reply may take, in seconds. With `ssl` the address is one of TLS, for instance
+        of a proxy before the node, and the context checks that its certificate names the host; a
+        node itself does not speak TLS.
         """
         super().__init__(address, secrets, time_limit, ssl)
 
@@ -154,13 +154,13 @@ class AsyncClient(ClientBase):
         error: Optional[BaseException],
         trace: Optional[TracebackType],
     ) -> None:
-        """Close what is open, as `close` does."""
+        """Close the connections, as `close` does."""
         await self.close()
 
     async def add_tenant(
         self, tenant: int, key: bytes, groups: int, messages: int, total_bytes: int, window: int
     ) -> None:
-        """Have the node take a tenant in, with its key and its reserve.
+        """Add a tenant at the node, with its key and its limits.
 
         Needs the administrator's token. The tenant's groups have the numbers below `groups` (1 to
         256). In each generation a member may say at most `messages` messages (1 to 1,024) of
@@ -174,7 +174,7 @@ class AsyncClient(ClientBase):
     async def make(self, tenant: int, group: GroupName, spec: Spec) -> None:
         """Make a group at this node.
 
-        Make it at every member's node before it is opened at any: `AsyncGroup` does.
+        Make it at every member's node before it is opened at any node: `AsyncGroup` does that.
         """
         await self.run(self.operations.make(tenant, group, spec))
 
@@ -183,7 +183,7 @@ class AsyncClient(ClientBase):
         await self.run(self.operations.open(tenant, group))
 
     async def shut(self, tenant: int, group: GroupName) -> None:
-        """Shut an open group at this node: its member says nothing more. Its log grows still."""
+        """Shut an open group at this node: its member says nothing more. Its log still grows."""
         await self.run(self.operations.shut(tenant, group))
 
     async def drop(self, tenant: int, group: GroupName) -> None:
@@ -202,38 +202,38 @@ class AsyncClient(ClientBase):
         """Say a message in a group, and return its number.
 
         A member's messages in a group are numbered from 1. A message carries its payload and
-        nothing else, also no time. Its number goes with the say wherever the client knows it, so
-        that the say can be sent again when its answer was lost: a number is given to one message
-        only.
+        nothing else, not even a time. The say carries its number whenever the client knows it, so
+        that the say can be sent again if its answer was lost: only one message gets a number.
 
         The client knows a group's next number if it opened the group, if it has said something
-        there, by `set_number`, or if `number` is given. Else the say goes without a number, is
-        sent once, and teaches the next one.
+        there, by `set_number`, or if `number` is given. Otherwise the say is sent once, without a
+        number, and its reply has the number.
 
         What is certain:
 
-        - What is returned is the number of a message with this payload, which stands. It is this
-          say's own, unless a say was repeated (by the client after a lost connection, or with
-          `repeated`) and another client of the same member had said the very same bytes with this
-          number. Put something into the payload that tells clients apart if several speak for one
-          member.
-        - Where a refusal is raised the message was not said, and will not be.
+        - The number that is returned is that of a message with this payload, which was said for
+          good. It is this say's own, unless a say was repeated (by the client after a lost
+          connection, or with `repeated`) and another client of the same member had said the very
+          same bytes with this number. If several clients speak for one member, put something into
+          the payload that distinguishes them.
+        - If a refusal is raised, the message was not said, and will not be.
         - BadPlaceError to a say that was sent once means that it was not said: its number is not
-          the next one. Where the number was the client's own belief it says the message again,
-          without a number; where `number` was given it raises BadPlaceError.
+          the next one. If the number was the client's own guess, it says the message again, without
+          a number; if `number` was given, it raises BadPlaceError.
         - BadPlaceError to a say that was repeated: the member's own message with that number is
           looked for in its log, for as long as the time limit, since some groups show it only when
-          it is delivered. With the same payload it is taken as this one; with another one this say
-          was not done, which is BadPlaceError again. If it is not found, or the node's number is
-          not known (`Tokens` without `node`), UnknownOutcomeError is raised, and so it is for each
-          other refusal after which a message may have been said.
+          it is delivered. If it has the same payload, it is taken as this message; if it has
+          another one, this say was not done, and BadPlaceError is raised. If it is not found, or
+          the node's number is not known (`Tokens` without `node`), UnknownOutcomeError is raised.
+          So it is for each other refusal after which a message may have been said.
         - ConnectionFailedError, TimedOutError, BadReplyError and UnknownOutcomeError with
-          `is_unknown`: the message may or may not be said, once at most. If their `number` is not
-          None, `say` with this number and `repeated=True` goes on where it ended, also in another
-          client. Of a say without a number only the log can tell.
+          `is_unknown`: the message may or may not be said, at most once. If their `number` is not
+          None, `say` with this number and `repeated=True` continues, also in another client. For a
+          say without a number, only the log shows whether it was done.
 
-        Numbers are one node's, as long as its server runs: a server that was started anew has none
-        of its messages. A payload of more than 4,096 bytes raises TooLongError and is not sent.
+        Numbers are those of one node, while its server runs: a server that was started anew has
+        none of its messages. A payload of more than 4,096 bytes raises TooLongError and is not
+        sent.
         """
         return await self._say_in_turn(tenant, group, payload, number, repeated)
 
@@ -259,9 +259,9 @@ class AsyncClient(ClientBase):
     ) -> Log:
         """Wait in the server until one of some places has entries.
 
-        It waits at most `seconds`, 0 to 60. Each place, 1 to 16 of them, is a tenant, a group, and
-        the first place of its log that is wanted. They are looked at in turn. Returns the entries,
-        `most` at most, with the index of their place, or no entries.
+        It waits at most `seconds`, 0 to 60. Each of the 1 to 16 places is a tenant, a group, and
+        the index of the first entry of its log that is wanted. They are looked at in turn. Returns
+        the entries, at most `most`, with the index of their place, or no entries.
         """
         return await self.run_apart(self.operations.wait(places, most, seconds))
 
@@ -270,9 +270,9 @@ class AsyncClient(ClientBase):
     ) -> AsyncIterator[Entry]:
         """Yield the entries of a log from a place on, each once and in order, as they come.
 
-        It waits in the server, and connects again where the connection ended. It ends when nothing
-        came for `idle` seconds, and never if that is None. Nothing is asked while the caller has
-        an entry in hand. A server that was started anew has other logs: follow it from the start.
+        It waits in the server, and connects again after the connection ended. It ends when nothing
+        came for `idle` seconds, and never if that is None. No request is sent while the caller
+        handles an entry. A server that was started anew has other logs: follow it from the start.
         """
         end = None if idle is None else time.monotonic() + idle
         while True:
@@ -293,21 +293,21 @@ class AsyncClient(ClientBase):
     async def list_groups(self) -> Tuple[GroupRow, ...]:
         """Return all groups that the node lists, room by room.
 
-        These are the groups that live there, and those that were dropped and whose place no later
-        generation took. Needs the administrator's token.
+        These are the groups that live there, and dropped ones whose place no later generation took.
+        Needs the administrator's token.
         """
         return await self.run(self.operations.list_groups())
 
     async def list_page(self, start: int = 0, most: int = MOST_ROWS) -> Listing:
         """Return how many groups the node lists, and some of them, by one request.
 
-        These are at most `most`, up to 64, from `start` on; the first is 0. They come room by
+        These are at most `most`, up to 64, from `start` on; the first is 0. They are listed room by
         room, in the order in which the rooms began. Needs the administrator's token.
         """
         return await self.run(self.operations.list_page(start, most))
 
     async def shutdown(self) -> None:
-        """Have the server end in order. Needs the administrator's token."""
+        """Ask the server to end in order. Needs the administrator's token."""
         await self.run(self.operations.shutdown())
 
     def pipeline(self) -> AsyncPipeline:

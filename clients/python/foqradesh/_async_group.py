@@ -16,13 +16,13 @@ class AsyncGroup:
     """A group at all its members' nodes, by one client of each node.
 
     A message that comes to a node which has not made the group is lost there for good. So `start`
-    makes the group at every member's node, and only then opens it at any.
+    makes the group at every member's node before it opens it at any node.
     """
 
     def __init__(
         self, clients: Mapping[int, AsyncClient], tenant: int, number: GroupName, spec: Spec
     ) -> None:
-        """Names the group, by its number or as a `Generation` of its room.
+        """Name the group, by its number or as a `Generation` of its room.
 
         `clients` has a client of each member's node, by the node's number. Nothing is sent yet.
         """
@@ -51,12 +51,12 @@ class AsyncGroup:
     async def start(self) -> None:
         """Make the group at every member's node, and then open it at each.
 
-        It may be called again after it failed. A node at which the group is there already
-        (SpentError) counts as one that made it if `list_groups` there shows the same spec and the
-        group is not shut, and one at which it is open already (WrongPhaseError) as one that opened
-        it. `list_groups` needs the administrator's token and a server that knows it: else the
-        refusal is raised, with a text that says so. Where a node refuses to make the group, the
-        group is opened nowhere.
+        It may be called again after it failed. A node that refuses with SpentError, because the
+        group is there already, counts as one that made it if `list_groups` there shows the same
+        spec and the group is not shut. A node that refuses with WrongPhaseError, because the group
+        is open already, counts as one that opened it. `list_groups` needs the administrator's token
+        and a server that knows it: otherwise the refusal is raised, with a text that says so. If a
+        node refuses to make the group, the group is opened nowhere.
         """
         await self._run(self._plans.start())
 

@@ -20,10 +20,10 @@ class _Sent:
         self.step = step
         self.frame = frame(step.body)
         self.answer = answer
-        # Whether it was handed to this connection, and whether it was to an earlier one.
+        # Whether it was sent over this connection, and whether it was over an earlier one.
         self.is_sent = False
         self.was_sent = False
-        # When its time is over, once it stood in front.
+        # When its time is over, from the moment when it was in front.
         self.end: Optional[float] = None
 
     def fail(self, error: UnansweredError) -> None:
@@ -50,7 +50,7 @@ class AsyncLink:
     """A connection that is opened when it is needed, and opened again when it ended."""
 
     def __init__(self, address: Tuple[str, int], ssl: Optional[SSLContext] = None) -> None:
-        """Makes a link that has no connection yet. With `ssl` its connections are of TLS."""
+        """Make a link that has no connection yet. With `ssl` its connections are of TLS."""
         self._address = address
         self._ssl = ssl
         self._transport: Optional[asyncio.Transport] = None
@@ -60,7 +60,7 @@ class AsyncLink:
         self._opening: Optional[asyncio.Task[None]] = None
         self._timed: Optional[_Sent] = None
         self._timer: Optional[asyncio.TimerHandle] = None
-        # How many connections failed since a reply came.
+        # The number of connections that failed since a reply came.
         self._losses = 0
 
     async def ask(self, step: Step) -> Answer:
@@ -95,7 +95,7 @@ class AsyncLink:
         await asyncio.sleep(0)  # The transport closes its socket then.
 
     def take(self, data: bytes) -> None:
-        """Take what came, and answer the requests whose replies are whole."""
+        """Take bytes that came, and answer the requests whose replies are whole."""
         self._reader.feed(data)
         while self._finish_front():
             pass
@@ -104,7 +104,7 @@ class AsyncLink:
     def _finish_front(self) -> bool:
         """Answer the request in front if its reply is whole.
 
-        Returns False if it is not, or the connection was lost.
+        Returns False if it is not, or if the connection was lost.
         """
         front = self._waiting[0] if self._waiting else None
         try:
@@ -174,7 +174,7 @@ class AsyncLink:
     def lose(self, error: Exception) -> None:
         """Close the connection.
 
-        What may be sent again waits for the next one, and all else fails.
+        Requests that may be sent again wait for the next one, and all others fail.
         """
         waiting, self._waiting = self._waiting, deque()
         self._losses += 1
@@ -203,7 +203,7 @@ class AsyncLink:
         self._set_timer()
 
     def _set_timer(self) -> None:
-        """Have the request in front time out when it has been there for as long as it may take."""
+        """Set a timer that ends the time of the request in front."""
         front = self._waiting[0] if self._waiting else None
         if front is self._timed:
             return

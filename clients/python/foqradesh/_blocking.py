@@ -1,6 +1,6 @@
-"""What a blocking client, pipeline and room do by themselves.
+"""The parts of a client, a pipeline and a room that are for blocking calls alone.
 
-`_client` and `_room` have the rest, which their twins for asyncio have alike.
+`_client` and `_room` have the rest, which is the same in their twins for asyncio.
 """
 
 from __future__ import annotations
@@ -36,7 +36,7 @@ class Ticket(Generic[T]):
     """A request that was sent ahead, and its result."""
 
     def __init__(self, link: Link, operation: Operation[T]) -> None:
-        """Begins the operation: sends its first request.
+        """Begin the operation: send its first request.
 
         Wrong arguments raise here, before anything is sent.
         """
@@ -54,7 +54,7 @@ class Ticket(Generic[T]):
         return self._result is not None or self._error is not None
 
     def result(self) -> T:
-        """Return the result, or raise what the word of this name of `Client` would.
+        """Return the result, or raise what the method of this name of `Client` would raise.
 
         Waits until it is there.
         """
@@ -74,7 +74,7 @@ class Ticket(Generic[T]):
             self._link.put(self._sent)
 
     def _advance(self, outcome: Union[Answer, FoqradeshError, None]) -> None:
-        """Go on with the operation. Its next request is sent when the result is asked for."""
+        """Continue the operation. Its next request is sent when the result is asked for."""
         try:
             if outcome is None:
                 self._step = next(self._operation)
@@ -89,7 +89,7 @@ class Ticket(Generic[T]):
 
 
 class ClientBase:
-    """A client's connection, and how an operation is run over it."""
+    """A client's connection, and a way to run an operation over it."""
 
     def __init__(
         self,
@@ -98,7 +98,7 @@ class ClientBase:
         time_limit: float,
         ssl: Optional[SSLContext],
     ) -> None:
-        """Makes a client. Nothing is sent yet."""
+        """Make a client. Nothing is sent yet."""
         self.operations = Operations(secrets_of(secrets), time_limit, time.monotonic)
         self._link = Link(check_address(address), ssl)
 
@@ -127,16 +127,16 @@ class ClientBase:
 
 
 class PipelineBase:
-    """What a pipeline has sent ahead."""
+    """The requests that a pipeline has sent ahead."""
 
     def __init__(self, client: ClientBase) -> None:
-        """Makes a pipeline of a client."""
+        """Make a pipeline of a client."""
         self._operations = client.operations
         self._link = client._link
         self._tickets: List[Ticket[object]] = []
 
     def settle(self) -> None:
-        """Take all replies to what was sent until now."""
+        """Take all replies to the requests that were sent until now."""
         tickets, self._tickets = self._tickets, []
         for ticket in tickets:
             with contextlib.suppress(FoqradeshError):  # The ticket keeps it.
@@ -155,7 +155,7 @@ class PipelineBase:
         number: Optional[int],
         repeated: bool,
     ) -> Ticket[int]:
-        """Send a say. Where the next number is not known, it waits for its reply, which tells."""
+        """Send a say. If the next number is not known, wait for its reply, which has it."""
         if number is None and self._operations.next_number(tenant, group) is None:
             self.settle()
         is_learned = number is None and self._operations.next_number(tenant, group) is None
@@ -166,13 +166,13 @@ class PipelineBase:
 
 
 class RoomBase:
-    """How a room's plans are run over clients."""
+    """A room's plans, and a way to run them over clients."""
 
     def __init__(self, clients: Mapping[int, ClientBase], plans: RoomPlans) -> None:
-        """Takes the clients and the plans."""
+        """Take the clients and the plans."""
         self._clients = dict(clients)
         self._plans = plans
-        # Whether the one who followed last drops generations; None: nobody has.
+        # Whether the last call of `follow` drops generations; None: there was no call.
         self._drops: Optional[bool] = None
         self._sleep: Callable[[float], None] = time.sleep
 
@@ -198,9 +198,9 @@ class RoomBase:
             plan.close()
 
     def _pause(self, seconds: float) -> None:
-        """Ask nothing for some seconds. A room that was followed reads on in the meantime.
+        """Make no request for some seconds. A room that was followed reads on in the meantime.
 
-        So one thread can say and read: what a say waits for may be its own reading.
+        So one thread can say and read: a say may have to wait for its own reading.
         """
         end = self._plans.clock() + seconds
         drops, self._drops = self._drops, None
@@ -208,11 +208,11 @@ class RoomBase:
             while drops is not None and self._plans.clock() < end:
                 self._run(self._plans.read(drops, end))
         except FoqradeshError:
-            pass  # Who follows is told.
+            pass  # The caller of `follow` gets it.
         finally:
             self._drops = drops
         self._sleep(max(0.0, end - self._plans.clock()))
 
     def _saying(self) -> ContextManager[None]:
-        """Return the turn of those who say: a room is for one thread, so it is free."""
+        """Return the lock of those who say. A room is for one thread, so it is free."""
         return contextlib.nullcontext()

@@ -1,4 +1,4 @@
-"""Where nodes are asked, and which cluster a tenant lives in, by a file."""
+"""The addresses of nodes, and the cluster that a tenant lives in, from a file."""
 
 from __future__ import annotations
 
@@ -16,13 +16,13 @@ LAST_NODE = 31
 """The greatest number of a node."""
 
 _SESSIONS = 64
-"""How far the port of node 0's sessions is above a server's base port."""
+"""The port of node 0's sessions, counted from a server's base port."""
 
 _PORT = re.compile("[1-9][0-9]{0,4}")
 
 
 def node_address(base_port: int, node: int, host: str = "127.0.0.1") -> Tuple[str, int]:
-    """Return where a node is asked: its host, and the server's base port + 64 + the node."""
+    """Return the address of a node: its host, and the server's base port + 64 + the node."""
     return host, base_port + _SESSIONS + node
 
 
@@ -54,7 +54,7 @@ def _table(tables: Dict[str, Any], name: str) -> Dict[str, Any]:
 
 
 def _address(word: object, path: str) -> Tuple[str, int]:
-    """Return the host and the port of `HOST:PORT`, where an IPv6 host stands in brackets."""
+    """Return the host and the port of `HOST:PORT`, where an IPv6 host is in brackets."""
     if isinstance(word, str):
         host, _, port = word.rpartition(":")
         if host[:1] == "[" and host[-1:] == "]":
@@ -67,12 +67,12 @@ def _address(word: object, path: str) -> Tuple[str, int]:
 
 
 def directory_address(path: Path, tenant: int, node: int) -> Tuple[str, int]:
-    """Return where a node of a tenant's cluster is asked, by a file: the host and the port.
+    """Return the address of a node of a tenant's cluster, by a file: the host and the port.
 
     The file is TOML. Its table `tenant` has the name of the cluster of each tenant, and
-    `cluster.NAME.nodes` where the sessions of its nodes 0, 1 and so on are, as `HOST:PORT`.
-    BadDirectoryError if it does not say it; the message names the field. ImportError before Python
-    3.11.
+    `cluster.NAME.nodes` the addresses of the sessions of its nodes 0, 1 and so on, as `HOST:PORT`.
+    Raises BadDirectoryError if the address is not there; the message names the field. Raises
+    ImportError before Python 3.11.
     """
     check_number(tenant, U16, "a tenant")
     check_number(node, LAST_NODE, "a node")

@@ -1,4 +1,4 @@
-"""What can go wrong with a request, as exceptions."""
+"""The faults of requests, as exceptions."""
 
 from __future__ import annotations
 
@@ -10,41 +10,41 @@ class FoqradeshError(Exception):
 
 
 class MissingTokenError(FoqradeshError):
-    """The client was given neither the token that the request needs nor the key that makes it.
+    """The client has neither the token that the request needs nor the key that makes it.
 
     Nothing was sent.
     """
 
 
 class BadDirectoryError(FoqradeshError):
-    """A directory file cannot be read, or does not say where a node is asked.
+    """A directory file cannot be read, or does not name the address of a node.
 
     The message names the field. Nothing was sent.
     """
 
 
 class RefusedError(FoqradeshError):
-    """The service refused a request. Nothing has changed by it.
+    """The service refused a request. The request changed nothing.
 
-    Each refusal is a class of its own, with its number and its name. docs/FORMATS.md says when
-    each comes.
+    Each refusal is a class of its own, with its number and its name. docs/FORMATS.md says when each
+    is replied.
     """
 
     number: ClassVar[int] = 0
     name: ClassVar[str] = ""
 
     def __init__(self, message: Optional[str] = None) -> None:
-        """Makes the refusal, with its text as the message if none is given."""
+        """Make the refusal, with its text as the message if none is given."""
         super().__init__(message if message is not None else self.text())
 
     @classmethod
     def text(cls) -> str:
-        """Return the text of the reply, as `refused 1 Denied`."""
+        """Return the text of the reply, for instance `refused 1 Denied`."""
         return f"refused {cls.number} {cls.name}"
 
 
 class DeniedError(RefusedError):
-    """The request has not the token that it needs, or the node has not taken the tenant in."""
+    """The request does not have the token that it needs, or the node has not added the tenant."""
 
     number, name = 1, "Denied"
 
@@ -68,13 +68,13 @@ class SpentError(RefusedError):
 
 
 class BadMembersError(RefusedError):
-    """The members are without this node, or beyond the cluster."""
+    """The members do not include this node, or name a node that is not in the cluster."""
 
     number, name = 4, "BadMembers"
 
 
 class OverReserveError(RefusedError):
-    """More is asked than the tenant has or the service gives, or 0 where more is needed.
+    """The request exceeds the tenant's limits or the service's, or has 0 where more is needed.
 
     At `make` also: the node sends packets of version 1 or 2, which name no later generation.
     """
@@ -95,7 +95,7 @@ class TooLongError(RefusedError):
 
 
 class BudgetError(RefusedError):
-    """The member has said as many messages in the group as the group allows it."""
+    """The member has said all messages that the group allows it."""
 
     number, name = 8, "Budget"
 
@@ -107,7 +107,7 @@ class BytesError(RefusedError):
 
 
 class WindowError(RefusedError):
-    """As many messages of the member are unfinished as the group allows. It may be said later."""
+    """The greatest number of the member's messages is unfinished. A later say may succeed."""
 
     number, name = 10, "Window"
 
@@ -115,7 +115,7 @@ class WindowError(RefusedError):
 class BadPlaceError(RefusedError):
     """At a say: its number is not the member's next.
 
-    At a fetch: the place is beyond the log, or too many are asked for.
+    At a fetch: the place is beyond the log, or too many entries are asked for.
     """
 
     number, name = 11, "BadPlace"
@@ -131,13 +131,13 @@ class NoRoomError(RefusedError):
 
 
 class TenantThereError(RefusedError):
-    """The node has taken this tenant in before."""
+    """The node has added this tenant before."""
 
     number, name = 13, "TenantThere"
 
 
 class MalformedError(RefusedError):
-    """The request is none that the server knows. The server ends the connection then."""
+    """The server does not know the request. It ends the connection then."""
 
     number, name = 14, "Malformed"
 
@@ -179,18 +179,17 @@ REFUSAL_TEXTS: Dict[str, Type[RefusedError]] = {refusal.text(): refusal for refu
 
 
 class UnansweredError(FoqradeshError):
-    """A request got no answer that could be read.
+    """A request got no reply that could be read.
 
     `is_unknown` is True if the request may have been done, and False if it was certainly not sent
-    whole. `number` is the number that a say came with, or None. A say with a number may be said
-    again with `number` and `repeated=True`, also by another client, and is done once at most.
-    `generation` is the generation in which a `Room` said it, and None outside a room. `node` is
-    the node that a `Room` or a `Group` asked, or for whose messages it waited, and None outside
-    them.
+    whole. `number` is the number that a say was sent with, or None. A say with a number may be said
+    again with `number` and `repeated=True`, also by another client, and is done at most once.
+    `generation` is the generation in which a `Room` said it, and None outside a room. `node` is the
+    node that a `Room` or a `Group` asked, or for whose messages it waited, and None outside them.
     """
 
     def __init__(self, message: str, *, is_unknown: bool, number: Optional[int] = None) -> None:
-        """Makes the exception."""
+        """Make the exception."""
         super().__init__(message)
         self.is_unknown = is_unknown
         self.number = number
@@ -224,21 +223,21 @@ class TimedOutError(UnansweredError, TimeoutError):
 
 
 class BadReplyError(UnansweredError):
-    """What came is not the text of a reply to the request. The connection is closed then."""
+    """The bytes that came are no reply to the request. The connection is closed then."""
 
     def __init__(
         self, message: str, *, is_unknown: bool = True, number: Optional[int] = None
     ) -> None:
-        """Makes the exception."""
+        """Make the exception."""
         super().__init__(message, is_unknown=is_unknown, number=number)
 
 
 class UnknownOutcomeError(UnansweredError):
-    """A request was answered, but the answer and the log do not tell whether it was done.
+    """A request got a reply, but the reply and the log do not show whether it was done.
 
-    `__cause__` is the refusal of the repeated request, where there was one.
+    `__cause__` is the refusal of the repeated request, if there was one.
     """
 
     def __init__(self, message: str, *, number: Optional[int] = None) -> None:
-        """Makes the exception."""
+        """Make the exception."""
         super().__init__(message, is_unknown=True, number=number)

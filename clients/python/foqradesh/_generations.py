@@ -1,6 +1,6 @@
-"""The generations of a room at its members' nodes: which there are, how one is begun and marked.
+"""The generations of a room at its members' nodes: how they are found, begun and marked.
 
-What is asked of which node is told by plans, which are generators without any connection, as the
+Plans say which node is asked for what. They are generators without any connection, as the
 operations of `_operations` are. `_room` and `_async_room` run them over clients.
 """
 
@@ -45,26 +45,26 @@ MARKER = b"\x00"
 """The last message of a member in a generation."""
 
 PAYLOAD = b"\x01"
-"""What stands before the payload of each other message.
+"""The byte before the payload of each other message.
 
-A message that is no marker and begins otherwise was said by a client that knows no rooms. It is
-counted, and not shown.
+A message that is no marker and begins with another byte was said by a client that knows no rooms.
+It is counted, and not shown.
 """
 
 LONGEST_SAID = LONGEST_PAYLOAD - len(PAYLOAD)
-"""The bytes of the longest payload that is said in a room."""
+"""The number of bytes of the longest payload that is said in a room."""
 
 LAST_GENERATION = U32
 """The last generation of a room."""
 
 LIVING = 4
-"""How many generations of a room live at a node at most."""
+"""The greatest number of generations of a room that live at a node."""
 
 LOOKED_AT = 16
-"""How many generations at a node, down from the greatest, are asked for."""
+"""The number of generations at a node, down from the greatest, that are asked for."""
 
 PASSING = (NoRoomError, WindowError, OutOfMemoryError, UnansweredError)
-"""What may pass by itself."""
+"""The faults that may pass by themselves."""
 
 PAUSES = (0.01, 0.02, 0.05, 0.1, 0.2)
 """The seconds between attempts at one thing. Further attempts use the last one."""
@@ -79,7 +79,7 @@ def spelled(payload: bytes) -> bytes:
 
 @dataclass(frozen=True)
 class Ask:
-    """A node is asked. `waits` is True if it may wait until something is there."""
+    """Ask a node. `waits` is True if the node may wait until an entry is there."""
 
     node: int
     operation: Operation[object]
@@ -88,7 +88,7 @@ class Ask:
 
 @dataclass(frozen=True)
 class Pause:
-    """Nothing is asked for some seconds."""
+    """Make no request for some seconds."""
 
     seconds: float
 
@@ -98,12 +98,12 @@ Plan = Generator[Todo, object, T]
 
 
 def asked(node: int, operation: Operation[T], waits: bool = False) -> Plan[T]:
-    """Ask a node, and return what it answers."""
+    """Ask a node, and return its reply."""
     return cast(T, (yield Ask(node, operation, waits)))
 
 
 def between_tries() -> Iterator[float]:
-    """Yield how long to wait before each further try, in seconds."""
+    """Yield the seconds to wait before each further try."""
     yield from PAUSES
     while True:
         yield PAUSES[-1]
@@ -112,7 +112,7 @@ def between_tries() -> Iterator[float]:
 class Found(NamedTuple):
     """The generations of a room at a node: the greatest that was made, or -1, and those that live.
 
-    These rise.
+    The latter are in rising order.
     """
 
     greatest: int
@@ -120,7 +120,7 @@ class Found(NamedTuple):
 
 
 class Nodes:
-    """The nodes of a room's members, and what is asked of them."""
+    """The nodes of a room's members, and the requests that are made at them."""
 
     def __init__(
         self,
@@ -130,7 +130,7 @@ class Nodes:
         spec: Spec,
         node: int,
     ) -> None:
-        """Names the room, for the member of a node. ValueError: it is no room that can be."""
+        """Name the room, for the member of a node. ValueError: there can be no such room."""
         missing = [member for member in spec.members if member not in operations]
         if missing:
             raise ValueError(f"there is no client of node {missing[0]}, which is a member")
@@ -150,19 +150,19 @@ class Nodes:
         self.clock: Callable[[], float] = operations[node].clock
         # The nodes that crashed.
         self.absent: Set[int] = set()
-        # The latest generations in which this member's marker stands.
+        # The latest generations that have this member's marker.
         self.marked: Set[int] = set()
 
     def name(self, generation: int) -> Generation:
-        """Return how a generation is named."""
+        """Return the name of a generation in requests."""
         return Generation(self.number, generation)
 
     def text(self, generation: int) -> str:
-        """Return how a generation is named to a reader of messages."""
+        """Return the name of a generation for a reader of messages."""
         return f"generation {generation} of group {self.number} of tenant {self.tenant}"
 
     def speaker(self, generation: int) -> int:
-        """Return the node whose member says what this room says in a generation."""
+        """Return the node whose member says the messages of this room in a generation."""
         return self.node
 
     def running(self) -> List[int]:
@@ -170,7 +170,7 @@ class Nodes:
         return [node for node in self.spec.members if node not in self.absent]
 
     def others(self) -> List[int]:
-        """Return the members that did not crash, but for this one."""
+        """Return the members that did not crash, without this one."""
         return [node for node in self.running() if node != self.node]
 
     def exclude(self, node: int) -> None:
@@ -180,7 +180,7 @@ class Nodes:
         self.absent.add(node)
 
     def _persist(self, node: int, begin: Callable[[], Operation[T]], end: float) -> Plan[T]:
-        """Ask until the answer is none that may pass, or the time is over. Raises the last."""
+        """Ask until the reply is no fault that may pass, or time is over. Raises the last one."""
         pauses = between_tries()
         while True:
             try:
@@ -192,10 +192,10 @@ class Nodes:
                 yield Pause(min(left, next(pauses)))
 
     def look(self, node: int, generation: int) -> Plan[Optional[bool]]:
-        """Find out what a node has of a generation.
+        """Find out whether a generation lives at a node.
 
-        Returns True if it lives there, False if it can be made there no more, and None if it may
-        be made still.
+        Returns True if it lives there, False if it can no longer be made there, and None if it may
+        still be made.
         """
         words = self.words[node]
         try:
@@ -209,10 +209,11 @@ class Nodes:
     def greatest(
         self, node: int, known: int = -1, looks: Optional[Dict[int, bool]] = None
     ) -> Plan[int]:
-        """Return the greatest generation that was made at a node; `known` if none above it was.
+        """Return the greatest generation that was made at a node; `known` if none above it was
+        made.
 
-        It is found by doubling and halving: all up to it were made or can be made no more, and
-        none above it was made. `looks` gets what was found out on the way: which of them live.
+        It is found by doubling and halving: all up to it were made or can no longer be made, and
+        none above it was made. `looks` gets the results of the search: which generations live.
         """
         looks = {} if looks is None else looks
         low, high, step = known, LAST_GENERATION + 1, 1
@@ -229,7 +230,7 @@ class Nodes:
     def found(self) -> Plan[Found]:
         """Return the generations at this member's node.
 
-        Those that lie more than 16 before the greatest are taken as dropped.
+        Those that are more than 16 before the greatest are taken as dropped.
         """
         looks: Dict[int, bool] = {}
         greatest = yield from self.greatest(self.node, looks=looks)
@@ -247,7 +248,7 @@ class Nodes:
     def between(self, known: int, started: int) -> Plan[List[int]]:
         """Return the generations above `known` that live here, up to one that was started here.
 
-        `known` was the greatest here before other nodes were asked which is the newest. Others may
+        `known` was the greatest here before other nodes were asked for the newest one. Others may
         have made more of them here meanwhile, and can make none below the one that was started.
         """
         living: List[int] = []
@@ -259,9 +260,9 @@ class Nodes:
     def newest(self, known: int) -> Plan[int]:
         """Return the generation to be in, where `known` is the greatest that this node has made.
 
-        It is the greatest that any node has made; the next one, if something was said in that and
-        this node has missed it. That is not so where it was made here while the others were asked.
-        A node that cannot be asked is passed over.
+        It is the greatest that any node has made. It is the next one after that if something was
+        said in the greatest and this node has missed it, unless it was made here while the others
+        were asked. A node that cannot be asked is skipped.
         """
         newest, is_missed = known, False
         for node in self.others():
@@ -278,7 +279,7 @@ class Nodes:
         return newest
 
     def _is_used(self, node: int, generation: int) -> Plan[bool]:
-        """Return True if a message stands in a generation's log at a node, or it was dropped."""
+        """Return True if a generation's log at a node has a message, or if it was dropped."""
         words = self.words[node]
         try:
             yield from asked(node, words.fetch(self.tenant, self.name(generation), 1, 0))
@@ -291,8 +292,9 @@ class Nodes:
     def start(self, generation: int, end: float) -> Plan[None]:
         """Make a generation at each node, and open it when each has answered.
 
-        Where it is there already, another client was first. Where it can be made no more, its
-        members do without it. What may pass is tried again until the time is over.
+        If it is there already, another client was first. If a node can no longer make it, its
+        member does without it. A request with a fault that may pass is tried again until the time
+        is over.
         """
         if generation > LAST_GENERATION:
             raise SpentError(f"{SpentError.text()}: group {self.number} of tenant {self.tenant} is used up")
@@ -323,9 +325,9 @@ class Nodes:
         return lambda: self.words[node].open(self.tenant, name)
 
     def mark(self, generation: int, end: float) -> Plan[None]:
-        """Say the marker of the member that speaks in a generation, if none is known to stand there.
+        """Say the marker of the member that speaks in a generation, unless it is known to have one.
 
-        A second one does no harm. Where the member has said all that it may, one stands there.
+        A second one does no harm. If the member has said all that it may, there is one.
         """
         if generation not in self.marked:
             yield from self.say_last(self.speaker(generation), generation, MARKER, end)
@@ -334,7 +336,7 @@ class Nodes:
     def say_last(self, node: int, generation: int, message: bytes, end: float) -> Plan[None]:
         """Say a message for the member of a node that may be said twice, if it may say one more.
 
-        What may pass is tried again until the time is over.
+        A request with a fault that may pass is tried again until the time is over.
         """
         words, name = self.words[node], self.name(generation)
 
@@ -345,7 +347,7 @@ class Nodes:
             try:
                 yield from self._persist(node, saying, end)
             except WrongPhaseError:
-                # It was not opened here, or it is shut: then this is refused.
+                # If it was not opened here, or is shut, this is refused.
                 yield from self._persist(node, self._opening(node, generation), end)
                 yield from self._persist(node, saying, end)
         except (BudgetError, BytesError, SpentError):
@@ -353,6 +355,6 @@ class Nodes:
         words.forget_number(self.tenant, name)
 
     def note_marked(self, generation: int) -> None:
-        """Note that this member's marker stands in a generation, or never will."""
+        """Note that a generation has this member's marker, or never will."""
         self.marked = {it for it in self.marked if it > generation - LOOKED_AT}
         self.marked.add(generation)

@@ -1,6 +1,6 @@
-"""What is asked at which node of a group, without any connection.
+"""The requests that are made at the nodes of a group, without any connection.
 
-`_group` runs it over blocking clients, and `_async_group` over those for asyncio.
+`_group` runs them over blocking clients, and `_async_group` over those for asyncio.
 """
 
 from __future__ import annotations
@@ -24,13 +24,13 @@ from ._words import GroupName, Spec, check_group, group_word
 
 T = TypeVar("T")
 
-# What is asked at a node, one after the other; the result of each is sent back.
+# The requests at nodes, one after the other; the result of each is sent back.
 Asked = Tuple[int, Operation[object]]
 Plan = Generator[Asked, object, T]
 
 
 class GroupPlans:
-    """What is asked at which node, without any connection."""
+    """The requests at the nodes of a group, without any connection."""
 
     def __init__(
         self, operations: Mapping[int, Operations], tenant: int, number: GroupName, spec: Spec
@@ -85,7 +85,7 @@ class GroupPlans:
                 raise
 
     def _twice(self, node: int, begin: Callable[[], Operation[None]]) -> Plan[None]:
-        """Ask something, and once more if it is not known whether it was done."""
+        """Make a request, and make it again if it is not known whether it was done."""
         try:
             yield node, begin()
         except UnansweredError as error:
@@ -113,9 +113,9 @@ class GroupPlans:
         return f"group {group_word(self.number)} of tenant {self.tenant} at node {node}"
 
     def _row(self, node: int, refusal: RefusedError) -> Plan[Optional[GroupRow]]:
-        """Find how the node lists the group.
+        """Find the row of the group in the node's list.
 
-        Raises the refusal, with a clear text, if the node does not tell.
+        Raises the refusal, with a clear text, if the node does not list its groups.
         """
         try:
             rows = cast(Tuple[GroupRow, ...], (yield node, self.operations[node].list_groups()))

@@ -1,4 +1,4 @@
-"""What a member says through the leader, and what it reads of a room with one."""
+"""How a member says messages through the leader, and reads a room with one."""
 
 from __future__ import annotations
 
@@ -28,13 +28,14 @@ from ._words import LONGEST_PAYLOAD, MOST_ENTRIES
 
 
 class LedReader(Reader):
-    """What is read at a member's node of a room with a leader: one line of messages."""
+    """The messages that are read at a member's node of a room with a leader, in one line."""
 
     def __init__(self, nodes: LedNodes, speaker: Speaker) -> None:
-        """Makes a reader that has read nothing."""
+        """Make a reader that has read nothing."""
         super().__init__(nodes, speaker)
         self._led = nodes
-        # How many messages of the leader count in a generation that was sealed and read.
+        # The number of the leader's messages that count, for each generation that was sealed and
+        # read.
         self._counts: Dict[int, int] = {}
 
     def _new_log(self, generation: int) -> LedLog:
@@ -67,13 +68,13 @@ class LedReader(Reader):
         return log.place
 
     def keep_up(self) -> Plan[None]:
-        """Say nothing: who goes on says the leader's marker, or seals."""
+        """Say nothing: the member that goes on says the leader's marker, or seals."""
         yield from ()
 
     def _has_all(self, node: int, ended: Ended) -> Plan[bool]:
-        """Find out whether a node has all messages that count of a generation.
+        """Find out whether a node has all messages of a generation that count.
 
-        In one that was sealed other messages stand too, and in another place at each node.
+        A generation that was sealed has other messages too, at another index at each node.
         """
         count = self._counts.get(ended.generation)
         if count is None:
@@ -91,27 +92,27 @@ class LedReader(Reader):
 
 
 class LedSpeaker(Speaker):
-    """What a member says through the leader."""
+    """A member that says its messages through the leader."""
 
     def __init__(self, nodes: LedNodes, patience: float, identity: bytes) -> None:
-        """Makes one that has said nothing."""
+        """Make one that has said nothing."""
         super().__init__(nodes, patience)
         self._led = nodes
         self._identity = identity
-        # What was read of generations at this member's node, and at others where one was sealed.
+        # The logs of generations at this member's node, and at others if one was sealed.
         self._logs: Dict[int, LedLog] = {}
         self._others: Dict[Tuple[int, int], LedLog] = {}
         # The seals that were said, by node and generation.
         self._seals: Set[Tuple[int, int]] = set()
-        # What was said last, if it is not known whether it counts.
+        # The last message that was said, if it is not known whether it counts.
         self._open: Optional[Tuple[RoomNumber, bytes]] = None
 
     def leader(self) -> Optional[int]:
-        """Return the node that leads the generation in which is spoken, or None."""
+        """Return the node that leads the generation in which the member speaks, or None."""
         return None if self.speech is None else self._led.speaker(self.speech.generation)
 
     def _log(self, generation: int) -> LedLog:
-        """Return what was read of a generation here. Those that are long over are forgotten."""
+        """Return the log of a generation here. Those that are long over are forgotten."""
         log = self._logs.get(generation)
         if log is None:
             log = self._logs[generation] = LedLog(generation, self._led, self._led.node)
@@ -122,12 +123,12 @@ class LedSpeaker(Speaker):
         return log
 
     def _is_cut(self, generation: int) -> bool:
-        """Return True if a generation ends by seals: its leader crashed, for some member."""
+        """Return True if seals end a generation, because its leader crashed for some member."""
         crashed = self._led.speaker(generation) in self._led.absent
         return crashed or self._log(generation).sealed is not None
 
     def _close(self, generation: int, end: float) -> Plan[None]:
-        """Have nothing more count in a generation, by its leader's marker or by seals."""
+        """End the messages that count in a generation, by its leader's marker or by seals."""
         if self._log(generation).place == 0:
             yield from self._read_all()
         if self._log(generation).is_over():
@@ -144,16 +145,16 @@ class LedSpeaker(Speaker):
                 self._seals.add((node, generation))
 
     def _is_started(self, generation: int, end: float, is_spare: bool) -> Plan[bool]:
-        """Take a generation that was begun as started: its leader can say something only then."""
+        """Take a begun generation as started: its leader can say something only then."""
         yield from ()
         return True
 
-    # What is read.
+    # Reading.
 
     def _read(self, end: float) -> Plan[bool]:
-        """Read on at this member's node, where generations are not over, and wait a little.
+        """Read on at this member's node in the generations that are not over, and wait a little.
 
-        Returns True if something came, and what is known may have changed.
+        Returns True if something came, so that more may be known.
         """
         nodes = self._led
         yield from self._extend()
@@ -187,7 +188,7 @@ class LedSpeaker(Speaker):
         return True
 
     def _read_all(self) -> Plan[None]:
-        """Read what is there now."""
+        """Read the messages that are there now."""
         while (yield from self._read(self._led.clock())):
             pass
 
@@ -209,12 +210,12 @@ class LedSpeaker(Speaker):
     def _has_first(self, generation: int) -> bool:
         return len(self._log(generation).messages) > 0
 
-    # How a generation begins.
+    # The beginning of a generation.
 
     def _begin(self, generation: int, end: float) -> Plan[None]:
-        """Have the first message of a generation tell how those before it end, if seals end them.
+        """Say, in a generation's first message, how those before it end, if seals end them.
 
-        What was said first is read if another room was first.
+        If another room said a first message before, that message is read.
         """
         if generation == 0 or self._has_first(generation):
             return
@@ -226,7 +227,7 @@ class LedSpeaker(Speaker):
         except BadPlaceError:
             pass
         except UnansweredError as error:
-            error.generation = error.number = None  # What is to be said was not.
+            error.generation = error.number = None  # The message was not said.
             raise
         while not self._has_first(generation) and not self._is_cut(generation):
             if not (yield from self._read(end)) and self._led.clock() >= end:
@@ -242,10 +243,10 @@ class LedSpeaker(Speaker):
             yield from self._settled(message, number, repeated=False)
 
     def _ends_before(self, generation: int, end: float) -> Plan[Dict[int, int]]:
-        """Close the generations before one, and return how many messages count in those sealed.
+        """Close the generations before one, and return how many messages of the sealed ones count.
 
-        It goes down to one whose first message tells of those before it. It ends early if somebody
-        else has said the first message of this generation.
+        It goes down to one whose first message has the ends of those before it. It ends early if
+        another room has said the first message of this generation.
         """
         nodes, ends = self._led, {}
         for lower in range(generation - 1, max(-1, generation - 1 - LIVING), -1):
@@ -267,10 +268,10 @@ class LedSpeaker(Speaker):
         return ends
 
     def _cut(self, generation: int, end: float) -> Plan[Optional[Tuple[int, Optional[bytes]]]]:
-        """Return how many messages stand before the seals of all members, and the first of them.
+        """Return how many messages are before the seals of all members, and the first of them.
 
-        The most that stand before one of the seals are taken, since that node's readers may have
-        shown them. None: some seal is not there yet.
+        The greatest number before one of the seals is taken, because that node's readers may have
+        shown them. Returns None if some seal is not there yet.
         """
         longest: List[bytes] = []
         for node in self._led.sealing(generation):
@@ -281,7 +282,7 @@ class LedSpeaker(Speaker):
                     (node, generation), LedLog(generation, self._led, node)
                 )
                 yield from self._read_other(log, node, end)
-            if log.is_gone:  # It was dropped there, so all that count stand here too.
+            if log.is_gone:  # It was dropped there, so all that count are here too.
                 yield from self._read_all()
                 log = self._log(generation)
                 longest = max(longest, log.messages[: log.last], key=len)
@@ -311,12 +312,12 @@ class LedSpeaker(Speaker):
                 return
 
     def _late(self, what: str, generation: int) -> TimedOutError:
-        """Return that something is not delivered yet, for which a generation's leader is due."""
+        """Return the error that something of a generation's leader is not delivered yet."""
         error = TimedOutError(f"{what} is not delivered yet", is_unknown=False)
         error.at(self._led.speaker(generation))
         return error
 
-    # What is said.
+    # Saying.
 
     def _prepare(self, length: int, end: float) -> Plan[int]:
         """Return the generation in which a message of this length is said next."""
@@ -378,7 +379,7 @@ class LedSpeaker(Speaker):
     ) -> Plan[Optional[RoomNumber]]:
         """Say a message by the leader, with its next number.
 
-        Returns the number, also where it may be said, or None if it was not and more is known now.
+        Returns the number, also if it may be said, or None if it was not and more is known now.
         """
         assert self.speech is not None
         number = RoomNumber(generation, len(self._log(generation).messages) + 1)
@@ -413,7 +414,7 @@ class LedSpeaker(Speaker):
         return number
 
     def _is_said_before(self, number: RoomNumber, message: bytes, end: float) -> Plan[bool]:
-        """Find out whether a message counts whose answer was lost."""
+        """Find out whether a message counts whose reply was lost."""
         if not self._is_cut(number.generation):
             try:
                 yield from self._settled(message, number, repeated=True)
@@ -425,9 +426,9 @@ class LedSpeaker(Speaker):
         return (yield from self._counts(number, message, end))
 
     def _counts(self, number: RoomNumber, message: bytes, end: float) -> Plan[bool]:
-        """Wait until it is known whether a message that was said counts: it has this number then.
+        """Wait until it is known whether a said message counts, that is, has this number.
 
-        UnknownOutcomeError: it is not known before the time is over.
+        Raises UnknownOutcomeError if this is not known before the time is over.
         """
         until = self.end()
         try:

@@ -1,13 +1,14 @@
-"""The log of a generation in which one member, the leader, says everything: what of it counts.
+"""The log of a generation in which one member, the leader, says all messages, and which count.
 
 The generations of a room with a leader form one totally ordered log. It is a virtual log, as in
-Balakrishnan et al., "Virtual Consensus in Delos" (OSDI 2020): where a leader crashed, each member
-that runs seals its generation, and the next leader's first message says where that one ends.
+Balakrishnan et al., "Virtual Consensus in Delos" (OSDI 2020): if a leader crashed, each member that
+runs seals its generation, and the next leader's first message says where that one ends.
 
-**Spelling.** Byte 0 alone is a marker, as in each room. Byte 2 alone is a seal. Byte 3 stands
-before what is said: the node of the member that says it, one byte; eight bytes that the room has
-drawn; and the payload. Byte 4 stands before the ends of generations: for each its number, four
-bytes, and how many of its leader's messages count, two bytes, both with the high byte first.
+**Spelling.** Byte 0 alone is a marker, as in each room. Byte 2 alone is a seal. Byte 3 is followed
+by a message that is said through the leader: the node of the member that says it, one byte; eight
+bytes that the room has drawn; and the payload. Byte 4 is followed by the ends of generations: for
+each its number, four bytes, and how many of its leader's messages count, two bytes, both with the
+high byte first.
 """
 
 from __future__ import annotations
@@ -32,7 +33,7 @@ ENDS = b"\x04"
 """The first byte of a message that says where generations end."""
 
 IDENTITY = 8
-"""How many bytes of a message name the `Room` object that said it."""
+"""The number of bytes of a message that name the `Room` object that said it."""
 
 KINDS_OF_A_LEADER = ("fallack", "fmajority")
 """The kinds in which all running members deliver what any member has, in the leader's order."""
@@ -43,19 +44,19 @@ _LONGEST_ENDS = len(ENDS) + LIVING * _END.size
 
 
 def said_message(node: int, identity: bytes, payload: bytes) -> bytes:
-    """Return the message that carries a payload of a member through the leader."""
+    """Return the message that carries a member's payload through the leader."""
     if not isinstance(payload, (bytes, bytearray, memoryview)):
         raise TypeError("a payload is bytes")
     return SAID + bytes([node]) + identity + bytes(payload)
 
 
 def ends_message(ends: Mapping[int, int]) -> bytes:
-    """Return the message that tells how many messages count in each of some generations."""
+    """Return the message with the number of messages that count in each of some generations."""
     return ENDS + b"".join(_END.pack(*pair) for pair in sorted(ends.items()))
 
 
 def read_ends(message: bytes) -> Dict[int, int]:
-    """Return the ends that a message tells, which are none if it is another message."""
+    """Return the ends that a message has, which are none if it is another message."""
     body = message[len(ENDS) :]
     if message[: len(ENDS)] != ENDS or len(body) % _END.size != 0:
         return {}
@@ -63,7 +64,7 @@ def read_ends(message: bytes) -> Dict[int, int]:
 
 
 class LedNodes(Nodes):
-    """The nodes of a room whose members say everything through one of them at a time."""
+    """The nodes of a room whose members say all messages through one of them at a time."""
 
     def __init__(
         self,
@@ -74,7 +75,7 @@ class LedNodes(Nodes):
         node: int,
         leader: int,
     ) -> None:
-        """Names the room. ValueError: it is none that can be, or can have a leader."""
+        """Name the room. Raises ValueError if there can be none, or it can have no leader."""
         super().__init__(operations, tenant, number, spec, node)
         if leader not in spec.members:
             raise ValueError(f"the leader, node {leader}, is no member")
@@ -95,7 +96,7 @@ class LedNodes(Nodes):
     def note_seals(self, logs: Sequence[LedLog]) -> None:
         """Note that the leaders have crashed whose generations this member has sealed here.
 
-        So it is enough that one room was told.
+        So it is enough to call `exclude` for one room.
         """
         for log in logs:
             leader = self.speaker(log.generation)
@@ -103,15 +104,15 @@ class LedNodes(Nodes):
                 self.absent.add(leader)
 
     def sealing(self, generation: int) -> List[int]:
-        """Return the nodes whose members seal a generation: those that run, but for its leader."""
+        """Return the nodes whose members seal a generation: those that run, without its leader."""
         return [node for node in self.running() if node != self.speaker(generation)]
 
 
 class LedLog(ReadLog):
-    """What was read of a generation's log at a node."""
+    """The entries of a generation's log that were read at a node."""
 
     def __init__(self, generation: int, nodes: LedNodes, node: int) -> None:
-        """Makes one of which nothing was read."""
+        """Make one of which nothing was read."""
         super().__init__(generation, ())
         self._leader = nodes.speaker(generation)
         self._node = node
@@ -121,9 +122,9 @@ class LedLog(ReadLog):
         self.used = 0
         # The number of its last message: its marker, or the last that it may say.
         self.last: Optional[int] = None
-        # How many of them stood before the seal of this node's member.
+        # The number of them before the seal of this node's member.
         self.sealed: Optional[int] = None
-        # Whether a later generation tells how this one ends, and how many messages count then.
+        # Whether a later generation says how this one ends, and how many messages count then.
         self.is_decided = False
         self.end: Optional[int] = None
         self._shown = 0
@@ -168,11 +169,11 @@ class LedLog(ReadLog):
         return self.messages[0] if self.count() > 0 and self.messages[0] != MARKER else None
 
     def is_empty(self) -> bool:
-        """Return True if nothing that was said here counts."""
+        """Return True if no message that was said here counts."""
         return self.is_over() and self.first() is None
 
     def fresh(self) -> List[RoomEntry]:
-        """Return what counts and was not shown before."""
+        """Return the messages that count and were not shown before."""
         entries = []
         for number in range(self._shown + 1, self.count() + 1):
             message = self.messages[number - 1]
@@ -184,10 +185,10 @@ class LedLog(ReadLog):
 
 
 def decide(logs: Sequence[LedLog]) -> None:
-    """Note the ends that the first messages of generations tell. The logs are lowest first.
+    """Note the ends in the first messages of generations. The logs are given lowest first.
 
-    The first message of the next generation in which something counts tells of all those before it
-    that no other one tells of. Where it says nothing of one, that one ends with its marker.
+    The first message of the next generation in which something counts has the ends of all those
+    before it that no other one has. If it does not name one, that one ends with its marker.
     """
     for place in range(len(logs) - 2, -1, -1):
         for later in logs[place + 1 :]:

@@ -15,12 +15,12 @@ from ._operations import Answer, Step
 from ._wire import FrameReader, frame
 
 GATHERED = 16_384
-"""The bytes of requests that are gathered before they are sent, unless a reply is asked for."""
+"""The bytes of requests that are gathered before they are sent, if no reply is asked for."""
 
 MOST_AHEAD = 1_024
-"""The most requests that are sent ahead of their replies."""
+"""The greatest number of requests that are sent ahead of their replies."""
 
-# The bytes that are taken at once: more than a record of TLS has, so that none of it is left over.
+# The bytes that are taken at once: more than a record of TLS has, so that none of it is left.
 _PIECE = 65_536
 
 # Nothing can be sent or taken now.
@@ -30,25 +30,25 @@ _PAUSES = (0.01, 0.05, 0.1, 0.2, 0.5, 1.0)
 
 
 def pause(losses: int) -> float:
-    """Return how long to wait before the next connection, when some were lost since a reply."""
+    """Return the wait before the next connection, after some were lost since a reply."""
     return 0.0 if losses <= 1 else _PAUSES[min(losses - 1, len(_PAUSES)) - 1]
 
 
 class Sent:
-    """A request in a link, and what became of it."""
+    """A request in a link, and its outcome."""
 
     def __init__(self, step: Step, tell: Callable[[Union[Answer, UnansweredError]], None]) -> None:
-        """Makes it. `tell` is called once, with its reply or with why there is none."""
+        """Make it. `tell` is called once, with its reply or with the reason why there is none."""
         self.step = step
         self.frame = frame(step.body)
-        # Where it ends among the connection's bytes, and whether it was sent over an earlier one.
+        # Its end among the connection's bytes, and whether it was sent over an earlier one.
         self.end = 0
         self.was_sent = False
         self.is_over = False
         self._tell = tell
 
     def finish(self, outcome: Union[Answer, UnansweredError]) -> None:
-        """Tell what became of it."""
+        """Call `tell` with the outcome."""
         self.is_over = True
         self._tell(outcome)
 
@@ -57,7 +57,7 @@ class Link:
     """A connection that is opened when it is needed, and opened again when it ended."""
 
     def __init__(self, address: Tuple[str, int], ssl: Optional[SSLContext] = None) -> None:
-        """Makes a link that has no connection yet. With `ssl` its connections are of TLS."""
+        """Make a link that has no connection yet. With `ssl` its connections are of TLS."""
         self._address = address
         self._ssl = ssl
         self._socket: Optional[socket.socket] = None
@@ -65,10 +65,10 @@ class Link:
         self._reader = FrameReader()
         self._waiting: Deque[Sent] = deque()
         self._out = bytearray()
-        # The count of this connection's bytes, and of those that the system has taken.
+        # The number of this connection's bytes, and of those that the system has taken.
         self._made = 0
         self._taken = 0
-        # How many connections failed since a reply came.
+        # The number of connections that failed since a reply came.
         self._losses = 0
 
     def put(self, sent: Sent) -> None:
@@ -86,7 +86,7 @@ class Link:
     def settle(self, sent: Sent) -> None:
         """Send and take replies until a request is over.
 
-        The one in front may take as long as it says.
+        The one in front may take as long as its step says.
         """
         front, end = None, 0.0
         while not sent.is_over:
@@ -115,7 +115,7 @@ class Link:
         sent.end = self._made
 
     def _drop_ended(self) -> None:
-        """Close a connection that ended while nothing was asked, or has bytes nobody asked for."""
+        """Close a connection that ended while no request waited, or has bytes of no reply."""
         assert self._socket is not None
         try:
             piece: Optional[bytes] = self._socket.recv(1)
@@ -127,7 +127,7 @@ class Link:
             self._shut()
 
     def _connect(self, left: float) -> None:
-        """Open the connection and send all that waits.
+        """Open the connection and send all requests that wait.
 
         Without one, requests fail that were never sent.
         """
@@ -192,7 +192,7 @@ class Link:
             del self._out[:count]
 
     def _take(self) -> bool:
-        """Take what came, and finish the requests whose replies are whole.
+        """Take bytes that came, and finish the requests whose replies are whole.
 
         Returns False if nothing came.
         """
@@ -211,7 +211,7 @@ class Link:
     def _finish_front(self) -> bool:
         """Finish the request in front if its reply is whole.
 
-        Returns False if it is not, or the connection was lost.
+        Returns False if it is not, or if the connection was lost.
         """
         front = self._waiting[0]
         try:
@@ -244,7 +244,7 @@ class Link:
     def _lose(self, error: Exception) -> None:
         """Close the connection.
 
-        What may be sent again waits for the next one, and all else fails.
+        Requests that may be sent again wait for the next one, and all others fail.
         """
         kept: Deque[Sent] = deque()
         failed: Deque[Sent] = deque()

@@ -1,4 +1,4 @@
-"""The next number of a member's messages in each group, as far as a client knows it."""
+"""The next number of a member's messages in each group, if a client knows it."""
 
 from __future__ import annotations
 
@@ -18,15 +18,15 @@ class Taken:
 
 
 class Numbers:
-    """What is believed of each group's next number. A belief that fails begins a new turn.
+    """The expected next number of each group. An expectation that fails begins a new turn.
 
-    Says that are sent ahead of one another take numbers that follow one another. Where one of them
-    fails, those behind it were sent in an older turn, and what becomes of them changes no belief
-    any more.
+    Says that are sent ahead of one another take numbers that follow one another. If one of them
+    fails, those behind it were sent in an older turn, and their results no longer change what is
+    expected.
     """
 
     def __init__(self) -> None:
-        """Knows no number yet."""
+        """Make one that knows no number."""
         # The next number of each group, and the turn in which it is to be taken.
         self._next: Dict[Address, Taken] = {}
         self._turns = 0
@@ -37,16 +37,16 @@ class Numbers:
         return None if known is None else known.number
 
     def set(self, address: Address, number: int) -> None:
-        """Know the next number, in a new turn."""
+        """Set the next number, in a new turn."""
         self._turns += 1
         self._next[address] = Taken(number, self._turns)
 
     def forget(self, address: Address) -> None:
-        """Know no next number any more. What is known later is of a new turn."""
+        """Forget the next number. A number that is known later is of a new turn."""
         self._next.pop(address, None)
 
     def take(self, address: Address) -> Optional[Taken]:
-        """Return the next number, which is the one above from now on. None if it is not known."""
+        """Return the next number, and expect the one above it then. None if it is not known."""
         taken = self._next.get(address)
         if taken is not None:
             self._next[address] = Taken(taken.number + 1, taken.turn)
@@ -60,12 +60,12 @@ class Numbers:
         return taken
 
     def give_back(self, address: Address, taken: Optional[Taken]) -> None:
-        """Know that a number was not used: it is the next one still, if of this turn."""
+        """Note that a number was not used: it is still the next one, if it is of this turn."""
         if taken is not None and self._is_of_this_turn(address, taken):
             self.set(address, taken.number)
 
     def lose(self, address: Address, taken: Optional[Taken]) -> None:
-        """Know no next number any more, if this one was taken in this turn."""
+        """Forget the next number, if this one was taken in this turn."""
         if taken is not None and self._is_of_this_turn(address, taken):
             self.forget(address)
 

@@ -1,8 +1,8 @@
-"""What each word of a client does, without any connection.
+"""The operation of each method of a client, without any connection.
 
-An operation is a generator. It yields the requests that it makes, one at a time, and is given the
-reply to each; what it returns is the word's result. `_blocking` runs operations over a blocking
-socket, `_async` over asyncio.
+An operation is a generator. It yields the requests that it makes, one at a time, and receives the
+reply to each; it returns the method's result. `_blocking` runs operations over a blocking socket,
+`_async` over asyncio.
 """
 
 from __future__ import annotations
@@ -42,7 +42,7 @@ from ._words import (
 )
 
 FOLLOW_WAIT = 30.0
-"""How long a follower waits in the server at a time, in seconds."""
+"""The seconds for which a follower waits in the server at a time."""
 
 Found = Union[Reply, Tuple[int, RefusedError]]
 
@@ -74,29 +74,29 @@ Kind = TypeVar("Kind", Done, Said, Log, Status, Listing)
 Operation = Generator[Step, Answer, T]
 Place = Tuple[int, GroupName, int]
 
-# After a repetition these say that it was never done: its number is free, and no copy of it
-# that comes later can be done.
+# After a repetition these mean that it was never done: its number is free, and no copy of it that
+# comes later can be done.
 _NEVER_DONE = (TooLongError, BudgetError, BytesError)
-# After a repetition these leave open whether it was done, and the log may tell.
+# After a repetition these leave open whether it was done, and the log may show it.
 _LOG_MAY_TELL = (BadPlaceError, WrongPhaseError)
 
 
 def milliseconds(seconds: float) -> int:
     """Return the least whole number of milliseconds that is no shorter than these seconds.
 
-    A wait that is cut down ends before its time, and its caller asks again for no wait at all.
-    Millionths of a millisecond are the fault of binary fractions, and do not count.
+    If a wait were cut down, it would end before its time, and its caller would ask again for no
+    wait at all. Millionths of a millisecond come from binary fractions, and do not count.
     """
     return math.ceil(round(seconds * 1000, 6))
 
 
 def wait_until(end: Optional[float]) -> float:
-    """Return how long a follower waits that ends at a time of the monotonic clock, or never."""
+    """Return the wait of a follower that ends at a time of the monotonic clock, or never."""
     return FOLLOW_WAIT if end is None else min(FOLLOW_WAIT, max(0.0, end - time.monotonic()))
 
 
 def address_of(tenant: int, group: GroupName) -> Address:
-    """Return under which address the next number of a group is known."""
+    """Return the address under which the next number of a group is kept."""
     return (tenant, *check_group(group))
 
 
@@ -113,10 +113,10 @@ def _expect(answer: Answer, kind: Type[Kind]) -> Kind:
 
 
 class Operations:
-    """The words of one client: its secrets, the numbers that it knows, and its time limit."""
+    """The operations of one client: its secrets, the numbers that it knows, and its time limit."""
 
     def __init__(self, secrets: Secrets, time_limit: float, clock: Callable[[], float]) -> None:
-        """Makes the words. `clock` returns seconds."""
+        """Make the operations. `clock` returns seconds."""
         if not time_limit > 0:
             raise ValueError("a time limit is above 0 seconds")
         self.secrets = secrets
@@ -125,9 +125,9 @@ class Operations:
         self.clock = clock
 
     def set_number(self, tenant: int, group: GroupName, number: int) -> None:
-        """Know the next number of the member's messages in a group.
+        """Set the next number of the member's messages in a group.
 
-        ValueError if it is not 1 to 65,536.
+        Raises ValueError if it is not 1 to 65,536.
         """
         if check_number(number, 65_536, "a message's number") == 0:
             raise ValueError("messages are numbered from 1")
@@ -138,7 +138,7 @@ class Operations:
         return self.numbers.next(address_of(tenant, group))
 
     def forget_number(self, tenant: int, group: GroupName) -> None:
-        """Know no next number of the member's messages in a group any more."""
+        """Forget the next number of the member's messages in a group."""
         self.numbers.forget(address_of(tenant, group))
 
     def _member(self, tenant: int, group: GroupName) -> str:
@@ -154,7 +154,7 @@ class Operations:
     def add_tenant(
         self, tenant: int, key: bytes, groups: int, messages: int, total_bytes: int, window: int
     ) -> Operation[None]:
-        """Take a tenant in."""
+        """Add a tenant."""
         token = self.secrets.admin()
         body = requests.tenant_body(token, tenant, key, groups, messages, total_bytes, window)
         _expect((yield self._change(body)), Done)
@@ -238,7 +238,7 @@ class Operations:
     ) -> Operation[int]:
         """Say a message once.
 
-        With `again` one that was certainly not said is said with another number.
+        With `again`, a message that was certainly not said is said with another number.
         """
         if len(payload) > LONGEST_PAYLOAD:
             raise TooLongError()
@@ -264,9 +264,9 @@ class Operations:
         given: Optional[int],
         repeated: bool,
     ) -> Operation[Optional[int]]:
-        """Say with one number.
+        """Say a message with one number.
 
-        Returns the number, or None if another message has it, so this one was not said.
+        Returns the number, or None if another message has it, so that this one was not said.
         """
         address = address_of(tenant, group)
         token = self._member(tenant, group)
@@ -297,7 +297,7 @@ class Operations:
     def _refused(self, address: Address, taken: Optional[Taken], refusal: RefusedError) -> None:
         """Note that a say was certainly not done.
 
-        Raises the refusal, but for another message's number.
+        Raises the refusal, unless it is that another message has the number.
         """
         if isinstance(refusal, BadPlaceError):
             self.numbers.lose(address, taken)

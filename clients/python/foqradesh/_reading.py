@@ -1,4 +1,4 @@
-"""What is read of a room at a member's node, and when a generation is dropped there."""
+"""How a room is read at a member's node, and when a generation is dropped there."""
 
 from __future__ import annotations
 
@@ -37,8 +37,8 @@ from ._words import MOST_ENTRIES, Spec
 class RoomEntry:
     """A message of a room.
 
-    `origin` is the node that said it, `generation` and `number` which of that member's messages it
-    is. Numbers begin at 1 in each generation.
+    `origin` is the node that said it. `generation` and `number` identify it among that member's
+    messages. Numbers begin at 1 in each generation.
     """
 
     origin: int
@@ -48,14 +48,14 @@ class RoomEntry:
 
 
 class Heard:
-    """What was read of a member's messages in a generation.
+    """The messages of a member in a generation that were read.
 
     All numbers up to `front` were read, and those of `ahead`. `end` is the number of its last
     message, the marker.
     """
 
     def __init__(self) -> None:
-        """Makes one of which nothing was read."""
+        """Make one of which nothing was read."""
         self.front = 0
         self.ahead: Set[int] = set()
         self.end: Optional[int] = None
@@ -65,7 +65,7 @@ class Heard:
     def hear(self, entry: Entry, spec: Spec) -> bool:
         """Note a message. Returns True if it is not behind the last one.
 
-        A member that has said all that it may has ended, also without a marker.
+        A member that has said all that it may has ended, also if it said no marker.
         """
         number = entry.number
         self.count += 1
@@ -84,20 +84,20 @@ class Heard:
 
 
 class ReadLog:
-    """What was read of a generation's log at this member's node."""
+    """The entries of a generation's log that were read at this member's node."""
 
     def __init__(self, generation: int, members: Sequence[int]) -> None:
-        """Makes one of which nothing was read."""
+        """Make one of which nothing was read."""
         self.generation = generation
         self.place = 0
         # Another client of the node has dropped it.
         self.is_gone = False
         self.heard = {node: Heard() for node in members}
-        # What was read and is not shown, as something before it is not read yet.
+        # Entries that were read and are not shown, because an earlier one is not read yet.
         self.held: Dict[int, List[RoomEntry]] = {node: [] for node in members}
 
     def take(self, entry: Entry, spec: Spec) -> None:
-        """Note an entry that was read. What is to be shown of it is held."""
+        """Note an entry that was read. If it is to be shown, it is held."""
         is_before_the_end = self.heard[entry.origin].hear(entry, spec)
         payload = entry.payload[len(PAYLOAD) :]
         if is_before_the_end and entry.payload == PAYLOAD + payload:
@@ -114,8 +114,8 @@ class ReadLog:
 class Ended:
     """A generation that was read to its end, and is to be dropped at this member's node.
 
-    It is dropped when `needed` entries stand in the log of each other member's node. `have` are
-    the nodes where they are known to.
+    It is dropped when the log of each other member's node has `needed` entries. `have` are the
+    nodes whose logs are known to have them.
     """
 
     generation: int
@@ -126,13 +126,13 @@ class Ended:
 
 
 class Reader:
-    """What is read at a member's node."""
+    """How a room is read at a member's node."""
 
     def __init__(self, nodes: Nodes, speaker: Speaker) -> None:
-        """Makes a reader that has read nothing."""
+        """Make a reader that has read nothing."""
         self._nodes = nodes
         self._speaker = speaker
-        # What is to be shown, in order.
+        # The entries to show, in order.
         self.ready: Deque[RoomEntry] = deque()
         # The generations that are read, by number, and the greatest that was read to its end.
         self._logs: Dict[int, ReadLog] = {}
@@ -140,7 +140,7 @@ class Reader:
         self._ended: List[Ended] = []
         # A marker could not be said yet.
         self._owes = False
-        # Whether the last read took something, though it may not be shown yet.
+        # Whether the last read took entries, though they may not be shown yet.
         self.has_taken = False
 
     def _add(self, generation: int) -> None:
@@ -154,11 +154,11 @@ class Reader:
         return [self._logs[generation] for generation in sorted(self._logs)]
 
     def _is_shown(self, ended: Ended) -> bool:
-        """Return True if all that was read of a generation was shown."""
+        """Return True if all entries of a generation that were read were shown."""
         return all(entry.generation != ended.generation for entry in self.ready)
 
     def read(self, seconds: float) -> Plan[None]:
-        """Take what is there to read. If there is nothing wait for it, at most these seconds."""
+        """Take the entries that are there. If there is none, wait at most these seconds."""
         nodes, now, self.has_taken = self._nodes, self._nodes.clock(), False
         due = [max(0.0, it.try_at - now) for it in self._ended if self._is_shown(it)]
         seconds = min([seconds, *due])
@@ -189,7 +189,7 @@ class Reader:
         self.release()
 
     def _take(self, log: ReadLog, entries: Sequence[Entry]) -> None:
-        """Note entries of a log, and have shown what may be."""
+        """Note entries of a log, and show those that may be shown."""
         for entry in entries:
             log.place += 1
             if entry.origin in log.heard:
@@ -197,7 +197,7 @@ class Reader:
                 self._show(entry.origin)
 
     def _enter(self) -> Plan[None]:
-        """Find the generations that are read next, behind the last one that was."""
+        """Find the generations that are read next, behind the last one that was read."""
         nodes, after = self._nodes, self._last + 1
         if self._last >= 0 and after <= LAST_GENERATION:
             if (yield from nodes.look(nodes.node, after)):
@@ -245,9 +245,9 @@ class Reader:
             log.is_gone = log.is_gone or not is_living
 
     def _is_over(self, log: ReadLog, origin: int) -> bool:
-        """Return True if nothing more of a member is to be shown from a generation.
+        """Return True if no more messages of a member are to be shown from a generation.
 
-        Of a member that crashed what comes until the others have ended is shown.
+        Messages of a member that crashed are shown until the others have ended.
         """
         if log.is_gone or log.heard[origin].is_whole():
             return True
@@ -255,7 +255,7 @@ class Reader:
         return origin not in running and all(log.heard[node].is_whole() for node in running)
 
     def _show(self, origin: int) -> None:
-        """Have shown what may be of a member's messages."""
+        """Show the messages of a member that may be shown."""
         for log in self._lowest_first():
             self.ready.extend(log.held[origin])
             log.held[origin].clear()
@@ -263,7 +263,7 @@ class Reader:
                 return
 
     def release(self) -> None:
-        """Have shown what may be, and end the generations that were read to their ends."""
+        """Show the messages that may be shown. End generations that were read to their ends."""
         self._show_all()
         for log in self._lowest_first():
             if not self._has_ended(log):
@@ -277,25 +277,25 @@ class Reader:
                 )
 
     def _show_all(self) -> None:
-        """Have shown what may be of all members' messages."""
+        """Show the messages of all members that may be shown."""
         for origin in self._nodes.spec.members:
             self._show(origin)
 
     def _has_ended(self, log: ReadLog) -> bool:
-        """Return True if nothing more is to be shown from a generation."""
+        """Return True if no more messages are to be shown from a generation."""
         return all(self._is_over(log, origin) for origin in self._nodes.spec.members)
 
     def _needed(self, log: ReadLog) -> int:
-        """Return how many entries each other running node's log has in the end.
+        """Return the number of entries that each other running node's log has in the end.
 
-        In a best-effort group that does not hold of what a member said that crashed.
+        In a best-effort group this is not so for messages of a member that crashed.
         """
         if self._nodes.spec.kind not in ("beb", "fbeb"):
             return log.place
         return sum(log.heard[node].count for node in self._nodes.running())
 
     def keep_up(self) -> Plan[None]:
-        """Say this member's marker where another one has gone on."""
+        """Say this member's marker if another member has gone on."""
         nodes, self._owes = self._nodes, False
         for log in self._lowest_first():
             if log.heard[nodes.node].end is not None:
@@ -312,7 +312,7 @@ class Reader:
             self._speaker.leave(log.generation)
 
     def settle(self, drops: bool) -> Plan[None]:
-        """Drop generations that were read to their ends, where nobody needs them any more."""
+        """Drop the generations that were read to their ends and that nobody needs any more."""
         if not drops:
             self._ended.clear()
         for ended in list(self._ended):
@@ -335,8 +335,9 @@ class Reader:
     def _is_dropped(self, ended: Ended) -> Plan[bool]:
         """Drop a generation at this member's node if each other node has the whole log.
 
-        What waits in a dropped group is given up, so a node that lacks messages might never get
-        them. Where this client may not ask a node, the end of the next generation is waited for.
+        The messages that wait in a dropped group are discarded, so a node that lacks some might
+        never get them. If this client may not ask a node, it waits for the end of the next
+        generation.
         """
         nodes, name = self._nodes, self._nodes.name(ended.generation)
         for node in nodes.others():

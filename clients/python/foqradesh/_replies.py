@@ -1,4 +1,4 @@
-"""What a server answers, read exactly: a text that is none of a reply raises BadReplyError."""
+"""The replies of a server, read exactly: a text that is no reply raises BadReplyError."""
 
 from __future__ import annotations
 
@@ -36,7 +36,7 @@ class Said:
 
 @dataclass(frozen=True)
 class Entry:
-    """A message in a log: the node that said it, its number among that member's, its payload."""
+    """A message in a log: the node that said it, its number there, and its payload."""
 
     origin: int
     number: int
@@ -45,7 +45,7 @@ class Entry:
 
 @dataclass(frozen=True)
 class Log:
-    """Entries of a log, and the index of their place among those that a wait named."""
+    """Entries of a log, and the index of their place among those of a wait."""
 
     entries: Tuple[Entry, ...]
     index: int = 0
@@ -53,7 +53,7 @@ class Log:
 
 @dataclass(frozen=True)
 class Status:
-    """The figures of a node, each with its name, in the order in which they came."""
+    """The figures of a node, each with its name, in the order of the reply."""
 
     figures: Tuple[Tuple[str, int], ...]
 
@@ -72,10 +72,10 @@ class GroupRow:
 
 @dataclass(frozen=True)
 class Listing:
-    """How many groups a node lists in all, and some of them.
+    """The number of all groups that a node lists, and some of them.
 
-    It lists rooms in the order in which they began, and of each the generations that live there
-    and those that were dropped and whose place no later one took.
+    It lists rooms in the order in which they began. For each it lists the generations that live
+    there, and dropped ones whose place no later one took.
     """
 
     total: int
@@ -94,9 +94,9 @@ def _words(body: bytes) -> List[str]:
 
 
 def _reading(body: bytes, read: Callable[[List[str]], Read]) -> Union[Read, RefusedError]:
-    """Return what `read` makes of the words, or the refusal that they spell.
+    """Return the result of `read` for the words, or the refusal that they spell.
 
-    BadReplyError if they are neither.
+    Raises BadReplyError if they are neither.
     """
     try:
         words = _words(body)
@@ -126,7 +126,7 @@ def read_done(body: bytes) -> Union[Done, RefusedError]:
 
 
 def read_said(body: bytes, number: Optional[int] = None) -> Union[Said, RefusedError]:
-    """Return the reply to a say, which names the number that was asked for, if one was."""
+    """Return the reply to a say, which has the number that was asked for, if one was."""
 
     def read(words: List[str]) -> Said:
         _want(len(words) == 2 and words[0] == "said", "it is not `said SEQ`")
@@ -162,8 +162,8 @@ def read_log(body: bytes, most: int = MOST_ENTRIES) -> Union[Log, RefusedError]:
 def read_found(body: bytes, mosts: Tuple[int, ...]) -> Union[Log, RefusedError, Tuple[int, RefusedError]]:
     """Return the reply to a wait at places, each with the most entries that are wanted there.
 
-    A refusal at one of several places comes with that place's index. Only an empty log has no
-    index then: nothing was there in time.
+    A refusal at one of several places has that place's index. Only an empty log has no index then,
+    which means that no entry came in time.
     """
 
     def read(words: List[str]) -> Union[Log, Tuple[int, RefusedError]]:
@@ -192,7 +192,7 @@ def _figure(word: str) -> Tuple[str, int]:
 
 
 def read_status(body: bytes) -> Union[Status, RefusedError]:
-    """Return the reply to `status`: a name and a number of each figure."""
+    """Return the reply to `status`: the name and the number of each figure."""
 
     def read(words: List[str]) -> Status:
         _want(words[0] == "status", "it is not `status`")

@@ -1,6 +1,6 @@
 """The bodies of requests.
 
-Arguments that no request could carry raise ValueError or TypeError, and nothing is sent.
+Arguments that no request can carry raise ValueError or TypeError, and nothing is sent.
 """
 
 from __future__ import annotations
@@ -34,7 +34,7 @@ def _address(tenant: int, group: GroupName) -> Tuple[int, str]:
 def tenant_body(
     token: str, tenant: int, key: bytes, groups: int, messages: int, total_bytes: int, window: int
 ) -> bytes:
-    """Return the body that takes a tenant in."""
+    """Return the body that adds a tenant."""
     check_number(tenant, U16, "a tenant")
     limits = (
         check_number(groups, U32, "groups"),

@@ -1,11 +1,11 @@
 """A room: a number of a tenant's groups with its generations, as one conversation without end.
 
-What is asked of which node is told by plans, which need no connection. `_room` runs them over
-blocking clients, and `_async_room` over those for asyncio.
+Plans say which node is asked for what. They need no connection. `_room` runs them over blocking
+clients, and `_async_room` over those for asyncio.
 
-**Spelling.** The first byte of a message in a room tells what it is: byte 0 alone is a marker, the
-last message of its member in the generation, and byte 1 stands before a payload. `_leader_log`
-tells how a room with a leader spells.
+**Spelling.** The first byte of a message in a room is its type: byte 0 alone is a marker, the last
+message of its member in the generation, and byte 1 is followed by a payload. `_leader_log`
+describes the messages of a room with a leader.
 """
 
 from __future__ import annotations
@@ -22,7 +22,7 @@ from ._speaking import Speaker
 from ._words import Spec
 
 PATIENCE = 30.0
-"""How long a say waits for what may pass, in seconds, if nothing else is given."""
+"""The seconds for which a say waits for faults that may pass, if no other number is given."""
 
 
 def named(
@@ -32,7 +32,7 @@ def named(
     node: int,
     leader: Optional[int],
 ) -> Nodes:
-    """Return the nodes of a room, which is named by its tenant and its number."""
+    """Return the nodes of the room with this tenant and this number."""
     if leader is None:
         return Nodes(operations, *place, spec, node)
     return LedNodes(operations, *place, spec, node, leader)
@@ -42,7 +42,7 @@ class RoomPlans:
     """The plans of a room."""
 
     def __init__(self, nodes: Nodes, patience: float) -> None:
-        """Makes the plans of a room at its members' nodes."""
+        """Make the plans of a room at its members' nodes."""
         self.nodes = nodes
         self.clock = nodes.clock
         if isinstance(nodes, LedNodes):
@@ -58,7 +58,7 @@ class RoomPlans:
             yield from self.speaker.join(self.speaker.end())
 
     def read(self, drops: bool, end: Optional[float]) -> Plan[None]:
-        """Do what is due, and read what comes before the end, a time of the clock."""
+        """Do the work that is due, and read until the end, a time of the clock."""
         yield from self.reader.settle(drops)
         yield from self.reader.keep_up()
         left = FOLLOW_WAIT if end is None else max(0.0, end - self.clock())

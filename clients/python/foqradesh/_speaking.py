@@ -1,4 +1,4 @@
-"""What a member says in a room, and in which generation."""
+"""How a member says messages in a room, and in which generation."""
 
 from __future__ import annotations
 
@@ -34,17 +34,17 @@ from ._replies import Entry
 from ._words import LONGEST_PAYLOAD, MOST_ENTRIES, Spec
 
 AGAIN = 1.0
-"""The least time, in seconds, after which it is tried again to go on before a generation is full."""
+"""The least number of seconds after which going on before a generation is full is tried again."""
 
 SLOWER = 10.0
-"""How many times as long as a failed try what is less urgent is let be, at least."""
+"""The least factor by which a less urgent try waits longer than a failed try took."""
 
 # How often one say may find that the generation in which it speaks is gone.
 _MOST_LOST = 4
 
 
 class RoomNumber(NamedTuple):
-    """Which message of a member it is: its generation, and its number there, from 1."""
+    """The identity of a member's message: its generation, and its number there, from 1."""
 
     generation: int
     number: int
@@ -52,10 +52,10 @@ class RoomNumber(NamedTuple):
 
 @dataclass
 class Speech:
-    """What is known of the messages of this member in a generation.
+    """The messages of this member in a generation, as far as they are known.
 
-    All of them below `next` are known: none is a marker, and they have `used` bytes. `place` is
-    how much of the log was looked through for others, and `ahead` has those that are not next.
+    All of them below `next` are known: none is a marker, and they have `used` bytes. `place` is the
+    index up to which the log was searched for others, and `ahead` has those that are not next.
     """
 
     generation: int
@@ -74,7 +74,7 @@ class Speech:
         self.used += length
 
     def found(self, entry: Entry) -> None:
-        """Note a message of this member that stands in the log."""
+        """Note a message of this member that is in the log."""
         if entry.number < self.next:
             return
         self.ahead[entry.number] = entry.payload
@@ -84,36 +84,36 @@ class Speech:
             self.said(len(payload))
 
     def has_room(self, length: int, spec: Spec) -> bool:
-        """Return True if a message has room, and a marker behind it."""
+        """Return True if there is room for a message, and for a marker behind it."""
         if self.is_full or self.next >= spec.messages:
             return False
         return self.used + length + len(MARKER) <= spec.total_bytes
 
     def is_late(self, spec: Spec) -> bool:
-        """Return True if this member has used three quarters of the generation, and it is no last."""
+        """Return True if this member has used three quarters of the generation and can go on."""
         if self.generation == LAST_GENERATION:
             return False
         return 4 * (self.next - 1) >= 3 * spec.messages or 4 * self.used >= 3 * spec.total_bytes
 
 
 class Speaker:
-    """What a member says, and in which generation."""
+    """A member that says messages, and the generation in which it does."""
 
     def __init__(self, nodes: Nodes, patience: float) -> None:
-        """Makes one that has said nothing. ValueError if the patience is not 0 seconds or more."""
+        """Make one that has said nothing. ValueError if the patience is not 0 seconds or more."""
         if not patience >= 0:
             raise ValueError("a patience is 0 seconds or more")
         self._nodes = nodes
         self._patience = patience
         self.speech: Optional[Speech] = None
-        # The generation of the last say, and until when its log may have to tell whether that was
-        # done.
+        # The generation of the last say, and the time until which its log may have to show whether
+        # that say was done.
         self._doubt = (-1, float("-inf"))
-        # When to try again to go on before the generation is full.
+        # The time at which to try again to go on before the generation is full.
         self._try_at = float("-inf")
 
     def end(self) -> float:
-        """Return until when something that begins now may be waited for."""
+        """Return the time until which a say that begins now may wait."""
         return self._nodes.clock() + self._patience
 
     def is_in_doubt(self, generation: int) -> bool:
@@ -123,8 +123,8 @@ class Speaker:
     def join(self, end: float) -> Plan[None]:
         """Speak in the newest generation from now on.
 
-        It is started if it is at this member's node no more, or at none. Where the newest one
-        cannot be started at each node yet, the one before it is spoken in.
+        It is started if it is no longer at this member's node, or at none. If the newest one cannot
+        be started at each node yet, the member speaks in the one before it.
         """
         nodes = self._nodes
         greatest, living = yield from nodes.found()
@@ -162,14 +162,14 @@ class Speaker:
         yield from self._nodes.mark(generation, end)
 
     def leave(self, generation: int) -> None:
-        """Speak behind this generation from now on, in which the member's marker stands."""
+        """Speak behind this generation from now on, which has the member's marker."""
         if self.speech is not None and self.speech.generation <= generation < LAST_GENERATION:
             self.speech = Speech(generation + 1)
 
     def _current(self) -> Optional[Speech]:
-        """Return what is known of the generation in which the member speaks, if one is known.
+        """Return the known messages of the generation in which the member speaks, if there is one.
 
-        No marker of the member is known to stand there.
+        The generation is not known to have a marker of the member.
         """
         for generation in sorted(self._nodes.marked):
             self.leave(generation)
@@ -182,7 +182,7 @@ class Speaker:
         self.leave(speech.generation)
 
     def _goes_on_early(self, speech: Speech) -> Plan[bool]:
-        """Go on if nothing has to be waited for. Returns False if something has."""
+        """Go on if that need not wait. Returns False if it must."""
         begun = self._nodes.clock()
         if begun < self._try_at:
             return False
@@ -260,9 +260,10 @@ class Speaker:
         return None
 
     def _settled(self, message: bytes, number: RoomNumber, *, repeated: bool) -> Plan[int]:
-        """Say a message with a number, and keep in mind that it is in doubt.
+        """Say a message with a number, and remember that it is in doubt.
 
-        It is until it is answered, and after a failure until the patience is over or the next say.
+        It is in doubt until its reply, and after a failure until the patience is over or the next
+        say.
         """
         nodes, generation = self._nodes, number.generation
         node, name = nodes.speaker(generation), nodes.name(generation)
@@ -286,7 +287,7 @@ class Speaker:
     def _learn(self, speech: Speech, end: float) -> Plan[None]:
         """Look at the member's message with the next number, which another client has said.
 
-        It stands in the log when it is delivered. BadPlaceError if it is not before the time is
+        It is in the log when it is delivered. Raises BadPlaceError if it is not before the time is
         over.
         """
         nodes, number = self._nodes, speech.next
@@ -309,7 +310,7 @@ class Speaker:
             self.leave(speech.generation)
 
     def _is_said_again(self, message: bytes, repeat: RoomNumber, end: float) -> Plan[bool]:
-        """Say a message again whose answer was lost. Returns False if it certainly was not said."""
+        """Say a message again whose reply was lost. Returns False if it certainly was not said."""
         pauses = between_tries()
         while True:
             try:

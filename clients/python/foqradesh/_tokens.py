@@ -1,4 +1,4 @@
-"""Tokens, and what a client makes them of or is given them as."""
+"""Tokens, and the keys or tokens from which a client has them."""
 
 from __future__ import annotations
 
@@ -19,7 +19,7 @@ def _token(key: bytes, text: bytes) -> str:
 
 
 def check_key(key: bytes) -> bytes:
-    """Return the key. ValueError if it has not 32 bytes."""
+    """Return the key. Raises ValueError if it does not have 32 bytes."""
     if not isinstance(key, (bytes, bytearray)):
         raise TypeError("a key is bytes")
     if len(key) != 32:
@@ -28,12 +28,12 @@ def check_key(key: bytes) -> bytes:
 
 
 def check_node(node: int) -> int:
-    """Return the node's number. ValueError if it is not 0 to 31."""
+    """Return the node's number. Raises ValueError if it is not 0 to 31."""
     return check_number(node, 31, "a node")
 
 
 def check_token(token: str) -> str:
-    """Return the token. ValueError if it is not 64 hexadecimal digits."""
+    """Return the token. Raises ValueError if it is not 64 hexadecimal digits."""
     if not isinstance(token, str):
         raise TypeError("a token is text of 64 hexadecimal digits")
     if not _DIGITS.match(token):
@@ -60,7 +60,7 @@ def member_token(key: bytes, tenant: int, group: int, node: int) -> str:
 
 
 class Secrets(Protocol):
-    """Where a client takes its tokens from. Each method may raise MissingTokenError.
+    """The source of a client's tokens. Each method may raise MissingTokenError.
 
     `node` is the number of the node that is asked, or None if it is not known.
     """
@@ -93,7 +93,7 @@ class Keys:
         admin: Optional[bytes] = None,
         tenants: Optional[Mapping[int, bytes]] = None,
     ) -> None:
-        """Makes the keys. ValueError if a key has not 32 bytes, or the node is not 0 to 31."""
+        """Make the keys. ValueError if a key does not have 32 bytes, or the node is not 0 to 31."""
         self._node = check_node(node)
         self._admin = None if admin is None else check_key(admin)
         self._tenants = {tenant: check_key(key) for tenant, key in (tenants or {}).items()}
@@ -132,11 +132,12 @@ class Keys:
 
 
 class Tokens:
-    """Tokens that were made before, as by `gb_ctl token`: 64 hexadecimal digits each.
+    """Tokens that were made before, for instance by `gb_ctl token`: 64 hexadecimal digits each.
 
     `tenants` has the token of each tenant by its number, and `members` that of each member by
-    tenant and group. `every` is the token for all that has none here. `node` is the number of the
-    node that is asked, if it is known: then a say whose answer was lost is looked up in the log.
+    tenant and group. `every` is the token for all requests without one of these. `node` is the
+    number of the node that is asked, if it is known: then a say whose reply was lost is looked up
+    in the log.
     """
 
     def __init__(
@@ -148,9 +149,9 @@ class Tokens:
         members: Optional[Mapping[Tuple[int, int], str]] = None,
         node: Optional[int] = None,
     ) -> None:
-        """Makes the tokens.
+        """Make the tokens.
 
-        ValueError if one of them is not 64 hexadecimal digits, or the node is not 0 to 31.
+        Raises ValueError if one is not 64 hexadecimal digits, or the node is not 0 to 31.
         """
         self._node = None if node is None else check_node(node)
         self._every = None if every is None else check_token(every)
@@ -185,5 +186,5 @@ class Tokens:
 
 
 def secrets_of(given: Union[Secrets, str]) -> Secrets:
-    """Return where tokens are taken from: what is given, or one token for all that is asked."""
+    """Return the source of tokens: the given one, or one token for all requests."""
     return Tokens(given) if isinstance(given, str) else given

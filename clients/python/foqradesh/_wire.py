@@ -8,10 +8,10 @@ from typing import Optional
 from ._errors import BadReplyError
 
 LONGEST_REQUEST = 16_384
-"""The bytes of the longest body that a server reads."""
+"""The number of bytes of the longest body that a server reads."""
 
 LONGEST_REPLY = 262_144
-"""The bytes of the longest body that is taken as a reply.
+"""The number of bytes of the longest body that is taken as a reply.
 
 The longest that a server sends has 131,244.
 """
@@ -27,10 +27,10 @@ def frame(body: bytes) -> bytes:
 
 
 class FrameReader:
-    """Takes the bytes that came, in whatever pieces, and returns the bodies of whole messages."""
+    """Takes bytes in any pieces, and returns the bodies of whole messages."""
 
     def __init__(self) -> None:
-        """Makes a reader that has no bytes yet."""
+        """Make a reader that has no bytes yet."""
         self._bytes = bytearray()
 
     def feed(self, piece: bytes) -> None:
@@ -40,7 +40,7 @@ class FrameReader:
     def next(self) -> Optional[bytes]:
         """Return the next body, or None if it is not whole yet.
 
-        BadReplyError if its length is above the longest reply's.
+        Raises BadReplyError if its length is above that of the longest reply.
         """
         if len(self._bytes) < _LENGTH.size:
             return None
@@ -55,5 +55,5 @@ class FrameReader:
         return body
 
     def is_empty(self) -> bool:
-        """Return True if no bytes are left, so the stream stands between two messages."""
+        """Return True if no bytes are left, so that the stream is between two messages."""
         return not self._bytes

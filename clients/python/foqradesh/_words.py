@@ -24,16 +24,16 @@ PHASES = ("made", "open", "shut", "dropped")
 """The phases of a group at a node."""
 
 LONGEST_PAYLOAD = 4_096
-"""The bytes of the longest payload of any version of packets."""
+"""The number of bytes of the longest payload of any version of packets."""
 
 MOST_ENTRIES = 16
-"""The most entries in the reply to one fetch."""
+"""The greatest number of entries in the reply to one fetch."""
 
 MOST_PLACES = 16
-"""The most places that one wait names."""
+"""The greatest number of places that one wait names."""
 
 MOST_ROWS = 64
-"""The most groups in the reply to one list."""
+"""The greatest number of groups in the reply to one list."""
 
 LONGEST_WAIT = 60_000
 """The longest wait of the server, in milliseconds."""
@@ -47,7 +47,7 @@ _PAYLOAD = re.compile(r"(?:-|(?:[0-9a-f]{2})+)\Z", re.ASCII)
 
 
 def check_number(value: int, most: int, what: str) -> int:
-    """Return a number. ValueError if it is not 0 to `most`."""
+    """Return a number. Raises ValueError if it is not 0 to `most`."""
     if isinstance(value, bool) or not isinstance(value, int):
         raise TypeError(f"{what} is a whole number")
     if not 0 <= value <= most:
@@ -56,7 +56,7 @@ def check_number(value: int, most: int, what: str) -> int:
 
 
 def check_address(address: Tuple[str, int]) -> Tuple[str, int]:
-    """Return an address. ValueError if its port is not 1 to 65,535."""
+    """Return an address. Raises ValueError if its port is not 1 to 65,535."""
     host, port = address[0], address[1]
     if not isinstance(host, str):
         raise TypeError("a host is text")
@@ -76,7 +76,7 @@ def read_number(word: str, most: int) -> int:
 
 
 class Generation(NamedTuple):
-    """A generation of a room: the number of its groups, and which of them it is, from 0.
+    """A generation of a room: the number of its groups, and its own number, from 0.
 
     Generation 0 is the group that the number alone names.
     """
@@ -86,13 +86,13 @@ class Generation(NamedTuple):
 
 
 GroupName = Union[int, Generation]
-"""How a group is named among those of its tenant: by its number, or as a generation of a room."""
+"""The name of a group among those of its tenant: its number, or a generation of a room."""
 
 
 def check_group(group: GroupName) -> Generation:
     """Return the group's number and generation.
 
-    ValueError if the number is not 0 to 65,535, or the generation not 0 to 4,294,967,295.
+    Raises ValueError if they are not 0 to 65,535 and 0 to 4,294,967,295.
     """
     number, generation = group if isinstance(group, Generation) else (group, 0)
     return Generation(
@@ -107,7 +107,7 @@ def group_word(group: GroupName) -> str:
 
 
 def read_group(word: str) -> Generation:
-    """Return the group that a word names. ValueError if it names none."""
+    """Return the group that a word names. Raises ValueError if it names none."""
     number, dot, generation = word.partition(".")
     if dot and generation == "0":
         raise ValueError("generation 0 stands in no word")
@@ -115,7 +115,7 @@ def read_group(word: str) -> Generation:
 
 
 def payload_word(payload: bytes) -> str:
-    """Return the word of a payload: `-` for no bytes, else two digits a byte."""
+    """Return the word of a payload: `-` for no bytes, otherwise two digits for each byte."""
     if not isinstance(payload, (bytes, bytearray, memoryview)):
         raise TypeError("a payload is bytes")
     return bytes(payload).hex() or "-"
@@ -124,7 +124,7 @@ def payload_word(payload: bytes) -> str:
 def read_payload(word: str) -> bytes:
     """Return the payload that a word spells, with digits in lower case.
 
-    ValueError if it spells none.
+    Raises ValueError if it spells none.
     """
     if len(word) > 2 * LONGEST_PAYLOAD or not _PAYLOAD.match(word):
         raise ValueError(f"{word[:40]!r} is no payload")
@@ -134,7 +134,7 @@ def read_payload(word: str) -> bytes:
 def members_word(members: Sequence[int]) -> str:
     """Return the word of a group's members: numbers 0 to 31, rising, with commas.
 
-    ValueError if they are not so.
+    Raises ValueError if the numbers are not such.
     """
     for member in members:
         check_number(member, 31, "a member")
@@ -144,7 +144,7 @@ def members_word(members: Sequence[int]) -> str:
 
 
 def read_members(word: str) -> Tuple[int, ...]:
-    """Return the members that a word spells. ValueError if it spells none."""
+    """Return the members that a word spells. Raises ValueError if it spells none."""
     members = tuple(read_number(number, 31) for number in word.split(","))
     members_word(members)
     return members
@@ -152,10 +152,10 @@ def read_members(word: str) -> Tuple[int, ...]:
 
 @dataclass(frozen=True)
 class Spec:
-    """What a group is made with.
+    """The parameters with which a group is made.
 
-    `messages` and `total_bytes` are how many messages, and payload bytes, each member may say in the
-    group in all, and `window` how many of them may be unfinished at once.
+    `messages` and `total_bytes` are the numbers of messages and of payload bytes that each member
+    may say in the group in all, and `window` is how many of the messages may be unfinished at once.
     """
 
     kind: str
@@ -165,7 +165,7 @@ class Spec:
     window: int
 
     def __post_init__(self) -> None:
-        """Check the fields. ValueError if no request could carry them."""
+        """Check the fields. Raises ValueError if no request could carry them."""
         if self.kind not in KINDS:
             raise ValueError(f"{self.kind!r} is no kind of broadcast: {', '.join(KINDS)}")
         object.__setattr__(self, "members", tuple(self.members))

@@ -1,7 +1,7 @@
 """A load for those who size a machine: `foqradesh-load --help`, or `python3 -m foqradesh.load`.
 
-Connections say and fetch as fast as the nodes answer, and a table tells the rates and how long
-the replies took.
+Connections say and fetch as fast as the nodes answer. A table shows the rates and how long the
+replies took.
 """
 
 from __future__ import annotations
@@ -26,13 +26,13 @@ from ._wire import FrameReader, frame
 from ._words import KINDS, Spec
 
 MESSAGES = 1_024
-"""How many messages a member says in a group at most."""
+"""The greatest number of messages that a member says in a group."""
 
 BYTES = 65_536
-"""How many bytes of payload a member says in a group at most."""
+"""The greatest number of payload bytes that a member says in a group."""
 
 GROUPS = 256
-"""How many groups a tenant has at most."""
+"""The greatest number of groups of a tenant."""
 
 _PIECE = 65_536
 _PATIENCE = 10.0  # seconds without any reply after which a run is given up
@@ -42,7 +42,7 @@ Address = Tuple[str, int]
 
 @dataclass(frozen=True)
 class Mix:
-    """What a load asks."""
+    """The requests of a load."""
 
     tenant: int
     key: bytes
@@ -58,7 +58,7 @@ class Mix:
 
 @dataclass
 class Tally:
-    """What came of requests of one kind."""
+    """The results of requests of one kind."""
 
     times: List[float] = field(default_factory=list)  # seconds from a request to its reply
     refusals: Dict[str, int] = field(default_factory=dict)
@@ -74,7 +74,7 @@ class Tally:
 
 @dataclass
 class Outcome:
-    """What came of a run."""
+    """The results of a run."""
 
     seconds: float
     tallies: Dict[str, Tally]
@@ -103,7 +103,7 @@ def allowance(payloads: Sequence[int]) -> int:
 
 
 class _Member:
-    """A member of a group at one node, as a connection plays it."""
+    """A member of a group at one node, in whose name a connection sends requests."""
 
     def __init__(self, mix: Mix, group: int, node: int) -> None:
         self.token = member_token(mix.key, mix.tenant, group, node)
@@ -113,7 +113,7 @@ class _Member:
 
 
 class _Player:
-    """A connection that asks."""
+    """A connection that sends requests."""
 
     def __init__(self, mix: Mix, number: int, address: Address, members: List[_Member]) -> None:
         self.mix = mix
@@ -130,7 +130,7 @@ class _Player:
         self.socket.setblocking(False)
 
     def _speaker(self) -> Optional[_Member]:
-        """Return the next member that may say something; None if none may."""
+        """Return the next member that may say something, or None if none may."""
         for _ in self.members:
             self.turn = (self.turn + 1) % len(self.members)
             if self.members[self.turn].left > 0:
@@ -139,7 +139,7 @@ class _Player:
         return None
 
     def _request(self) -> Tuple[str, _Member, bytes]:
-        """Return the next request: its kind, whose it is, and its body."""
+        """Return the next request: its kind, its member, and its body."""
         speaker = self._speaker() if self.random.randrange(100) < self.mix.says else None
         if speaker is not None:
             payload = b"x" * self.mix.payloads[self.said % len(self.mix.payloads)]
@@ -152,7 +152,7 @@ class _Player:
         return "fetch", member, body
 
     def ask(self, now: float) -> None:
-        """Send requests until as many are not answered as may be."""
+        """Send requests until the greatest number of them is unanswered."""
         while len(self.asked) < self.mix.ahead:
             kind, member, body = self._request()
             self.asked.append((kind, member, member.place, now))
@@ -160,7 +160,7 @@ class _Player:
         self.flush()
 
     def flush(self) -> None:
-        """Send what the connection takes."""
+        """Send the bytes that the connection takes."""
         if not self.output:
             return
         try:
@@ -185,7 +185,7 @@ class _Player:
 
 
 def count(tally: Tally, member: _Member, place: int, reply: str, took: float) -> None:
-    """Count a reply: a log from a place moves the member's, a refused say may be said again."""
+    """Count a reply. A log moves the member's index, and a refused say may be said again."""
     tally.times.append(took)
     words = reply.split(" ")
     if words[0] == "log" and len(words) > 1 and words[1].isdecimal():
@@ -262,7 +262,7 @@ def run(mix: Mix, nodes: Sequence[Address], processes: int) -> Outcome:
 
 
 def prepare(mix: Mix, nodes: Sequence[Address], admin: bytes) -> None:
-    """Take the tenant in at all nodes, and start its groups, whose members are all nodes."""
+    """Add the tenant at all nodes, and start its groups, whose members are all nodes."""
     clients: Dict[int, Client] = {}
     try:
         for node, address in enumerate(nodes):
@@ -278,7 +278,7 @@ def prepare(mix: Mix, nodes: Sequence[Address], admin: bytes) -> None:
 
 
 def clear(mix: Mix, nodes: Sequence[Address]) -> None:
-    """Drop the groups at all nodes, which frees what their logs hold."""
+    """Drop the groups at all nodes, which frees the memory of their logs."""
     for node, address in enumerate(nodes):
         with Client(address, Keys(node, tenants={mix.tenant: mix.key})) as client:
             for group in range(mix.groups):
@@ -299,7 +299,7 @@ def row(name: str, tally: Tally, seconds: float) -> Tuple[str, ...]:
 
 
 def table(outcome: Outcome) -> str:
-    """Return the table of a run's results, and a line for each thing to know of it."""
+    """Return the table of a run's results, and a line for each thing to know about it."""
     both = Tally()
     for tally in outcome.tallies.values():
         both.add(tally)
@@ -330,7 +330,7 @@ def table(outcome: Outcome) -> str:
 def read_keys(lines: Iterable[str]) -> Tuple[bytes, bytes]:
     """Return the administrator's key and the tenant's, from lines `admin KEY` and `tenant KEY`.
 
-    ValueError: they are not there, or a line is none of these.
+    Raises ValueError if they are not there, or a line is none of these.
     """
     found: Dict[str, bytes] = {}
     for line in lines:
@@ -346,7 +346,7 @@ def read_keys(lines: Iterable[str]) -> Tuple[bytes, bytes]:
 
 
 def address_of(text: str) -> Address:
-    """Return the host and the port of `HOST:PORT`. ValueError if it is none."""
+    """Return the host and the port of `HOST:PORT`. Raises ValueError if it is none."""
     host, colon, port = text.rpartition(":")
     if not colon or not host or not port.isdecimal() or not 0 < int(port) < 65_536:
         raise ValueError(f"no HOST:PORT: {text}")
@@ -393,7 +393,7 @@ _OPTIONS: Tuple[Tuple[str, int, int, int, str, str], ...] = (
 
 
 def parser() -> argparse.ArgumentParser:
-    """Return what reads the words."""
+    """Return the parser of the words."""
     words = argparse.ArgumentParser(
         prog="foqradesh-load", description=_ABOUT, epilog=_STATUS
     )

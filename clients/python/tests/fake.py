@@ -1,4 +1,4 @@
-"""Servers that run in a test: one that plays what it is told, and a node that keeps logs."""
+"""Servers that run in a test: one that plays a script, and a node that keeps logs."""
 
 from __future__ import annotations
 
@@ -81,7 +81,7 @@ Play = Callable[[Session], None]
 
 
 class FakeServer:
-    """A server whose connections are each served by the next play, or by the last."""
+    """A server whose connections are each served by the next play, or by the last one."""
 
     def __init__(self, *plays: Play) -> None:
         self.plays = plays
@@ -110,7 +110,7 @@ class FakeServer:
             raise self.errors[0]
 
     def requests(self) -> List[str]:
-        """Return what was asked, in order, without tokens and keys."""
+        """Return the requests that came, in order, without tokens and keys."""
         return [
             " ".join(word for word in body.split(" ") if len(word) != 64) for body in self.bodies
         ]
@@ -143,7 +143,7 @@ class FakeServer:
 
 
 class FakeNode:
-    """A node with groups of its own. What is said is in a log at once, or after `deliver`."""
+    """A node with groups of its own. Messages are in a log when said, or after `deliver`."""
 
     def __init__(self, node: int = 0, *, is_late: bool = False, lists: bool = True) -> None:
         self.node = node
@@ -165,22 +165,22 @@ class FakeNode:
         return {"spec": spec, "phase": "made", "said": [], "log": []}
 
     def payloads(self) -> List[str]:
-        """Return what its member said in group 1 of tenant 7."""
+        """Return the messages that its member said in group 1 of tenant 7."""
         said = self.groups[7, 1]["said"]
         assert isinstance(said, list)
         return [bytes.fromhex(payload.replace("-", "")).decode("ascii") for payload in said]
 
     def serve(self, session: Session) -> None:
-        """Answer all that a client asks."""
+        """Answer all requests of a client."""
         while True:
             session.send(self.answer(session.read()))
 
     def other_says(self, payload: str) -> None:
-        """Say something by another client of the member."""
+        """Say a message as another client of the member."""
         self.answer(f"say {self.secrets.member(7, 1)} 7 1 {payload.encode().hex()}")
 
     def deliver(self) -> None:
-        """Put all that was said into the log."""
+        """Put all messages that were said into the log."""
         with self.lock:
             for group in self.groups.values():
                 said = group["said"]
@@ -280,7 +280,7 @@ class FakeNode:
 
 
 def lost_answer(node: FakeNode, at: str, times: int = 1) -> Play:
-    """Return a play that does a request, and ends the connection in place of its first replies."""
+    """Return a play that does a request, and ends the connection instead of its first replies."""
     left = [times]
 
     def play(session: Session) -> None:

@@ -1,7 +1,8 @@
 """A cluster in memory that keeps the rules of rooms, and links of clients to it.
 
-The rules are those of docs/FORMATS.md: the order of refusals, places, budgets, what is let fall and
-what a drop gives up. Items travel when something is asked, unless the test holds them back.
+The rules are those of docs/FORMATS.md: the order of refusals, places, budgets, which items are let
+fall, and which messages a drop discards. Items travel when a request is made, unless the test holds
+them back.
 """
 
 from __future__ import annotations
@@ -31,11 +32,11 @@ REFUSED = {kind.name: kind.text() for kind in REFUSALS}
 
 
 class Refusal(Exception):
-    """A request is refused by this name."""
+    """A request is refused with this name."""
 
 
 def refuse(name: str, is_so: bool = True) -> None:
-    """Refuse by a name if it is so."""
+    """Refuse with a name if `is_so` is true."""
     if is_so:
         raise Refusal(name)
 
@@ -52,7 +53,7 @@ class Living:
         self.sent: Set[Message] = set()
         self.log: List[Message] = []
         self.ready: Set[Message] = set()
-        # What a test keeps from being delivered yet.
+        # The messages that a test keeps from being delivered yet.
         self.late: Set[Message] = set()
         self.waiting: Dict[int, Deque[Message]] = {node: deque() for node in spec.members}
         self.done: Dict[int, Set[int]] = {}
@@ -63,12 +64,12 @@ class Living:
         return sum(len(it) for (origin, _), it in self.payloads.items() if origin == self.me)
 
     def unfinished(self, noticed: Set[int]) -> int:
-        """Return how many messages of its member some other running member has not."""
+        """Return how many messages of its member some other running member does not have."""
         others = set(self.spec.members) - noticed - {self.me}
         return sum(not others <= done for done in self.done.values())
 
     def came(self, message: Message, payload: bytes, giver: int, noticed: Set[int]) -> None:
-        """Take a message that was said here, or that a node gave."""
+        """Take a message that was said here, or that a node sent."""
         origin, number = message
         if origin not in self.spec.members or not 0 < number <= self.spec.messages:
             return
@@ -84,7 +85,7 @@ class Living:
         self.deliver(noticed)
 
     def deliver(self, noticed: Set[int]) -> None:
-        """Put into the log what is to be delivered, in the order of each origin where it is kept."""
+        """Put into the log the messages to deliver, in the order of each origin if that is kept."""
         running = set(self.spec.members) - noticed
         for message, holders in self.holders.items():
             if self.spec.kind not in ("allack", "fallack") or running <= holders:
@@ -110,7 +111,7 @@ class Node:
         self.greatest: Dict[Tuple[int, int], int] = {}
         self.living: Dict[Tuple[int, Generation], Living] = {}
         self.noticed: Set[int] = set()
-        # How many generations of a room lived here at once, at most.
+        # The greatest number of generations of a room that lived here at once.
         self.most = 0
 
     def room(self, tenant: int, group: int) -> List[int]:
@@ -175,10 +176,10 @@ class Node:
 class Cluster:
     """Nodes in memory, and the links between them.
 
-    `held` are the pairs of nodes, from and to, between which nothing is packed. `fate` says what
-    becomes of a request: `carry`; `lose request` and `lose reply`, where the connection ends; or
-    `no request` and `no reply`, where nothing comes in time. `order` draws which item travels
-    next, and without it they keep the order of links.
+    `held` are the pairs of nodes, from and to, between which nothing is packed. `fate` returns the
+    fate of a request: `carry`; `lose request` and `lose reply`, with which the connection ends; or
+    `no request` and `no reply`, with which nothing comes in time. `order` draws the item that
+    travels next; without it items keep the order of links.
     """
 
     def __init__(
@@ -192,7 +193,7 @@ class Cluster:
         self.order = order
         self.asked: List[Tuple[int, str, str]] = []
         self.lock = threading.Condition()
-        # The time of clients that block. Without a clock of its own it is the machine's.
+        # The time of clients that block. Without a clock of its own it is that of the machine.
         self.now: Optional[float] = None
         self.events: List[Tuple[float, Callable[[], None]]] = []
         for node in self.nodes:
@@ -205,7 +206,7 @@ class Cluster:
         return time.monotonic() if self.now is None else self.now
 
     def sleep(self, seconds: float) -> None:
-        """Let time pass, and do what a test has planned for it."""
+        """Let time pass, and let the events happen that a test has planned for it."""
         if self.now is None:
             time.sleep(seconds)
             return
@@ -223,7 +224,7 @@ class Cluster:
     # Links.
 
     def carry(self) -> None:
-        """Pack what waits and have it arrive, until nothing travels any more."""
+        """Pack the items that wait and let them arrive, until nothing travels any more."""
         while True:
             for node in self.nodes:
                 self._pack(node)
@@ -255,13 +256,13 @@ class Cluster:
         group = self.nodes[taker].living.get((tenant, name))
         if group is not None:
             group.came(message, payload, giver, self.nodes[taker].noticed)
-        # Acknowledged, also where it is let fall.
+        # An item is acknowledged, also if it is let fall.
         own = self.nodes[giver].living.get((tenant, name))
         if own is not None and message[0] == giver:
             own.done[message[1]].add(taker)
 
     def crash(self, node: int) -> None:
-        """Have a node crash, and the others notice it."""
+        """Let a node crash, and let the others notice it."""
         self.down.add(node)
         for other in self.nodes:
             other.noticed.add(node)
@@ -341,13 +342,13 @@ class Cluster:
                 self.lock.wait(end - self.clock())
             else:
                 self.sleep(max(0.0, min(end, self._soonest()) - self.now))
-                self.carry()  # What a test has planned may have let something travel.
+                self.carry()  # An event that a test has planned may have let something travel.
         return look()
 
     # Clients.
 
     def ask(self, node: int, step: Step) -> Union[Answer, UnansweredError]:
-        """Return what becomes of a request that a link sends."""
+        """Return the outcome of a request that a link sends."""
         was_sent = False
         while True:
             if self.now is not None:
@@ -378,7 +379,7 @@ class Cluster:
         return {node.number: self.client(node.number) for node in self.nodes}
 
     def async_clients(self, delays: random.Random) -> Dict[int, AsyncClient]:
-        """Return a client of each node for asyncio, whose replies take their time."""
+        """Return a client of each node for asyncio, whose replies take some time."""
         return {node.number: _FakeAsyncClient(self, node.number, delays) for node in self.nodes}
 
     @staticmethod
@@ -386,14 +387,14 @@ class Cluster:
         """Return the keys of a node's client."""
         return Keys(node, admin=ADMIN_KEY, tenants={7: TENANT_KEY})
 
-    # What tests ask.
+    # Requests of tests.
 
     def living(self, group: int = 1) -> List[List[int]]:
         """Return the generations of a room that live, node by node."""
         return [node.room(7, group) for node in self.nodes]
 
     def texts(self, heads: str, node: Optional[int] = None) -> List[str]:
-        """Return what was asked by these words, also of one node alone."""
+        """Return the requests with these first words, of all nodes or of one."""
         return [
             body
             for number, body, _ in self.asked
@@ -415,7 +416,7 @@ class _FakeLink(Link):
         self._node = node
 
     def put(self, sent: Sent) -> None:
-        """Have a request done at once."""
+        """Do a request at once."""
         sent.finish(self._cluster.ask(self._node, sent.step))
 
 

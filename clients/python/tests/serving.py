@@ -20,7 +20,7 @@ TOP = pathlib.Path(__file__).resolve().parents[3]
 
 
 def base_port(place: int) -> int:
-    """Return the base port of a test's servers, which have three nodes at most.
+    """Return the base port of a test's servers, which have at most three nodes.
 
     There is one for each place from 0 to 20, among the 128 ports from GB_PORT on, or from 31,000.
     """
@@ -95,9 +95,9 @@ class Serving:
 
 
 class Cutter:
-    """Carries messages between clients and a node, and ends a connection where it is told to.
+    """Carries messages between clients and a node, and ends a connection if `fate` says so.
 
-    `fate` is given each request's number, from 0, and returns `carry`, `lose request` or `lose
+    `fate` receives each request's number, from 0, and returns `carry`, `lose request` or `lose
     reply`.
     """
 

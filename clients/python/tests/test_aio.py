@@ -1,4 +1,4 @@
-"""The asyncio client against servers that play what a test tells them."""
+"""The asyncio client against servers that play a script of the test."""
 
 from __future__ import annotations
 
@@ -44,7 +44,7 @@ def client_of(server: FakeServer, time_limit: float = 5.0) -> AsyncClient:
 
 
 class AsyncClientTests(unittest.IsolatedAsyncioTestCase):
-    """What the blocking client does, it does too."""
+    """It does the same as the blocking client."""
 
     async def test_words(self) -> None:
         with FakeServer(FakeNode().serve) as server:
@@ -272,7 +272,7 @@ class AsyncClientTests(unittest.IsolatedAsyncioTestCase):
                 with self.assertRaises(asyncio.CancelledError):
                     await task
                 self.assertIsNone(client.next_number(7, 1))
-                # The reply to what was cancelled is not taken for the next one's.
+                # The reply to the cancelled request is not taken for that of the next one.
                 self.assertEqual(await client.fetch(7, 1), (Entry(0, 1, b"a"),))
                 self.assertEqual(await client.say(7, 1, b"b"), 2)
                 self.assertEqual(server.connections, 1)
@@ -294,7 +294,7 @@ class AsyncClientTests(unittest.IsolatedAsyncioTestCase):
                     while len(heard) < number:
                         await asyncio.sleep(0.01)
                 self.assertEqual(heard, [Entry(0, 1, b"a"), Entry(0, 2, b"b")])
-                # One connection waits, and the other one is asked.
+                # One connection waits, and requests go over the other one.
                 self.assertEqual(server.connections, 2)
                 task.cancel()
                 with self.assertRaises(asyncio.CancelledError):

@@ -1,4 +1,4 @@
-"""The blocking client against servers that play what a test tells them."""
+"""The blocking client against servers that play a script of the test."""
 
 from __future__ import annotations
 
@@ -53,7 +53,7 @@ def client_of(server: FakeServer, time_limit: float = 5.0) -> Client:
 
 
 def replying(*replies: str) -> Play:
-    """Return a play that sends these replies, each to a request."""
+    """Return a play that sends these replies, one to each request."""
 
     def play(session: Session) -> None:
         for reply in replies:
@@ -65,7 +65,7 @@ def replying(*replies: str) -> Play:
 
 
 class WordTests(unittest.TestCase):
-    """Each word, as it goes out and comes back."""
+    """Each method: its request and its reply."""
 
     def test_words(self) -> None:
         with FakeServer(FakeNode().serve) as server, client_of(server) as client:
@@ -177,7 +177,7 @@ class WordTests(unittest.TestCase):
 
 
 class ConnectionTests(unittest.TestCase):
-    """Connections that fail, and replies that are none."""
+    """Connections that fail, and bytes that are no replies."""
 
     def test_cut_in_mid_reply(self) -> None:
         def cut(session: Session) -> None:
@@ -769,7 +769,7 @@ class FollowTests(unittest.TestCase):
 
 
 class ProtocolTests(unittest.TestCase):
-    """What stands on the wire."""
+    """The bytes that are sent and received."""
 
     def test_first_bytes(self) -> None:
         with socket.create_server(("127.0.0.1", 0)) as listener:

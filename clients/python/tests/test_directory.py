@@ -1,4 +1,4 @@
-"""Directory files: where a node of a tenant's cluster is asked."""
+"""Directory files: the address of a node of a tenant's cluster."""
 
 from __future__ import annotations
 
@@ -50,7 +50,7 @@ WORDS = ("10.0.0.1", "10.0.0.1:", ":24064", "h:0", "h:65536", "h:01", "h:+1", ":
 
 @unittest.skipUnless(sys.version_info >= (3, 11), "Python has tomllib from 3.11 on")
 class DirectoryTests(unittest.TestCase):
-    """What a directory file says, and what is told where it does not say it."""
+    """The addresses that a directory file has, and the messages if it does not have one."""
 
     def setUp(self) -> None:
         self._folder = tempfile.TemporaryDirectory()
@@ -122,7 +122,7 @@ class AsyncDirectoryTests(unittest.IsolatedAsyncioTestCase):
 
 
 class OlderPythonTests(unittest.TestCase):
-    """What is told where Python has no tomllib."""
+    """The message if Python has no tomllib."""
 
     def test_the_version_is_named(self) -> None:
         with mock.patch.dict(sys.modules, {"tomllib": None}):

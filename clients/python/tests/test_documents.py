@@ -1,4 +1,4 @@
-"""The conversations of docs/CLIENTS.md and of the package's README, as they stand on the wire."""
+"""The conversations of docs/CLIENTS.md and of the package's README, as bytes that are sent."""
 
 from __future__ import annotations
 
@@ -32,7 +32,7 @@ Rows = List[Tuple[List[bytes], List[bytes]]]
 
 
 def messages(cell: str) -> List[bytes]:
-    """Return the messages of a table's cell. The lengths are those that stand there."""
+    """Return the messages of a table's cell. The lengths are those in the cell."""
     found = []
     for length, body in re.findall(r"`([0-9a-f]{8})` `([^`]*)`", cell):
         words = [NAMES.get(word, word) for word in body.split(" ")]
@@ -50,7 +50,7 @@ def conversation(heading: str) -> Tuple[str, Rows]:
 
 @unittest.skipUnless(CLIENTS.exists(), "docs/CLIENTS.md is not there")
 class ConversationTests(unittest.TestCase):
-    """What is sent, and what comes back."""
+    """The messages that are sent, and those that come back."""
 
     def test_lengths(self) -> None:
         for heading, count in (("A conversation as text", 9), ("A conversation in Python", 6)):
@@ -60,7 +60,7 @@ class ConversationTests(unittest.TestCase):
                 self.assertEqual(message[:4], struct.pack(">I", len(message) - 4))
 
     def play(self, address: Tuple[str, int]) -> None:
-        """Send the conversation as text, and compare what comes."""
+        """Send the conversation as text, and compare the replies."""
         with socket.create_connection(address, timeout=10) as connection:
             for sent, received in conversation("A conversation as text")[1]:
                 connection.sendall(b"".join(sent))
@@ -119,9 +119,9 @@ def run_code(code: str, port: int, scope: Dict[str, Any]) -> List[str]:
 
 
 def in_memory(count: int) -> Tuple[Cluster, Any]:
-    """Return a cluster whose nodes have no tenant yet, and a patch by which clients ask it."""
+    """Return a cluster whose nodes have no tenant yet, and a patch that makes clients use it."""
     cluster = Cluster(count)
-    cluster.now = 0.0  # A machine that stands still for a while would change what is asked.
+    cluster.now = 0.0  # If the machine paused for a while, other requests would be made.
     for node in cluster.nodes:
         node.tenants.clear()
 

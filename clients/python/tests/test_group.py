@@ -41,7 +41,7 @@ MAKE = "make 7 1 fallack 0,1,2 100 1000 100"
 
 
 class Cluster:
-    """Three fake nodes, with a client of each, and all that they are asked in one list."""
+    """Three fake nodes, with a client of each, and the list of all their requests."""
 
     def __init__(self, plays: Optional[Dict[int, Play]] = None, lists: bool = True) -> None:
         self.nodes = [FakeNode(node, lists=lists) for node in range(3)]
@@ -78,7 +78,7 @@ class Cluster:
 
 
 class GroupTests(unittest.TestCase):
-    """Made everywhere, and only then opened anywhere."""
+    """A group is made everywhere before it is opened anywhere."""
 
     def test_order(self) -> None:
         with Cluster().running() as cluster:
@@ -232,7 +232,7 @@ class GroupTests(unittest.TestCase):
 
 
 class AsyncGroupTests(unittest.IsolatedAsyncioTestCase):
-    """The same by asyncio."""
+    """The same for asyncio."""
 
     async def test_order_and_end(self) -> None:
         with Cluster().running() as cluster:

@@ -1,4 +1,4 @@
-"""Rooms with a leader, against a cluster in memory: one order at all members, also where leaders crash."""
+"""Rooms with a leader, in a cluster in memory: one order at all members, also after crashes."""
 
 from __future__ import annotations
 
@@ -47,6 +47,34 @@ from .rooms import Cluster
 
 ALL = (0, 1, 2)
 SPEC = Spec("fallack", ALL, 8, 4_096, 8)
+# The same text is in clients/js/test/leader.test.js: rooms of both packages may be one room's.
+WIRE = """\
+0 make 7 1 fallack 0,1,2 8 4096 8: ok
+1 make 7 1 fallack 0,1,2 8 4096 8: ok
+2 make 7 1 fallack 0,1,2 8 4096 8: ok
+0 open 7 1: ok
+1 open 7 1: ok
+2 open 7 1: ok
+0 say 7 1 0301000102030405060761 1: said 1
+1 make 7 1.1 fallack 0,1,2 8 4096 8: ok
+2 make 7 1.1 fallack 0,1,2 8 4096 8: ok
+1 open 7 1.1: ok
+2 open 7 1.1: ok
+1 say 7 1 02 1: said 1
+2 say 7 1 02: said 1
+1 say 7 1.1 04000000000001 1: said 1
+1 say 7 1.1 0301000102030405060762 2: said 2
+1 say 7 1.1 0302000102030405060730 3: said 3
+1 say 7 1.1 0302000102030405060731 4: said 4
+1 say 7 1.1 0302000102030405060732 5: said 5
+1 say 7 1.1 0302000102030405060733 6: said 6
+1 make 7 1.2 fallack 0,1,2 8 4096 8: ok
+2 make 7 1.2 fallack 0,1,2 8 4096 8: ok
+1 open 7 1.2: ok
+2 open 7 1.2: ok
+1 say 7 1.1 00 7: said 7
+2 say 7 1.2 0302000102030405060734 1: said 1
+"""
 EXAMPLES = pathlib.Path(__file__).resolve().parents[3] / "examples"
 
 
@@ -67,12 +95,12 @@ def room_of(
 
 
 class Ordered(unittest.TestCase):
-    """What readers have to have heard."""
+    """Comparisons of the messages that readers heard."""
 
     def assert_one_order(
         self, heard: Sequence[Sequence[RoomEntry]], said: Sequence[bytes]
     ) -> None:
-        """All have heard the same, in one order, and each of these messages once."""
+        """Assert that all have heard the same, in one order, and each of these messages once."""
         for entries in heard:
             self.assertEqual(list(entries), list(heard[0]))
         places = [(it.generation, it.number) for it in heard[0]]
@@ -81,7 +109,7 @@ class Ordered(unittest.TestCase):
 
 
 def hear(rooms: Sequence[Room], heard: Sequence[List[RoomEntry]], idle: float = 0.0) -> None:
-    """Have each room read what is there."""
+    """Let each room read the messages that are there."""
     for room, entries in zip(rooms, heard):
         entries += list(room.follow(idle=idle))
 
@@ -140,7 +168,7 @@ class OrderTests(Ordered):
         self.assertEqual([it.payload for it in room.follow(idle=0)], [b"a", b"b"])
 
     def test_the_same_bytes_of_two_rooms_are_two_messages(self) -> None:
-        # Both take number 1, and both lose their answers.
+        # Both take number 1, and both lose their replies.
         cluster = timed()
         rooms = [room_of(cluster, node) for node in (1, 1, 2)]
         for room in rooms:
@@ -203,7 +231,7 @@ class CrashTests(Ordered):
         rooms[1].exclude(0)
         self.assertEqual(rooms[1].say(b"b"), (1, 2))
         self.assertEqual(rooms[1].leader, 1)
-        # The other one goes on, though nobody has told it.
+        # The other one goes on, though `exclude` was not called there.
         hear(rooms[1:], heard, 1.0)
         hear(rooms[1:], heard, 1.0)
         self.assert_one_order(heard, [b"a", b"b"])
@@ -212,6 +240,21 @@ class CrashTests(Ordered):
         hear(rooms[1:], heard, 1.0)
         self.assert_one_order(heard, [b"a", b"b", b"c"])
         self.assertEqual(cluster.living()[1:], [[1], [1]])
+
+    def test_what_goes_over_the_wire(self) -> None:
+        cluster = timed()
+        with mock.patch("os.urandom", return_value=bytes(range(8))):
+            rooms = [room_of(cluster, node, patience=1.0) for node in ALL]
+        rooms[1].say(b"a")
+        cluster.crash(0)
+        self.assertRaises(UnansweredError, rooms[1].say, b"b")
+        rooms[1].exclude(0)
+        rooms[1].say(b"b")
+        for count in range(5):
+            rooms[2].say(str(count).encode())
+        heads = ("make", "open", "say")
+        asked = [it for it in cluster.asked if it[1].startswith(heads)]
+        self.assertEqual("".join(f"{node} {body}: {reply}\n" for node, body, reply in asked), WIRE)
 
     def test_what_the_leader_took_and_nobody_has(self) -> None:
         cluster = timed()
@@ -233,7 +276,7 @@ class CrashTests(Ordered):
         self.assert_one_order(heard, [b"a"])
 
     def test_what_one_reader_has_shown_counts(self) -> None:
-        # The other node lacks what the leader said last, until its seal is there.
+        # The other node lacks the leader's last message, until its seal is there.
         for lacks, has in ((1, 2), (2, 1)):
             with self.subTest(lacks=lacks):
                 cluster = timed()
@@ -271,7 +314,7 @@ class CrashTests(Ordered):
         self.assert_one_order(heard, [str(number).encode() for number in range(7)])
 
     def test_a_node_that_has_dropped_what_others_seal(self) -> None:
-        # Node 2 has read the marker, which stands behind node 1's seal, and has gone on.
+        # Node 2 has read the marker, which is behind node 1's seal, and has gone on.
         cluster = timed()
         spec = Spec("fmajority", ALL, 8, 4_096, 8)
         rooms = [room_of(cluster, node, spec, patience=1.0) for node in ALL]
@@ -296,7 +339,7 @@ class CrashTests(Ordered):
         self.assert_one_order(heard, [b"a", b"b", b"c"])
 
     def test_a_number_that_another_message_has(self) -> None:
-        # What node 1 said was lost on its way, and node 2 has said something with its number.
+        # Node 1's message was lost on its way, and node 2 has said something with its number.
         cluster = timed()
         rooms = [room_of(cluster, node, patience=1.0) for node in ALL]
         for room in rooms[1:]:
@@ -318,7 +361,7 @@ class CrashTests(Ordered):
         self.assertEqual([it.origin for it in heard[0]], [2, 1])
 
     def test_what_comes_behind_all_seals_does_not_count(self) -> None:
-        # The leader runs on, and was excluded: who still says through it is not told that it counts.
+        # The leader runs on, and was excluded: a member that still says through it gets no success.
         cluster = timed()
         spec = Spec("fmajority", ALL, 8, 4_096, 8)
         rooms = [room_of(cluster, node, spec, patience=1.0) for node in ALL]
@@ -385,7 +428,7 @@ class CrashTests(Ordered):
 
 
 class Walk:
-    """Says and reads at random while nodes crash, and links hold back what they carry."""
+    """Says and reads at random while nodes crash, and links hold back their items."""
 
     def __init__(self, numbers: random.Random) -> None:
         self.numbers = numbers
@@ -399,7 +442,7 @@ class Walk:
         self.said: List[Tuple[int, bytes]] = []
 
     def has_to_stand(self, origin: int) -> bool:
-        """Return True if what was said at a node stands: it runs, or the kind is uniform.
+        """Return True if a message of a node is final: the node runs, or the kind is uniform.
 
         The cluster in memory delivers in `fmajority` before a majority has a message.
         """
@@ -414,7 +457,7 @@ class Walk:
         return [self.cluster.living()[node] for node in self.running()]
 
     def play(self) -> None:
-        """Go on until all that run have read all that was said."""
+        """Go on until all that run have read all messages that were said."""
         numbers, crashes = self.numbers, self.numbers.randrange(1, self.count - 1)
         for step in range(60):
             if crashes and numbers.random() < 0.05:
@@ -440,21 +483,21 @@ class Walk:
                 self.read(node, 2.0)
 
     def plan(self, within: float, event: Callable[[int], None], node: int) -> None:
-        """Have something happen within some seconds."""
+        """Let something happen within some seconds."""
         at = self.cluster.clock() + self.numbers.random() * within
         self.cluster.events.append((at, lambda: event(node)))
 
     def crash(self, node: int) -> None:
-        """Have a node crash."""
+        """Let a node crash."""
         self.cluster.crash(node)
 
     def tell(self, node: int) -> None:
-        """Tell a room who crashed."""
+        """Exclude from a room the nodes that crashed."""
         for gone in self.cluster.down - {node}:
             self.rooms[node].exclude(gone)
 
     def read(self, node: int, idle: float = 0.0) -> None:
-        """Have a room read what is there."""
+        """Let a room read the messages that are there."""
         try:
             for entry in self.rooms[node].follow(idle=idle):
                 self.heard[node].append(entry)
@@ -462,11 +505,11 @@ class Walk:
             self.tell(node)
 
     def say(self, node: int, text: bytes) -> None:
-        """Say a message until it is said, and tell the room who crashed, if something is wrong."""
+        """Say a message until it is said, and exclude crashed nodes after an error."""
         repeat: Optional[RoomNumber] = None
         for _ in range(20):
             if node in self.cluster.down:
-                # Nobody was told that it stands; it may.
+                # No caller got its number, but it may be final.
                 if self.stands(text):
                     self.said.append((node, text))
                 return
@@ -498,7 +541,7 @@ class Walk:
 
 
 class LogTests(unittest.TestCase):
-    """What counts of a log."""
+    """The messages of a log that count."""
 
     def logs(self, count: int = 3) -> List[LedLog]:
         """Return the logs of the first generations at node 2."""
@@ -508,7 +551,7 @@ class LogTests(unittest.TestCase):
 
     @staticmethod
     def fill(log: LedLog, leader: int, *messages: Tuple[int, bytes]) -> None:
-        """Have a log take messages, each of a node."""
+        """Let a log take messages, each of a node."""
         for number, (origin, payload) in enumerate(messages, 1):
             log.take(Entry(origin, number, payload), SPEC)
 
@@ -558,7 +601,7 @@ class LogTests(unittest.TestCase):
 
 
 class AsyncOrderTests(unittest.IsolatedAsyncioTestCase):
-    """All say at once, by asyncio."""
+    """All say at once, for asyncio."""
 
     async def test_all_at_once(self) -> None:
         for seed in range(3):

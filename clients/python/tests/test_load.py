@@ -32,7 +32,7 @@ KEYS = f"admin {ADMIN_KEY.hex()}\ntenant {TENANT_KEY.hex()}\n"
 
 
 class TextTests(unittest.TestCase):
-    """What needs no connection."""
+    """Parts that need no connection."""
 
     def test_quantiles(self) -> None:
         times = [float(number) for number in range(1, 101)]
@@ -106,7 +106,7 @@ def mix(seconds: float, says: int = 50, ahead: int = 1) -> Mix:
 
 
 class FakeTests(unittest.TestCase):
-    """A load on a node that plays what it is told."""
+    """A load on a node that plays a script."""
 
     def test_places_and_refusals(self) -> None:
         asked: List[List[str]] = []

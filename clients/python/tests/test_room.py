@@ -75,7 +75,7 @@ def rooms_of(cluster: Cluster, spec: Spec = SPEC, *, patience: float = 5.0) -> L
 
 
 def drawn(numbers: random.Random, fates: Sequence[str]) -> Fate:
-    """Return fates that are drawn."""
+    """Return fates that are drawn at random."""
     return lambda node, body: numbers.choice(fates)
 
 
@@ -85,18 +85,18 @@ def numbered(origin: int, numbers: Iterable[int]) -> List[bytes]:
 
 
 def hear(rooms: Sequence[Room], heard: List[List[RoomEntry]], idle: float = 0.0) -> None:
-    """Have each room read what is there."""
+    """Let each room read the messages that are there."""
     for room, entries in zip(rooms, heard):
         entries += list(room.follow(idle=idle))
 
 
 class Heard(unittest.TestCase):
-    """What readers have to have heard."""
+    """Comparisons of the messages that readers heard."""
 
     def assert_heard(
         self, entries: Sequence[RoomEntry], count: int, members: Sequence[int] = ALL
     ) -> None:
-        """Each member's messages came once, in order, and so did their places."""
+        """Assert that each member's messages came once, in order, with numbers in order."""
         for origin in members:
             own = [entry for entry in entries if entry.origin == origin]
             self.assertEqual([it.payload for it in own], numbered(origin, range(count)))
@@ -137,14 +137,14 @@ class GenerationTests(Heard):
                 self.assertEqual(cluster.living(), [[8]] * 3)
                 self.assertEqual([room.generation for room in rooms], [8] * 3)
                 self.assertLessEqual(max(node.most for node in cluster.nodes), 3)
-                # Memory of the clients does not grow with the generations.
+                # The clients' memory does not grow with the generations.
                 for room in rooms:
                     self.assertLess(len(room._plans.nodes.marked), 20)
                     for client in room._clients.values():
                         self.assertLess(len(client.operations.numbers._next), 4)
 
     def test_a_marker_that_comes_before_a_message(self) -> None:
-        # Where the kind keeps no order of origins.
+        # Kinds that keep no order of origins.
         cluster = timed(2)
         rooms = rooms_of(cluster, Spec("beb", (0, 1), 8, 4_096, 8))
         rooms[0].join()
@@ -168,8 +168,8 @@ class GenerationTests(Heard):
         self.assertEqual(
             [room.say(text) for text in texts], [(0, 1), (0, 2), (0, 3), (1, 1), (2, 1)]
         )
-        # In generation 0 three messages and 11 of 12 bytes are used. In generation 1 two bytes
-        # are, and ten more would leave none to the marker.
+        # In generation 0 three messages and 11 of 12 bytes are used. In generation 1 two bytes are
+        # used, and ten more would leave none to the marker.
         self.assertEqual(cluster.payloads(0, 0), [b"\1", b"\1abcde", b"\1abc", b"\0"])
         self.assertEqual(cluster.payloads(0, 1), [b"\1x", b"\0"])
         self.assertEqual(cluster.payloads(0, 2), [b"\1abcdefghi"])
@@ -197,7 +197,7 @@ class GenerationTests(Heard):
         other = cluster.client(0)
         for text in (b"", b"raw", b"\0more"):
             other.say(7, 1, text)
-        # It finds four messages and no marker, so its own can only stand in the next generation.
+        # It finds four messages and no marker, so its own can only be in the next generation.
         self.assertEqual(room.say(b"b"), (1, 1))
         self.assertEqual(
             list(room.follow(idle=0.5)), [RoomEntry(0, 0, 1, b"a"), RoomEntry(0, 1, 1, b"b")]
@@ -257,7 +257,7 @@ class GenerationTests(Heard):
 
 
 class MakerTests(Heard):
-    """Several who make generations, and some that stop in the middle."""
+    """Several members that make generations, and some that stop in the middle."""
 
     def test_a_generation_that_is_half_made(self) -> None:
         name = Generation(1, 1)
@@ -304,7 +304,7 @@ class MakerTests(Heard):
         second.say(b"1-0")
         for number in range(13):
             first.say(f"0-{number}".encode())
-        # It believes to be in generation 0, and the number that it takes there is free.
+        # The client takes itself to be in generation 0, and the number that it takes there is free.
         self.assertEqual(second.say(b"1-1"), (0, 2))
         self.assertEqual(room_of(cluster, 1).say(b"1-2"), (2, 1))
         # The other client of the member has said its marker now.
@@ -349,7 +349,8 @@ class MakerTests(Heard):
                 rooms[node].say(f"{node}-{number}".encode())
             hear(rooms[:2], heard[:2])
         self.assertEqual(cluster.living(), [[3], [3], [0]])
-        # It reads what came before, and then begins with a generation that it has from the start.
+        # It reads the messages before, and then begins with a generation that it has from the
+        # start.
         hear(rooms[2:], heard[2:], 2.0)
         self.assertEqual(cluster.living(), [[3, 4], [3, 4], [4]])
         self.assertEqual(rooms[2].say(b"2-1"), (4, 1))
@@ -384,7 +385,7 @@ class MakerTests(Heard):
 
 
 class SlowTests(Heard):
-    """Readers that are slow, late or not there, and members that crash."""
+    """Readers that are slow, late or missing, and members that crash."""
 
     def test_a_slow_reader_holds_up_the_room(self) -> None:
         cluster = timed()
@@ -396,14 +397,14 @@ class SlowTests(Heard):
                 rooms[0].say(f"0-{number}".encode())
                 number += 1
                 hear(rooms[:2], heard[:2])
-        # Four generations: three of six messages, and all of the fourth but its marker.
+        # Four generations: three of six messages, and all of the fourth except its marker.
         self.assertEqual(number, 3 * 6 + 7)
         self.assertIn("generation 4 of group 1 of tenant 7 at node", str(caught.exception))
         self.assertEqual(cluster.living(), [[0, 1, 2, 3]] * 3)
         assert cluster.now is not None
         self.assertAlmostEqual(cluster.now, 5.0, delta=0.5)
         self.assertEqual(cluster.texts("open", 0)[-1], "open 7 1.3")
-        # What was refused was not said. When the reader has read, it can be.
+        # The refused message was not said. When the reader has read, it can be.
         hear(rooms, heard, 1.0)
         hear(rooms, heard, 1.0)
         self.assertEqual(cluster.living(), [[3]] * 3)
@@ -512,7 +513,7 @@ class SlowTests(Heard):
                 self.assertEqual(cluster.living()[:2], [[4]] * 2)
 
     def test_what_a_crashed_member_said_in_the_next_generation(self) -> None:
-        # Its marker did not come to node 1, and what it said behind it did.
+        # Its marker did not come to node 1, and the message behind the marker did.
         cluster = timed()
         rooms = rooms_of(cluster, Spec("fbeb", ALL, 8, 4_096, 8))
         heard: List[List[RoomEntry]] = [[], []]
@@ -664,7 +665,7 @@ class SlowTests(Heard):
         seconds += list(second.follow(idle=0, drops=False))
         for entries in (*heard, seconds):
             self.assert_heard(entries, 40, (0,))
-        # What the others have dropped is passed over, and what lives still is read.
+        # Generations that the others have dropped are skipped, and those that live are still read.
         rest = list(third.follow(idle=0.5))
         self.assertEqual({it.generation for it in rest}, {6})
         rooms[1].say(b"1-0")
@@ -683,7 +684,7 @@ class SlowTests(Heard):
             for room in rooms[1:]:
                 list(room.follow(idle=0))
         self.assertEqual(found, numbered(0, range(20)))
-        # What it has not shown is not dropped.
+        # A generation that it has not shown is not dropped.
         self.assertEqual(cluster.living()[0], [0, 1, 2, 3][-len(cluster.living()[0]) :])
 
     def test_a_server_that_was_started_anew(self) -> None:
@@ -712,7 +713,7 @@ class SlowTests(Heard):
 
 
 class LostTests(Heard):
-    """Answers that do not come."""
+    """Replies that do not come."""
 
     def test_lost_answers_of_all_requests(self) -> None:
         for kind in ("fbeb", "fallack"):
@@ -731,13 +732,13 @@ class LostTests(Heard):
                     for entries in heard:
                         self.assert_heard(entries, 60)
                     self.assertLessEqual(max(map(len, cluster.living())), 2)
-                    # A payload stands in the logs once, with whatever was sent again.
+                    # A payload is in the logs once, whichever requests were sent again.
                     self.assertTrue(
                         any(reply == "refused 11 BadPlace" for *_, reply in cluster.asked)
                     )
 
     def in_doubt(self, cluster: Cluster, room: Room, payload: bytes, is_done: bool) -> RoomNumber:
-        """Say something whose answer does not come, and return what number it had."""
+        """Say something whose reply does not come, and return the number that it had."""
         fates = ["no reply" if is_done else "no request"]
         cluster.fate = lambda node, body: (
             fates.pop() if fates and body.startswith("say") else "carry"
@@ -863,7 +864,7 @@ class LostTests(Heard):
         cluster.held = {(0, 2)}
         room.say(b"b")
         room.say(b"c")
-        # Early, and it may not say its marker: nothing is left but that.
+        # It would go on early, and may not say its marker; and only the marker has room.
         with self.assertRaises(WindowError):
             room.say(b"d")
         self.assertEqual(cluster.payloads(1, 0), [b"\1a", b"\1b", b"\1c"])
@@ -872,7 +873,7 @@ class LostTests(Heard):
         self.assertEqual(cluster.payloads(2, 0), [b"\1a", b"\1b", b"\1c", b"\0"])
 
     def test_what_another_client_said_is_waited_for(self) -> None:
-        # In an all-ack group it shows when it is delivered.
+        # In an all-ack group a message is in the log when it is delivered.
         cluster = timed()
         room, other = room_of(cluster, 0), room_of(cluster, 0)
         other.join()
@@ -891,7 +892,7 @@ class BeginningTests(unittest.TestCase):
 
     @staticmethod
     def have_happen(cluster: Cluster, member: int, event: Callable[[], object]) -> None:
-        """Have something happen when a member first asks at another node."""
+        """Let something happen when a member first asks at another node."""
         waiting = [event]
 
         def fate(node: int, body: str) -> str:
@@ -951,10 +952,10 @@ class BeginningTests(unittest.TestCase):
 
 
 class AsyncRoomTests(unittest.IsolatedAsyncioTestCase):
-    """Many at once, in whatever order their requests come."""
+    """Many at once, in any order of their requests."""
 
     async def play(self, seed: int, kind: str, *, lossy: bool = False) -> None:
-        """Have three members say and read at once."""
+        """Let three members say and read at once."""
         count, numbers = 40, random.Random(seed)
         cluster = Cluster(order=random.Random(seed + 1))
         if lossy:
@@ -1122,7 +1123,7 @@ class ClusterTests(unittest.TestCase):
         return self.process.stdout.readline().rstrip("\n")
 
     def carry(self) -> None:
-        """Have all packets arrive, and be acknowledged."""
+        """Let all packets arrive, and be acknowledged."""
         pairs = [(giver, taker) for giver in ALL for taker in ALL if giver != taker]
         is_over = False
         while not is_over:
@@ -1135,7 +1136,7 @@ class ClusterTests(unittest.TestCase):
                     self.sim(self.sim(f"ack {taker} {giver}").replace("packet", "arrive"))
 
     def both(self, cluster: Cluster, node: int, head: str, words: str) -> str:
-        """Ask both, and return the reply, which is one but for the order of origins."""
+        """Ask both, and return the reply, which is the same except for the order of origins."""
         group = int(words.split(" ")[0].split(".")[0])
         secrets = cluster.keys(node)
         token = secrets.member(7, group) if head in ("say", "fetch") else secrets.tenant(7)
@@ -1213,7 +1214,7 @@ class ThreadTests(Heard):
                         try:
                             room.say(f"{node}-{number}".encode())
                             break
-                        except NoRoomError:  # What waits to be shown holds up its generation.
+                        except NoRoomError:  # Unshown messages hold up its generation.
                             heard[node] += list(room.follow(idle=0))
                     if number % 5 == node:
                         heard[node] += list(room.follow(idle=0))

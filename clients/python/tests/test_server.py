@@ -47,7 +47,7 @@ ALL = (0, 1, 2)
 
 
 def setUpModule() -> None:
-    """Skip all of this where there is no server to start."""
+    """Skip all of this if there is no server to start."""
     if program() is None:
         told = "no gb_serve: set GB_SERVE to its path, or build bin/gb_serve"
         print(f"tests against a server are skipped: {told}", file=sys.stderr)
@@ -55,7 +55,7 @@ def setUpModule() -> None:
 
 
 def started(server: Serving, spec: Spec, tenant: int = 7, group: int = 1) -> Group:
-    """Take the tenant in and start a group, and return it."""
+    """Add the tenant and start a group, and return it."""
     clients = server.clients()
     for client in clients.values():
         client.add_tenant(tenant, TENANT_KEY, 4, 1024, 65_536, 1024)
@@ -143,7 +143,7 @@ class ServerTests(unittest.TestCase):
                 clients[node].add_tenant(7, TENANT_KEY, 4, 100, 4096, 100)
             clients[0].make(7, 1, Spec("allack", (0, 1, 2), 100, 4096, 2))
             clients[0].open(7, 1)
-            # Nodes 1 and 2 have not made the group: what comes there is let fall.
+            # Nodes 1 and 2 have not made the group, so items that come there are let fall.
             with clients[0].pipeline() as pipeline:
                 tickets = [pipeline.say(7, 1, b"x") for _ in range(4)]
             self.assertEqual([tickets[0].result(), tickets[1].result()], [1, 2])
@@ -282,12 +282,12 @@ class RoomTests(unittest.TestCase):
     SPEC = Spec("fallack", ALL, 64, 65_536, 64)
 
     def begin(self, server: Serving) -> None:
-        """Take the tenant in."""
+        """Add the tenant."""
         for client in server.clients().values():
             client.add_tenant(7, TENANT_KEY, 4, 1024, 65_536, 1024)
 
     def assert_heard(self, heard: Sequence[Sequence[RoomEntry]], count: int) -> None:
-        """Each reader has each member's messages once, in order, from generation to generation."""
+        """Assert that each reader has each member's messages once, in the order of generations."""
         wanted = [str(number).encode() for number in range(count)]
         for entries in heard:
             for origin in ALL:
@@ -299,7 +299,7 @@ class RoomTests(unittest.TestCase):
             self.assertEqual(len(entries), 3 * count)
 
     def living(self, clients: Dict[int, Client]) -> List[int]:
-        """Return how many generations of the room each node lists as living, four at most."""
+        """Return how many generations of the room each node lists as living, at most four."""
         counts = []
         for client in clients.values():
             rows = [row for row in client.list_groups() if (row.tenant, row.group) == (7, 1)]
@@ -392,7 +392,7 @@ class RoomTests(unittest.TestCase):
                             try:
                                 room.say(str(number).encode())
                                 break
-                            except NoRoomError:  # What waits to be shown holds up its generation.
+                            except NoRoomError:  # Unshown messages hold up its generation.
                                 heard[node] += list(room.follow(idle=0))
                         if number % 8 == 0:
                             heard[node] += list(room.follow(idle=0))

@@ -75,7 +75,7 @@ def hmac_sha256(key: bytes, text: bytes) -> str:
 
 
 class ErrorTests(unittest.TestCase):
-    """Exceptions are what they are in Python too."""
+    """Exceptions are the corresponding ones of Python too."""
 
     def test_names(self) -> None:
         found = [it for it in vars(foqradesh).values() if isinstance(it, type)]
@@ -193,7 +193,7 @@ class TokenTests(unittest.TestCase):
 
 
 class RequestTests(unittest.TestCase):
-    """The texts of requests, as docs/FORMATS.md has them."""
+    """The texts of requests, as in docs/FORMATS.md."""
 
     def test_texts(self) -> None:
         token, key = "ab" * 32, bytes([0x33]) * 32
@@ -286,7 +286,7 @@ class ReplyTests(unittest.TestCase):
     """Replies are read exactly."""
 
     def assert_bad(self, read: Callable[[bytes], object], *bodies: bytes) -> None:
-        """Each of these is no reply."""
+        """Assert that none of these is a reply."""
         for body in bodies:
             with self.subTest(body=body[:60]), self.assertRaises(BadReplyError):
                 read(body)
@@ -507,7 +507,7 @@ class ReplyTests(unittest.TestCase):
                 reply = read(bytes(text))
             except BadReplyError:
                 continue
-            # What was read is spelt exactly so.
+            # The text that was read is the spelling of its reply.
             self.assertEqual(spelt(reply, read is read_second), bytes(text))
         for _ in range(5_000):
             body = bytes(numbers.randrange(256) for _ in range(numbers.randrange(40)))
@@ -579,7 +579,7 @@ class WireTests(unittest.TestCase):
 
 
 class NumberTests(unittest.TestCase):
-    """What a client believes of the next number."""
+    """The next number that a client expects."""
 
     def test_turns(self) -> None:
         numbers, group = Numbers(), (7, 1, 0)
@@ -603,7 +603,7 @@ class NumberTests(unittest.TestCase):
         self.assertEqual(numbers.next(group), 10)
         numbers.forget(group)
         self.assertIsNone(numbers.next(group))
-        # What was taken before is of an older turn than all that is known later.
+        # A number that was taken before is of an older turn than all that are known later.
         numbers.set(group, 3)
         numbers.give_back(group, fourth)
         numbers.lose(group, third)

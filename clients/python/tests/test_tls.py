@@ -1,4 +1,4 @@
-"""Clients of a node behind a proxy that ends TLS. tls.pem has the proxy's certificate and key, which serve nothing else."""
+"""Clients of a node behind a proxy that ends TLS. tls.pem has the proxy's certificate and key, which have no other use."""
 
 from __future__ import annotations
 
@@ -20,12 +20,12 @@ LONG = b"x" * 1_500
 
 
 def trusting() -> ssl.SSLContext:
-    """Return a context that takes the proxy's certificate alone."""
+    """Return a context that trusts the proxy's certificate alone."""
     return ssl.create_default_context(cafile=str(PEM))
 
 
 class Proxy:
-    """Ends TLS before a server, a connection of its own for each of a client's."""
+    """Ends TLS in front of a server, with a connection of its own for each of a client's."""
 
     def __init__(self, server: Tuple[str, int]) -> None:
         self._server = server

@@ -1,4 +1,4 @@
--- The messages that a node was told to say are those that were accepted there.
+-- The messages that a node said are those that were accepted there.
 use Rattle.gb_types.specs.Common.{◌≡◌, ℕ, ◌+◌, ◌-◌, Bool, true, false, nat_eq, ◌||◌, List, [], ◌∷◌, ◌++◌, length, Option, Some, None, refl, sym, ap, ◌∙◌, subst, length-append, slice_get, if◌then◌else◌, eqb-true, append-nil, append_assoc, version_at}
 use Rattle.gb_types.specs.declared.{entry.Entry.Entry, node.NodeId.NodeId, plan.Bounds.Bounds, refusal.Refusal.TheVariants.Spent, refusal.Refusal.TheVariants.Stopped, reply.Reply.Reply, spec.Spec.Spec, version.Version.Version, new_message.NewMessage.NewMessage, address.Addr.Addr, reply.Reply.TheVariants.Done, reply.Reply.TheVariants.Said, reply.Reply.TheVariants.Refused}
 use Rattle.gb_rules.specs.Common.{said_in, Shown, is_gone, is_other, is_too_long, say_answer, on_made, by_tenant}
@@ -10,7 +10,7 @@ use Rattle.gb_alone.specs.declared.event.GroupEvent.TheVariants.{Tenant, Make as
 use Rattle.gb_alone.proofs.UsageLemmas.{shown_of}
 use Rattle.gb_rules.proofs.SayLemmas.{said_is}
 
--- what was said here, in order
+-- the messages that were said here, in order
 unfoldable pub own_said : List GroupCall → List Accepted
 own_said [] = []
 own_said (Own x ∷ told) = own_said told ++ record { seq = x.seq; payload = x.payload } ∷ []

@@ -37,7 +37,7 @@ paired [] rs = []
 paired (e ∷ es) [] = []
 paired (e ∷ es) (r ∷ rs) = accepted_in e r ++ paired es rs
 
--- these payloads were accepted where commands have these replies
+-- these payloads were accepted if the commands have these replies
 pub record Pairs (es : List GroupEvent) (rs : List Reply) (ps : List Accepted) : Type 0 where
   pub alike : length es ≡ length rs
   pub payloads : paired es rs ≡ ps

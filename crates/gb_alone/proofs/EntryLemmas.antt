@@ -1,4 +1,4 @@
--- A property of each message that a node is told of holds of each message that it knows or puts out.
+-- A property of each message in a node's calls is a property of each message that it knows or queues.
 use Rattle.gb_types.specs.Common.{◌≡◌, ℕ, zero, suc, ◌-◌, Bool, true, false, not, ◌&&◌, ◌||◌, nat_eq, take, List, [], ◌∷◌, ◌++◌, Option, Some, None, refl, sym, subst, All, slice_get, if◌then◌else◌, All-nil, All-cons, All-head, All-tail, All-append, take-nil, version_at}
 use Rattle.gb_types.specs.declared.{entry.Entry.Entry, node.NodeId.NodeId, plan.Bounds.Bounds, reply.Reply.Reply, reply.Reply.TheVariants.Done, reply.Reply.TheVariants.Said, spec.Spec.Spec, version.Version.Version, new_message.NewMessage.NewMessage, address.Addr.Addr}
 use Rattle.gb_rules.specs.Common.{calls_of, known, puts_of, is_other, is_too_long}
@@ -9,12 +9,12 @@ use Rattle.gb_alone.specs.declared.event.GroupEvent.{GroupEvent}
 use Rattle.gb_alone.specs.declared.event.GroupEvent.TheVariants.{Tenant, Make as AskMake, Open as AskOpen, Shut as AskShut, Drop as AskDrop, Say as AskSay, OtherMade, OtherDropped, Took, Came, Done as Acknowledged, Notice, Stop}
 use Rattle.gb_alone.proofs.KnownLemmas.{HoldsOfTold, all_known, all_puts}
 
--- it holds of all that is known at the node, and of all that is put out there
+-- each message that is known or queued at the node has the property
 pub record HoldsAt (P : Entry → Type 0) (m : Member) : Type 0 where
   pub known : All P (known m.told)
   pub put : (b : ℕ) → All P (m.put b)
 
--- the group is told of a message
+-- the group receives a call about a message
 holds_called : (P : Entry → Type 0) (me : ℕ) (c : GroupCall) (m : Member) → HoldsOfTold P c → HoldsAt P m → HoldsAt P (called me c m)
 holds_called P me c m is holds = record {
   known = grown;
@@ -50,7 +50,7 @@ all_taken P n [] all = subst (All P) (sym (take-nil n)) all
 all_taken P zero (x ∷ xs) all = All-nil P
 all_taken P (suc n) (x ∷ xs) all = All-cons P x (take n xs) (All-head P x xs all) (all_taken P n xs (All-tail P x xs all))
 
--- what waits is given up
+-- the items that wait are discarded
 holds_cut : (P : Entry → Type 0) (q : NodeId) (m : Member) → HoldsAt P m → HoldsAt P (cut q m)
 holds_cut P q m holds = record {
   known = holds.known;
@@ -76,7 +76,7 @@ holds_did P me AskDrop Done m says holds = record { known = holds.known; put = �
 holds_did P me (AskSay message) (Said seq) m says holds = holds_called P me.number (Own (record { origin = me; seq = seq; payload = message.payload })) m (says message seq refl refl) holds
 holds_did P me event reply m says holds = holds
 
--- after an event, where it holds of what is said, and of what comes and is not too long
+-- after an event, if each message that is said has the property, and each that comes and is not too long
 pub holds_after : (P : Entry → Type 0) (bounds : Bounds) (addr : Addr) (me : NodeId) (event : GroupEvent) (group : Group)
     → ((message : NewMessage) (seq : ℕ) → event ≡ AskSay message → reply_to bounds addr me.number event (group me.number) ≡ Said seq → P (record { origin = me; seq = seq; payload = message.payload }))
     → ((from : NodeId) (place : ℕ) (x : Entry) → slice_get ((group from.number).put me.number) (place - 1) ≡ Some x → is_too_long (version_at bounds.versions me.number) x.payload ≡ false → P x)

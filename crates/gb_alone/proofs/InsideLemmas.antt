@@ -12,7 +12,7 @@ use Rattle.gb_alone.specs.declared.{event.GroupEvent.GroupEvent, event.GroupStep
 use Rattle.gb_alone.specs.declared.event.GroupEvent.TheVariants.{Tenant, Make as AskMake, Open as AskOpen, Shut as AskShut, Drop as AskDrop, Say as AskSay, OtherMade, OtherDropped, Took, Came, Done as Acknowledged, Notice, Stop}
 use Rattle.gb_alone.proofs.UsageLemmas.{shown_of}
 
--- the node and the members are nodes of a cluster of so many
+-- the node and the members are nodes of a cluster of this size
 abbrev pub IsWithin : ℕ → ℕ → Spec → Type 0
 IsWithin nodes me spec = (me < nodes) × ((b : ℕ) → is_member spec b ≡ true → b < nodes)
 
@@ -51,7 +51,7 @@ make_inside bounds addr me spec m = running m.stopped
     running true h = cc
     running false h = by m.reserve h
 
--- a group that was made there is at a node of the cluster
+-- if the group was made there, the node is one of the cluster
 abbrev pub IsInside : ℕ → ℕ → Member → Type 0
 IsInside nodes a m = (spec : Spec) → m.spec ≡ Some spec → IsWithin nodes a spec
 
@@ -93,7 +93,7 @@ step_inside bounds addr group step all x = go (nat_eq x step.node.number) refl
     go true here = subst (λ y. IsInside bounds.nodes y (member_after bounds addr step.node step.event group)) (sym (eqb-true x step.node.number here)) (event_inside bounds addr step.node step.event group (all step.node.number))
     go false here = all x
 
--- and so nothing is accepted elsewhere
+-- so nothing is accepted at other numbers
 refused_beyond : (bounds : Bounds) (addr : Addr) (s : ℕ) (event : GroupEvent) (m : Member) → bounds.nodes ≤ s → IsInside bounds.nodes s m → accepted_in event (reply_to bounds addr s event m) ≡ []
 refused_beyond bounds addr s (AskSay message) m beyond inside = running m.stopped
   where
@@ -117,7 +117,7 @@ none_beyond bounds addr s beyond (step ∷ steps) group all =
     ] in
     ap (λ ps. ps ++ accepted_from bounds addr (after bounds addr group step) steps s) first ∙ none_beyond bounds addr s beyond steps (after bounds addr group step) (step_inside bounds addr group step all)
 
--- so it is after all events
+-- the same after all events
 pub run_inside : (bounds : Bounds) (addr : Addr) (steps : List GroupStep) (group : Group) → AllInside bounds.nodes group → AllInside bounds.nodes (alone_from bounds addr group steps)
 run_inside bounds addr [] group all = all
 run_inside bounds addr (step ∷ steps) group all = run_inside bounds addr steps (after bounds addr group step) (step_inside bounds addr group step all)

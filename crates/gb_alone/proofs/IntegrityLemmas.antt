@@ -1,4 +1,4 @@
--- Every message that a node knows or puts out was accepted at its origin.
+-- Every message that a node knows or queues was accepted at its origin.
 use Rattle.gb_types.specs.Common.{◌≡◌, ℕ, zero, suc, ◌+◌, ◌-◌, ◌≤◌, Bool, true, false, nat_eq, List, [], ◌∷◌, ◌++◌, length, Option, Some, None, refl, sym, ap, ◌∙◌, arith, All, slice_get, if◌then◌else◌, eq-eqb, All-nil, All-weaker}
 use Rattle.gb_types.specs.declared.{entry.Entry.Entry, message.MsgId.MsgId, node.NodeId.NodeId, plan.Bounds.Bounds, spec.Spec.Spec, address.Addr.Addr}
 use Rattle.gb_rules.specs.Common.{known, said_in}
@@ -10,11 +10,11 @@ use Rattle.gb_alone.proofs.AcceptedLemmas.{own_said, length-own_said, next_said,
 use Rattle.gb_alone.proofs.EntryLemmas.{HoldsAt, holds_after}
 use Rattle.gb_alone.proofs.KnownLemmas.{all_at, all_log, copies-log}
 
--- what holds of a node, where these are the payloads of what each node said
+-- the invariant of a node, for these messages that each node said
 abbrev pub Fits : (ℕ → List Accepted) → Member → Type 0
 Fits said m = HoldsAt (IsAccepted said) m
 
--- each node has said the same and more
+-- each node has said the same messages and more
 abbrev Later : (ℕ → List Accepted) → (ℕ → List Accepted) → Type 0
 Later said next = (s : ℕ) → (more : List Accepted) × (next s ≡ said s ++ more)
 
@@ -36,13 +36,13 @@ fits_later said next later m fits = record {
   put = λ b. All-weaker (IsAccepted said) (IsAccepted next) (said_later said next later) (m.put b) (fits.put b);
 }
 
--- what is said now has the next number
+-- the message that is said now has the next number
 said_now : (said : ℕ → List Accepted) (me : NodeId) (seq : ℕ) (payload : List ℕ) (told : List GroupCall) → seq ≡ said_in told + 1 → said me.number ≡ own_said told ++ record { seq = seq; payload = payload } ∷ [] → IsAccepted said (record { origin = me; seq = seq; payload = payload })
 said_now said me seq payload told next now =
     let place : seq - 1 ≡ length (own_said told) = omega (arith, length-own_said told) in
     (omega arith, ap (λ ps. slice_get ps (seq - 1)) now ∙ (ap (slice_get (own_said told ++ record { seq = seq; payload = payload } ∷ [])) place ∙ get-last (own_said told) (record { seq = seq; payload = payload })))
 
--- what each node said
+-- the messages that each node said
 abbrev sayings : Group → ℕ → List Accepted
 sayings group s = own_said (group s).told
 
@@ -56,7 +56,7 @@ event_fits bounds addr said me event group now all =
     (now ∙ (λ i. own_said (group me.number).told ++ accepted_in (e i) (h i))))
     (λ from place x there short. all_at (IsAccepted said) ((group from.number).put me.number) (place - 1) x ((all from.number).put me.number) there) (all me.number)
 
--- every node keeps it through every event
+-- every node keeps the invariant through every event
 step_fits : (bounds : Bounds) (addr : Addr) (group : Group) (step : GroupStep) → AllFit group → AllFit (after bounds addr group step)
 unfolding after
 step_fits bounds addr group step all x = at (nat_eq x step.node.number) refl

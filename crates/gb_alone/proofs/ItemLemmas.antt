@@ -1,4 +1,4 @@
--- Which item a row put out to a node has at a place.
+-- The item at a place of the items queued for a node.
 use Rattle.gb_types.specs.Common.{ℕ, ◌≡◌, ◌-◌, ◌≤◌, ◌<◌, List, [], length, get_or, refl, Some, None, slice_get, slice_get_past, slice_get_read}
 use Rattle.gb_types.specs.declared.entry.Entry.{Entry}
 

@@ -9,7 +9,7 @@ use Rattle.gb_rules.specs.Common.{call_of, calls_of, known, delivered, log_of, p
 use Rattle.gb_rules.specs.declared.{call.GroupCall.GroupCall, call.GroupCall.TheVariants.Own, call.GroupCall.TheVariants.Other, call.GroupCall.TheVariants.Crashed}
 use Rattle.gb_alone.specs.Laws.{copies}
 
--- what holds of each message of a list holds of the entry that is found there
+-- a property of each message of a list is a property of the entry that is found there
 entry_found : (P : Entry → Type 0) (xs : List Entry) (m : MsgId) → All P xs → has xs m ≡ true → P (entry_in xs m)
 entry_found P [] m all h = cc
 entry_found P (x ∷ xs) m all h = go (entry_found P xs m (All-tail P x xs all)) (same (message_of x) m) refl h
@@ -22,11 +22,11 @@ entries_found : (P : Entry → Type 0) (told : List GroupCall) (ms : List MsgId)
 entries_found P told [] all there = tt
 entries_found P told (m ∷ ms) all there = (entry_found P (known told) m all (has-known told m ∙ there.0), entries_found P told ms all there.1)
 
--- what holds of each known message holds of the log
+-- a property of each known message is a property of each message of the log
 pub all_log : (P : Entry → Type 0) (spec : Spec) (me : ℕ) (told : List GroupCall) → All P (known told) → All P (log_of spec me told)
 all_log P spec me told all = All-from_recursion P (log_of spec me told) (entries_found P told (delivered spec me told) all (kind_log_mentioned spec.kind me (set.items spec.members) (calls_of told)))
 
--- and of what a call makes the group broadcast
+-- and of each message that a call makes the group broadcast
 pub all_puts : (P : Entry → Type 0) (spec : Spec) (me : ℕ) (c : GroupCall) (told : List GroupCall) → All P (known (c ∷ told)) → All P (puts_of spec me c told)
 unfolding calls_of
 all_puts P spec me c told all = All-from_recursion P (puts_of spec me c told) (entries_found P (c ∷ told) (kind_broadcasts spec.kind me (call_of c) (calls_of told)) all (kind_broadcasts_mentioned spec.kind me (call_of c) (calls_of told)))
@@ -37,13 +37,13 @@ with_one P xs x here all = elim (has xs (message_of x)) as (λ b. All P (if b th
   | false ↦ All-push P xs x all here
 ]
 
--- it holds of the message that the group is told of, if there is one
+-- the message that the call is about, if there is one, has the property
 abbrev pub HoldsOfTold : (Entry → Type 0) → GroupCall → Type 0
 HoldsOfTold P (Own x) = P x
 HoldsOfTold P (Other p x) = P x
 HoldsOfTold P (Crashed q) = Unit {0}
 
--- a call makes one more message known at most
+-- a call makes at most one more message known
 pub all_known : (P : Entry → Type 0) (c : GroupCall) (told : List GroupCall) → HoldsOfTold P c → All P (known told) → All P (known (c ∷ told))
 unfolding known
 all_known P (Own x) told here all = with_one P (known told) x here all
@@ -64,13 +64,13 @@ copies-entries xs m (y ∷ ms) = go (same y m) (copies-entries xs m ms)
     go true e = ap (λ n. suc n) e
     go false e = e
 
--- no message stands twice in a log
+-- no message is in a log twice
 pub copies-log : (spec : Spec) (me : ℕ) (told : List GroupCall) (m : MsgId) → copies m (log_of spec me told) ≤ 1
 copies-log spec me told m =
     subst (λ n. n ≤ 1) (sym (copies-entries (known told) m (delivered spec me told)) ∙ length-filter (λ (x : Entry). same (message_of x) m) (log_of spec me told))
     (kind_log_once spec.kind me (set.items spec.members) (calls_of told) m)
 
--- the messages of a log are what was delivered
+-- the messages of a log are the delivered messages
 pub messages-log : (spec : Spec) (me : ℕ) (told : List GroupCall) → map message_of (log_of spec me told) ≡ delivered spec me told
 messages-log spec me told = of_entries (known told) (delivered spec me told)
   where

@@ -1,4 +1,4 @@
--- Which items of a list are acknowledged, by their places.
+-- The acknowledged items of a list, by their places.
 use Rattle.gb_types.specs.Common.{◌≡◌, ℕ, suc, ◌+◌, ◌≤◌, ◌<◌, List, [], ◌∷◌, ◌++◌, length, Bool, true, false, ◌&&◌, ◌||◌, refl, sym, ◌∙◌, ap, arith, list_any, or_assoc, or_parts}
 use Rattle.gb_types.specs.declared.entry.Entry.{Entry}
 use Rattle.gb_alone.specs.Alone.{is_marked, is_message, is_acknowledged}
@@ -7,7 +7,7 @@ and_false : (a b : Bool) → b ≡ false → (a && b) ≡ false
 and_false true b e = e
 and_false false b e = refl
 
--- where no place from here on is marked, none of these is acknowledged
+-- if no place from here on is marked, none of these is acknowledged
 pub none_acknowledged : (me k : ℕ) (done : List ℕ) (place : ℕ) (xs : List Entry) → ((p : ℕ) → place ≤ p → is_marked p done ≡ false) → is_acknowledged me k done place xs ≡ false
 none_acknowledged me k done place [] none = refl
 none_acknowledged me k done place (x ∷ xs) none = λ i. (and_false (is_message me k x) (is_marked place done) (none place (omega arith)) i) || none_acknowledged me k done (place + 1) xs (λ p above. none p (omega (arith, above))) i
@@ -31,7 +31,7 @@ unknown_acknowledged me k done place (x ∷ xs) none =
 
 -- More places are acknowledged.
 
--- of these items, with the places from this one on, the message stands at a place that passes the test
+-- these items, with the places from this one on, have the message at a place that passes the test
 abbrev pub is_own_at : ℕ → ℕ → (ℕ → Bool) → ℕ → List Entry → Bool
 is_own_at me k test place [] = false
 is_own_at me k test place (x ∷ xs) = (is_message me k x && test place) || is_own_at me k test (place + 1) xs
@@ -61,7 +61,7 @@ own_at-append me k test place (x ∷ xs) ys =
     plus : (a b : ℕ) → a + 1 + b ≡ a + suc b
     plus a b = omega arith
 
--- items whose places all pass, or none of them
+-- items whose places all pass, or all fail
 pub own_at-same : (me k : ℕ) (test : ℕ → Bool) (t : Bool) (place : ℕ) (xs : List Entry) → ((p : ℕ) → place ≤ p → p < place + length xs → test p ≡ t) → is_own_at me k test place xs ≡ (t && list_any (is_message me k) xs)
 own_at-same me k test true place [] marked = refl
 own_at-same me k test false place [] marked = refl

@@ -1,4 +1,4 @@
--- The plain program's lists stand for the group alone.
+-- The plain program's lists represent the group alone.
 use Rattle.gb_types.specs.Common.{◌≡◌, ℕ, zero, suc, ◌+◌, ◌-◌, ◌<◌, ◌≤◌, ◌⊎◌, inl, inr, List, [], ◌∷◌, ◌++◌, length, take, get_or, nat_eq, Bool, true, false, not, ◌&&◌, ◌||◌, ◌∙◌, ap, sym, subst, refl, arith, length-append, range_with_len, map, fold, replicate, slice_get, slice_index_or, slice_set, Option, Some, None, is_some, nat_lt, if◌then◌else◌, get_or-replicate, get_or-set_same, get_or-set_other, get_or_append_left, length-set, length-map, map-append, take_more, fold-append, get_or-append_seam, take-nil, cases_lt, eqb_tells, version_at}
 use Rattle.gb_types.specs.declared.{entry.Entry.Entry, limits.TheConstants.NODES, node.NodeId.NodeId, plan.Bounds.Bounds, reply.Reply.Reply, refusal.Refusal.TheVariants.Stopped, spec.Spec.Spec, version.Version.Version, address.Addr.Addr, reply.Reply.TheVariants.Done, reply.Reply.TheVariants.Said, reply.Reply.TheVariants.Refused}
 use Rattle.gb_rules.specs.Common.{puts_of, calls_of, Shown, is_other, is_too_long, open_answer, shut_answer, drop_answer, say_answer, fetch_answer, on_made, make_answer, by_tenant}
@@ -354,7 +354,7 @@ start_listed = record {
   size = refl;
 }
 
--- the plain program's lists after all steps are the group alone
+-- the plain program's lists after all steps represent the group alone
 pub alone_listed : (bounds : Bounds) (addr : Addr) (steps : List GroupStep) → StandForMembers (fold (values_after bounds addr) (replicate NODES new_member) steps) (alone bounds addr steps)
 alone_listed bounds addr steps = steps_listed bounds addr steps (replicate NODES new_member) nobody start_listed
 

@@ -14,7 +14,7 @@ use Rattle.gb_alone.specs.declared.{event.GroupEvent.GroupEvent, event.GroupStep
 use Rattle.gb_alone.specs.declared.event.GroupEvent.TheVariants.{Tenant, Make as AskMake, Open as AskOpen, Shut as AskShut, Drop as AskDrop, Say as AskSay, OtherMade, OtherDropped, Took, Came, Done as Acknowledged, Notice, Stop}
 use Rattle.gb_alone.proofs.ObservationLemmas.{take_short}
 
--- What a notice of a node delivers and broadcasts where the node was noticed before: nothing.
+-- A notice of a node that was noticed before delivers and broadcasts nothing.
 
 module _ (q : NodeId) (past : List Call) (was : was_noticed past q.number ≡ true) where
   noticed_same : (p : ℕ) → was_noticed (Noticed q ∷ past) p ≡ was_noticed past p
@@ -46,7 +46,7 @@ module _ (q : NodeId) (past : List Call) (was : was_noticed past q.number ≡ tr
   log_kept : (base : Module) (me : ℕ) (members : List ℕ) → log base me members (Noticed q ∷ past) ≡ log base me members past
   log_kept base me members = ap (λ ms. log base me members past ++ ms) (none_new (now_delivered base me members) (delivered_same base me members)) ∙ append-nil (log base me members past)
 
--- A group that is told of a node twice.
+-- A group that receives two notices of a node.
 
 log_again : (me : ℕ) (q : NodeId) (told : List GroupCall) (o : Option Spec) → has_noticed told q.number ≡ true → log_at me o (Crashed q ∷ told) ≡ log_at me o told
 unfolding calls_of known
@@ -65,7 +65,7 @@ put_again me q told put b (Some spec) was = go (is_other spec me b && not (has_n
     go true = ap (λ xs. put b ++ xs) (puts_none spec me q told was) ∙ append-nil (put b)
     go false = refl
 
--- Nothing waits for a node that the group was told of.
+-- No item waits for a node that the group noticed.
 
 abbrev IsCut : Member → Type 0
 IsCut m = (q : ℕ) → has_noticed m.told q ≡ true → length (m.put q) ≤ m.taken q

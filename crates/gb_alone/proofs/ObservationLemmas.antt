@@ -19,7 +19,7 @@ pub map_none : {X : Type 0} (f : ℕ → X) → map f (numbers_below 0) ≡ []
 unfolding numbers_below
 map_none f = refl
 
--- lists of what is seen are equal where the nodes are
+-- lists of the values seen are equal if the values at each node are
 map_same : {X : Type 0} (f h : ℕ → X) (n : ℕ) → ((a : ℕ) → a < n → f a ≡ h a) → map f (numbers_below n) ≡ map h (numbers_below n)
 unfolding numbers_below
 map_same f h zero same = refl

@@ -1,4 +1,4 @@
--- How much of its spec's limits a node has used, read only from the nodes of the cluster.
+-- The use of a spec's limits at a node, computed only from the nodes of the cluster.
 use Rattle.gb_types.specs.Common.{◌≡◌, ℕ, zero, suc, ◌+◌, ◌<◌, Bool, true, false, ◌&&◌, ◌||◌, nat_eq, List, ◌∷◌, Option, Some, None, refl, sym, ap, ◌∙◌, cond, arith, option_map, if◌then◌else◌, list_all, nat_cmp, rising, rising_from}
 use Rattle.std.specs.FinSet as set
 use Rattle.gb_types.specs.declared.{entry.Entry.Entry, limits.TheConstants.NODES, spec.Spec.Spec}
@@ -24,17 +24,17 @@ all_from s p q same (suc n) i end =
 pub all_alike : (s : set.FinSet nat_cmp) (p q : ℕ → Bool) → ((b : ℕ) → set.contains s b ≡ true → b < NODES → p b ≡ q b) → list_all p (rising s) ≡ list_all q (rising s)
 all_alike s p q same = ap (list_all p) (sym (rising_from-start s)) ∙ (all_from s p q same NODES 0 refl ∙ ap (list_all q) (rising_from-start s))
 
--- tests that agree on numbers from k on count the same there
+-- tests that agree on the numbers from k on count the same there
 pub count_alike : (p q : ℕ → Bool) → ((k : ℕ) → p k ≡ q k) → (k n : ℕ) → count_unfinished p k n ≡ count_unfinished q k n
 unfolding count_unfinished
 count_alike p q same k zero = refl
 count_alike p q same k (suc n) = λ i. (if same k i then 0 else 1) + count_alike p q same (k + 1) n i
 
--- what the rules read, where the group was made with this
+-- the state that the rules read, if the group was made with this spec
 abbrev pub shown_of : ℕ → Phase → List GroupCall → (ℕ → List Entry) → (ℕ → List ℕ) → Option Spec → Option Shown
 shown_of me phase told put done o = option_map (shown_in me phase told put done) o
 
--- items and marks that agree at the nodes show the same
+-- items and marks that agree at the nodes show the same state
 pub shown_alike : (me : ℕ) (phase : Phase) (told : List GroupCall) (put row : ℕ → List Entry) (done marks : ℕ → List ℕ) (o : Option Spec) → ((b : ℕ) → b < NODES → put b ≡ row b) → ((b : ℕ) → b < NODES → done b ≡ marks b) → shown_of me phase told put done o ≡ shown_of me phase told row marks o
 shown_alike me phase told put row done marks None same alike = refl
 shown_alike me phase told put row done marks (Some spec) same alike =

@@ -12,26 +12,26 @@ use Rattle.gb_alone.specs.declared.event.GroupEvent.TheVariants.{Tenant, Make as
 
 -- the group at one node
 pub record Member : Type 0 where
-  -- what its tenant may have; None until the tenant is taken in
+  -- the reserve of its tenant; None until the tenant is added
   pub reserve : Option Reserve
-  -- None until the group is made
+  -- the spec of the group; None until the group is made
   pub spec : Option Spec
   -- a later generation of the group's room was made
   pub passed : Bool
   -- the number of other generations of the room that live
   pub others : ℕ
   pub phase : Phase
-  -- all that the group was told here, until it was dropped
+  -- the calls that the group received here until it was dropped
   pub told : List GroupCall
   -- the replies to its commands, in order
   pub replies : List Reply
-  -- the items put out to each node, in order
+  -- the items queued for each node, in order
   pub put : ℕ → List Entry
-  -- how many of them are carried; the others wait
+  -- the number of items for each node that are carried; the others wait
   pub taken : ℕ → ℕ
-  -- the places of the items that have come from each node
+  -- the places of the items that have arrived from each node
   pub come : ℕ → List ℕ
-  -- the places of the items put out to each node that are acknowledged
+  -- the places of the items queued for each node that are acknowledged
   pub done : ℕ → List ℕ
   -- the nodes that were noticed here
   pub noticed : List ℕ
@@ -41,7 +41,7 @@ pub record Member : Type 0 where
 abbrev pub Group : Type 0
 Group = ℕ → Member
 
--- the log of a node: what was delivered there, in order; empty if there is no spec
+-- the log of a node: the delivered messages, in order; empty if there is no spec
 abbrev pub log_at : ℕ → Option Spec → List GroupCall → List Entry
 log_at me o told = option_map_or (λ spec. log_of spec me told) o []
 
@@ -57,7 +57,7 @@ is_message me k x = nat_eq x.origin.number me && nat_eq x.seq k
 abbrev pub is_marked : ℕ → List ℕ → Bool
 is_marked place marks = list_any (λ p. nat_eq p place) marks
 
--- the message of the node me with this number stands, among these items put out to a node, at a place that is done; the items have the places from this one on
+-- the message of the node me with this number is among these items, at a place that is acknowledged; the items have the places from `place` on
 abbrev pub is_acknowledged : ℕ → ℕ → List ℕ → ℕ → List Entry → Bool
 is_acknowledged me k done place [] = false
 is_acknowledged me k done place (x ∷ xs) = (is_message me k x && is_marked place done) || is_acknowledged me k done (place + 1) xs
@@ -66,20 +66,20 @@ is_acknowledged me k done place (x ∷ xs) = (is_message me k x && is_marked pla
 abbrev pub is_finished_alone : Spec → ℕ → List GroupCall → (ℕ → List Entry) → (ℕ → List ℕ) → ℕ → Bool
 is_finished_alone spec me told put done k = list_all (λ b. nat_eq b me || (was_noticed (calls_of told) b || is_acknowledged me k (done b) 1 (put b))) (rising spec.members)
 
--- how many of the numbers from k on do not pass the test
+-- the number of the n numbers from k on that do not pass the test
 unfoldable pub count_unfinished : (ℕ → Bool) → ℕ → ℕ → ℕ
 count_unfinished finished k zero = 0
 count_unfinished finished k (suc n) = (if finished k then 0 else 1) + count_unfinished finished (k + 1) n
 
--- how much of its spec's limits the node has used
+-- the use of its spec's limits at the node
 abbrev pub usage_of : Spec → ℕ → List GroupCall → (ℕ → List Entry) → (ℕ → List ℕ) → Usage
 usage_of spec me told put done = record { said = said_in told; bytes = bytes_in told me; unfinished = count_unfinished (is_finished_alone spec me told put done) 1 (said_in told) }
 
--- what the rules read of a group with this spec at a node
+-- the state that the rules read of a group with this spec at a node
 abbrev pub shown_in : ℕ → Phase → List GroupCall → (ℕ → List Entry) → (ℕ → List ℕ) → Spec → Shown
 shown_in me phase told put done spec = record { spec = spec; phase = phase; usage = usage_of spec me told put done; log = log_of spec me told }
 
--- what the rules read of the group at a node; None if the group was not made there
+-- the state that the rules read of the group at a node; None if the group was not made there
 abbrev pub shown : ℕ → Member → Option Shown
 shown me m = option_map (shown_in me m.phase m.told m.put m.done) m.spec
 
@@ -101,16 +101,16 @@ running_reply bounds addr me event m = Done
 abbrev pub reply_to : Bounds → Addr → ℕ → GroupEvent → Member → Reply
 reply_to bounds addr me event m = if m.stopped then Refused Stopped else running_reply bounds addr me event m
 
--- what a call makes the group broadcast is put out to each other member that was not noticed, after what was put out before
+-- the items queued for a node after a call: if it is another member and was not noticed, the messages that the call broadcasts are added
 abbrev pub put_to : ℕ → Option Spec → GroupCall → List GroupCall → (ℕ → List Entry) → ℕ → List Entry
 put_to me None c told put b = put b
 put_to me (Some spec) c told put b = if is_other spec me b && not (was_noticed (calls_of (c ∷ told)) b) then put b ++ puts_of spec me c told else put b
 
--- the group is told something at the node
+-- the group at the node after it receives a call
 abbrev pub called : ℕ → GroupCall → Member → Member
 called me c m = record m { told = c ∷ m.told; put = put_to me m.spec c m.told m.put }
 
--- what a command with its reply changes; if the group is dropped, the items that wait are discarded
+-- the group after a command and its reply; if the group is dropped, the items that wait are discarded
 abbrev pub did : NodeId → GroupEvent → Reply → Member → Member
 did me (AskMake spec) Done m = record m { spec = Some spec }
 did me AskOpen Done m = record m { phase = Opened }
@@ -119,7 +119,7 @@ did me AskDrop Done m = record m { phase = Gone; put = λ b. take (m.taken b) (m
 did me (AskSay message) (Said seq) m = called me.number (Own (record { origin = me; seq = seq; payload = message.payload })) m
 did me event reply m = m
 
--- a command is answered, and its reply is kept
+-- the group after a command is answered; the reply is kept
 abbrev pub commanded : NodeId → GroupEvent → Reply → Member → Member
 commanded me event reply m = let next = did me event reply m in record next { replies = m.replies ++ reply ∷ [] }
 
@@ -127,35 +127,35 @@ abbrev pub falls : ℕ → ℕ → Entry → List GroupCall → Option Spec → 
 falls me from x told None = true
 falls me from x told (Some spec) = falls_after spec me told from x
 
--- the group is told of an item that comes, unless the item is let fall: it is too long for the version that this node sends, or the group's rules let it fall
+-- the group receives an item that comes, unless the item is discarded: it is too long for this node's version, or the rules let it fall
 abbrev pub item_came : Version → ℕ → NodeId → Entry → Member → Member
 item_came version me from x m = if is_too_long version x.payload || falls me from.number x m.told (held_spec m.phase m.spec) then m else called me (Other from x) m
 
--- the item with this place comes from a node, if there is one
+-- the group after the item with this place, if there is one, comes from a node
 abbrev pub taken_in : Version → ℕ → NodeId → ℕ → Option Entry → Member → Member
 taken_in version me from place None m = m
 taken_in version me from place (Some x) m =
     let next = item_came version me from x m in
     record next { come = λ b. if nat_eq b from.number then place ∷ m.come b else m.come b }
 
--- items put out to a node are acknowledged
+-- the group after items queued for a node are acknowledged
 abbrev pub item_done : NodeId → ℕ → ℕ → Member → Member
 item_done b place count m = record m { done = λ x. if nat_eq x b.number then range_with_len place count ++ m.done x else m.done x }
 
--- the items that wait for a node are discarded
+-- the group after the items that wait for a node are discarded
 abbrev pub cut : NodeId → Member → Member
 cut q m = record m { put = λ b. if nat_eq b q.number then take (m.taken b) (m.put b) else m.put b }
 
--- a group that was made and not dropped takes the notice of another member: what waits for that member is discarded, and nothing more is put out to it
+-- a group that was made and not dropped takes the notice of another member: the items that wait for it are discarded, and no more are queued for it
 abbrev pub took_notice : ℕ → NodeId → Option Spec → Member → Member
 took_notice me q None m = m
 took_notice me q (Some spec) m = if is_other spec me q.number then called me (Crashed q) (cut q m) else m
 
--- a node is noticed
+-- the group after a node is noticed
 abbrev pub node_noticed : ℕ → NodeId → Member → Member
 node_noticed me q m = let next = took_notice me q (held_spec m.phase m.spec) m in record next { noticed = q.number ∷ m.noticed }
 
--- another generation of the group's room is made, and one is dropped
+-- the group after another generation of its room is made, and after one is dropped
 abbrev pub other_made : Addr → ℕ → Member → Member
 other_made addr generation m = record m { passed = m.passed || nat_lt addr.generation generation; others = m.others + 1 }
 
@@ -194,8 +194,9 @@ alone_from bounds addr group steps = fold (after bounds addr) group steps
 abbrev pub living : Member → ℕ
 living m = m.others + (if is_some (held_spec m.phase m.spec) then 1 else 0)
 
--- What may happen next: the tenant is taken in once; another generation of the room is made where fewer than four live, and one is dropped where another lives; items that wait are taken,
--- a carried item comes once, an item that came is acknowledged once, and a node is noticed once at another. None of these happens at a stopped node. Commands and stops may happen always.
+-- The legal next events. The tenant is added once; another generation of the room is made if fewer than four live, and dropped if another lives;
+-- items that wait are taken, a carried item comes once, an item that came is acknowledged once, and a node is noticed once at another. None of these
+-- happens at a stopped node. Commands and stops are always legal.
 abbrev pub MayHappen : Addr → NodeId → GroupEvent → Group → Type 0
 MayHappen addr me (Tenant reserve) group = ((group me.number).stopped ≡ false) × ((group me.number).reserve ≡ None)
 MayHappen addr me (OtherMade generation) group = ((group me.number).stopped ≡ false) × (generation ≢ addr.generation) × (living (group me.number) < GENERATIONS)
@@ -213,6 +214,6 @@ abbrev pub IsLegalFrom : Bounds → Addr → Group → List GroupStep → Type 0
 IsLegalFrom bounds addr group [] = Unit {0}
 IsLegalFrom bounds addr group (step ∷ steps) = MayHappen addr step.node step.event group × IsLegalFrom bounds addr (after bounds addr group step) steps
 
--- each event may happen at its place in the list
+-- each event of the list is legal after those before it
 abbrev pub IsLegal : Bounds → Addr → List GroupStep → Type 0
 IsLegal bounds addr steps = IsLegalFrom bounds addr nobody steps

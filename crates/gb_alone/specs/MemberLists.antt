@@ -1,4 +1,4 @@
--- A group alone, kept in lists as the plain program keeps it. Each change does what its counterpart in Alone.antt does.
+-- A group alone, kept in lists as the plain program keeps it. Each change matches its counterpart in Alone.antt.
 use Rattle.std.specs.Prelude.{ℕ, ◌+◌, ◌-◌, ◌≡◌, ◌<◌, ◌&&◌, ◌||◌, not, Bool, false, true, List, [], ◌∷◌, ◌++◌, length, map, replicate, take, slice_get, slice_index_or, slice_set, nat_lt, Option, Some, None, if◌then◌else◌}
 use Rattle.std.specs.List.{range_with_len}
 use Rattle.gb_types.specs.declared.{entry.Entry.Entry, limits.TheConstants.NODES, node.NodeId.NodeId, plan.Bounds.Bounds, reply.Reply.TheVariants.Done, reply.Reply.TheVariants.Said, reply.Reply.Reply, spec.Spec.Spec, version.Version.Version, address.Addr.Addr}
@@ -30,7 +30,7 @@ pub record MemberValue : Type 0 where
 abbrev pub new_member : MemberValue
 new_member = record { reserve = None; spec = None; passed = false; others = 0; phase = Made; told = []; replies = []; put = []; taken = replicate NODES 0; done = replicate NODES []; stopped = false }
 
--- the member that these lists hold
+-- the member that these lists represent
 abbrev pub member_of : MemberValue → Member
 member_of v = record {
   reserve = v.reserve;
@@ -48,7 +48,7 @@ member_of v = record {
   stopped = v.stopped;
 }
 
--- the items put out to a node: those of before, and these too if the node is another member that was not noticed in these calls
+-- the items queued for a node: the earlier ones, and these too if the node is another member that was not noticed in these calls
 abbrev pub row_with : Spec → ℕ → List GroupCall → List (List Entry) → List Entry → ℕ → List Entry
 row_with spec me told put more b = if is_other spec me b && not (was_noticed (calls_of told) b) then slice_index_or put b [] ++ more else slice_index_or put b []
 
@@ -59,11 +59,11 @@ rows_with me (Some spec) c told put = map (row_with spec me (c ∷ told) put (pu
 abbrev pub value_called : ℕ → GroupCall → MemberValue → MemberValue
 value_called me c v = record v { told = c ∷ v.told; put = rows_with me v.spec c v.told v.put }
 
--- the items put out to a node that are carried
+-- the items queued for a node that are carried
 abbrev pub carried_row : List ℕ → List (List Entry) → ℕ → List Entry
 carried_row taken put b = take (slice_index_or taken b 0) (slice_index_or put b [])
 
--- the items that wait are discarded
+-- the member without the items that wait
 abbrev pub value_dropped : MemberValue → MemberValue
 value_dropped v = record v { phase = Gone; put = map (carried_row v.taken v.put) (numbers_below NODES) }
 
@@ -91,7 +91,7 @@ value_took b count v = record v { taken = slice_set v.taken b (slice_index_or v.
 abbrev pub value_done : ℕ → ℕ → ℕ → MemberValue → MemberValue
 value_done b place count v = record v { done = slice_set v.done b (range_with_len place count ++ slice_index_or v.done b []) }
 
--- the items that wait for a node are discarded
+-- the member without the items that wait for a node
 abbrev pub value_cut : NodeId → MemberValue → MemberValue
 value_cut q v = record v { put = slice_set v.put q.number (take (slice_index_or v.taken q.number 0) (slice_index_or v.put q.number [])) }
 
@@ -117,7 +117,7 @@ value_after bounds addr me event vs = value_commanded me event (reply_to bounds 
 abbrev pub values_after : Bounds → Addr → List MemberValue → GroupStep → List MemberValue
 values_after bounds addr vs step = slice_set vs step.node.number (value_after bounds addr step.node step.event vs)
 
--- the lists hold this member, for each node's number below NODES
+-- the lists represent this member, for each node's number below NODES
 pub record StandsForMember (v : MemberValue) (m : Member) : Type 0 where
   pub reserve : v.reserve ≡ m.reserve
   pub spec : v.spec ≡ m.spec
@@ -133,7 +133,7 @@ pub record StandsForMember (v : MemberValue) (m : Member) : Type 0 where
   pub rows : length v.done ≡ NODES
   pub stopped : v.stopped ≡ m.stopped
 
--- the lists hold this group
+-- the lists represent this group
 pub record StandForMembers (vs : List MemberValue) (group : Group) : Type 0 where
   pub members : (a : ℕ) → a < NODES → StandsForMember (value_at vs a) (group a)
   pub size : length vs ≡ NODES

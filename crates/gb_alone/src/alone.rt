@@ -1,4 +1,4 @@
-//! The model of a group by itself, computed plainly from its meaning: its state at each node, and what is seen of it. It is slow, and
+//! The model of a group by itself, computed plainly from its definition: its state at each node, and the observation of it. It is slow, and
 //! meant for short lists of steps.
 ghost use Rattle.std.specs.Prelude.{◌≡◌, ◌≤◌, ◌-◌, [], IfOk, OnOk, length, map, take, replicate, slice_get, slice_index_or, slice_set};
 ghost use Rattle.gb_types.specs.declared.limits.TheConstants.{NODES as MOST};
@@ -26,7 +26,7 @@ fn members(alloc: Global) -> Result<Vec<Member>, OutOfMemory>
     Ok(members)
 }
 
-/// Asks the group the command `event` at the node `me`, and adds the reply there.
+/// Executes the command `event` at the node `me`, and adds the reply there.
 fn command_at(
     alloc: Global,
     bounds: &Bounds,
@@ -43,8 +43,8 @@ fn command_at(
     group[at].command(alloc, me, event, reply)
 }
 
-/// Takes in, at the node `me`, the item with this place among those that the node `from` put out to it. Does nothing if there is
-/// no such item. `version` is the version of the packet text that `me` sends.
+/// Takes, at the node `me`, the item with this place among those that the node `from` queued for it. Does nothing if there is no such item.
+/// `version` is the version of the packet text that `me` sends.
 fn item_at(
     alloc: Global,
     version: Version,
@@ -60,7 +60,7 @@ fn item_at(
     group[me.index()].take_in(alloc, version, me, from, item)
 }
 
-/// Changes the group by `step`, at the step's node.
+/// Changes the group at the step's node as the step says.
 fn step_at(
     alloc: Global,
     bounds: &Bounds,
@@ -105,7 +105,7 @@ fn step_at(
     }
 }
 
-/// Returns what is seen at a node of a cluster of `nodes` nodes.
+/// Returns the replies and the carried items at a node of a cluster of `nodes` nodes.
 fn seen_of(alloc: Global, nodes: u8, member: &Member) -> Result<NodeSeen, OutOfMemory>
     requires { nodes ≤ MOST }
     ensures { IfOk result (λ s. (m : Prior) → StandsForMember member.now m → s ≡ record { replies = m.replies; carried = map (λ b. take (m.taken b) (m.put b)) (numbers_below nodes) }) }
@@ -118,7 +118,7 @@ fn seen_of(alloc: Global, nodes: u8, member: &Member) -> Result<NodeSeen, OutOfM
     Ok(NodeSeen::new(replies, carried))
 }
 
-/// Returns what is seen at each node of a cluster of `nodes` nodes.
+/// Returns the replies and the carried items at each node of a cluster of `nodes` nodes.
 fn all_seen(alloc: Global, nodes: u8, group: &[Member]) -> Result<Observation, OutOfMemory>
     requires few { nodes ≤ MOST }
     requires size { length group.now ≡ MOST }
@@ -131,7 +131,7 @@ fn all_seen(alloc: Global, nodes: u8, group: &[Member]) -> Result<Observation, O
     Ok(Observation::from(seen))
 }
 
-/// Returns what is seen of the group with this address, alone, after `steps`, in a cluster with these bounds.
+/// Returns the replies and the carried items of the group with this address, alone, after `steps`, in a cluster with these bounds.
 fn seen_alone(
     alloc: Global,
     bounds: &Bounds,
@@ -148,7 +148,7 @@ fn seen_alone(
     all_seen(alloc, bounds.nodes, &group)
 }
 
-/// Returns what is seen, after `steps`, of the group `addr` by itself, without other tenants, links or frames, in a cluster of `plan`:
+/// Returns the observation, after `steps`, of the group `addr` by itself, without other tenants, links or frames, in a cluster of `plan`:
 /// for each node, the replies to the group's commands, and the items that are carried from it to each node. Takes memory and changes
 /// nothing. `Err` if memory runs out, or if a number would not fit: a say at a node that has said 65,535 messages, more than 2^64 - 1
 /// carried items from one node to another, an acknowledged item whose place is above 2^64 - 1, or more than 2^64 - 1 other generations of

@@ -1,10 +1,10 @@
-//! Laws of a group by itself, without other tenants, links or frames: what follows from its definition alone, over every list of events.
-//! The functions have nothing to run.
+//! Laws of a group by itself, without other tenants, links or frames, that follow from its definition alone, over every list of events. The
+//! functions have nothing to run.
 ghost use Rattle.gb_alone.specs.Laws.{IsInOrder, IsIntegral, NoticesCountOnce};
 
 /// A law, with nothing to run: after any legal list of events of a group by itself, each entry of a node's log, and each item that a node
-/// has queued for another node, is a message that was accepted at its origin, under that number and with that payload. No message stands
-/// twice in a log.
+/// has queued for another node, is a message that was accepted at its origin, under that number and with that payload. No log has a message
+/// twice.
 pub fn integrity()
     ensures { IsIntegral }
 {}
@@ -15,9 +15,9 @@ pub fn order()
     ensures { IsInOrder }
 {}
 
-/// A law, with nothing to run: a group by itself that was made and not dropped is told that another member is held for crashed. If it
-/// was told so before, a second notice of that member changes nothing that is seen of the group at any node: no reply, no log, and no
-/// item that is queued or carried.
+/// A law, with nothing to run: a group by itself that was made and not dropped receives each notice of another member. After a notice, a
+/// second notice of that member changes nothing that is seen of the group at any node: no reply, no log, and no item that is queued or
+/// carried.
 pub fn second_notice()
     ensures { NoticesCountOnce }
 {}

@@ -1,8 +1,8 @@
 //! One group by itself: no links, frames, packets or other groups. The crate has its events, what each event does to it, which
 //! lists of events are legal, what is seen of it, and its laws.
 //!
-//! This is the model that a hosted group is compared with; no server runs it. `alone` computes it plainly and slowly. Read
-//! specs/Alone.antt first, then specs/Laws.antt.
+//! This is the model that a hosted group is compared with; no server runs it. `alone` computes it plainly and slowly. Read specs/Alone.antt
+//! first, then specs/Laws.antt.
 #![tactic(auto)]
 
 pub mod alone;

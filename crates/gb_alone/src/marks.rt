@@ -1,4 +1,4 @@
-//! The places of the acknowledged items among those put out to a node.
+//! The places of the acknowledged items among those queued for a node.
 ghost use Rattle.std.specs.Prelude.{◌≡◌, ◌+◌, ◌≤◌, ◌++◌, [], OnOk, length};
 ghost use Rattle.std.specs.List.{range_with_len};
 ghost use Rattle.gb_alone.specs.Alone.{is_message, is_marked, is_acknowledged};
@@ -35,8 +35,8 @@ fn is_marked(place: u64, marks: &[u64]) -> bool
     marks.iter().any(|p| *p == place)
 }
 
-/// Returns true if the message of the node `me` with this number stands in `put` at one of the places `marks`. The items of
-/// `put` have the places from `place` on.
+/// Returns true if `put` has the message of the node `me` with this number at one of the places `marks`. The items of `put` have the places
+/// from `place` on.
 fn is_acknowledged(me: NodeId, seq: u32, marks: &[u64], place: u64, put: &[Entry]) -> bool
     requires { place + length put.now ≤ 18446744073709551615 }
     ensures { result ≡ is_acknowledged me.number seq marks.now place put.now }
@@ -75,8 +75,7 @@ impl Marks {
         Ok(())
     }
 
-    /// Returns true if the message of the node `me` with this number stands at one of these places in `put`, the items put out
-    /// to a node.
+    /// Returns true if `put`, the items queued for a node, has the message of the node `me` with this number at one of these places.
     pub(crate) fn has_own(&self, me: NodeId, seq: u32, put: &[Entry]) -> bool
         ensures { result ≡ is_acknowledged me.number seq self.now 1 put.now }
     {

@@ -25,7 +25,7 @@ use gb_types::{
 use std::alloc::Global;
 use std::marker::Model;
 
-/// Returns at most `most` entries, from the place `from` on.
+/// Returns at most `most` entries, from the index `from` on.
 fn page(entries: &[Entry], from: usize, most: usize) -> &[Entry]
     requires { from ≤ length entries.now }
     ensures { result.now ≡ take most (drop from entries.entry.now) }
@@ -63,12 +63,12 @@ pub(crate) struct Member {
     /// The number of other generations of the group's room that live.
     others: usize,
     phase: Phase,
-    /// What the group was told, the newest first.
+    /// The calls that the group received, the newest first.
     told: Vec<GroupCall>,
     replies: Vec<Reply>,
-    /// For each node, the items that were put out to it; empty until the first item is put out.
+    /// For each node, the items that were queued for it; empty until the first item is queued.
     put: Vec<Entries>,
-    /// For each node, how many of these items are carried.
+    /// For each node, the number of these items that are carried.
     taken: [u64; NODES],
     /// For each node, the places of those of these items that are acknowledged.
     done: [Marks; NODES],
@@ -109,15 +109,15 @@ impl Member {
         }
     }
 
-    /// Takes in the group's tenant.
+    /// Adds the group's tenant.
     pub(crate) fn take_tenant(&mut self, reserve: Reserve)
         ensures { self.new ≡ record self.old { reserve = Some reserve } }
     {
         self.reserve = Some(reserve);
     }
 
-    /// Takes in that another generation of the room of the group with this address was made. `Err` if the number of other
-    /// generations that live would be above 2^64 - 1.
+    /// Records that another generation of the room of the group with this address was made. `Err` if the number of other generations that
+    /// live would be above 2^64 - 1.
     pub(crate) fn other_made(&mut self, address: Addr, generation: u32) -> Result<(), OutOfMemory>
         ensures { OnOk result (self.new ≡ record self.old { passed = self.old.passed || nat_lt address.generation generation; others = self.old.others + 1 }) }
     {
@@ -129,7 +129,7 @@ impl Member {
         Ok(())
     }
 
-    /// Takes in that another generation of the group's room was dropped.
+    /// Records that another generation of the group's room was dropped.
     pub(crate) fn other_dropped(&mut self)
         ensures { self.new ≡ record self.old { others = self.old.others - 1 } }
     {
@@ -146,7 +146,7 @@ impl Member {
         self.spec.as_ref()
     }
 
-    /// Returns why a command on a group that was not made is refused: `Spent` if a later generation of its room was made.
+    /// Returns the reason to refuse a command on a group that was not made: `Spent` if a later generation of its room was made, otherwise `NoGroup`.
     fn absent(&self) -> Refusal
         ensures { absent_answer self.now.passed ≡ Answer.Refused result }
     {
@@ -157,8 +157,8 @@ impl Member {
         }
     }
 
-    /// Returns the spec of the group, or why a command on the group is refused: `Denied` if its tenant was not taken in, `Spent`
-    /// if it was dropped, or was not made although a later generation of its room was, and `NoGroup` if neither was made.
+    /// Returns the spec of the group, or the reason to refuse a command on the group: `Denied` if its tenant was not added, `Spent` if it
+    /// was dropped, or was not made although a later generation of its room was, and `NoGroup` if neither was made.
     fn made_spec(&self) -> Result<&Spec, Refusal>
         ensures { MatchResult result
             (λ spec. (answer : Shown → Answer) (me : ℕ) → one_group.on_group answer me (member_of self.entry.now) ≡ answer (shown_in me self.entry.now.phase self.entry.now.told (member_of self.entry.now).put (member_of self.entry.now).done spec.now))
@@ -234,7 +234,7 @@ impl Member {
         true
     }
 
-    /// Returns how many of the messages of `me` with the `count` numbers from `seq` on are unfinished.
+    /// Returns the number of unfinished messages of `me` among the `count` numbers from `seq` on.
     #[tactic(auto, unfolding(crate::specs::Alone::count_unfinished))]
     fn unfinished(&self, spec: &Spec, me: NodeId, calls: &[Call], seq: u32, count: u32) -> u32
         requires calls { calls.now ≡ calls_of self.now.told }
@@ -253,7 +253,7 @@ impl Member {
         }
     }
 
-    /// Returns how much of the spec's limits the node has used. `Err` also if it has said 65,535 messages.
+    /// Returns the use of the spec's limits at the node. `Err` also if it has said 65,535 messages.
     fn usage(&self, alloc: Global, spec: &Spec, me: NodeId) -> Result<Usage, OutOfMemory>
         ensures usage { IfOk result (λ u. u ≡ usage_of spec.now me.number self.now.told (member_of self.now).put (member_of self.now).done) }
         ensures few { IfOk result (λ u. u.said < 65_535) }
@@ -272,7 +272,7 @@ impl Member {
         })
     }
 
-    /// Returns the reply to a command to say something. `Err` also if the node has said 65,535 messages.
+    /// Returns the reply to a command to say a message. `Err` also if the node has said 65,535 messages.
     fn say_reply(
         &self,
         alloc: Global,
@@ -381,7 +381,7 @@ impl Member {
         self.running_reply(alloc, bounds, address, me, event)
     }
 
-    /// Tells the group of `call` at this node, and puts out what the group then broadcasts.
+    /// Executes `call` in the group at this node, and queues the messages that the group then broadcasts.
     fn call(&mut self, alloc: Global, me: NodeId, call: GroupCall) -> Result<(), OutOfMemory>
         ensures { OnOk result (self.new ≡ value_called me.number call self.old) }
     {
@@ -419,7 +419,7 @@ impl Member {
         self.call(alloc, me, GroupCall::Own(x))
     }
 
-    /// Changes the group by a command that was answered with `reply`.
+    /// Changes the group by a command that had the reply `reply`.
     fn did(
         &mut self,
         alloc: Global,
@@ -457,7 +457,7 @@ impl Member {
         Ok(())
     }
 
-    /// Returns true if the group's rules let an item from the node `from` fall.
+    /// Returns true if the group's rules discard (let fall) an item from the node `from`.
     fn falls(&self, alloc: Global, me: NodeId, from: NodeId, x: &Entry) -> Result<bool, OutOfMemory>
         ensures { IfOk result (λ b. b ≡ one_group.falls me.number from.number x.now self.now.told (held_spec self.now.phase self.now.spec)) }
     {
@@ -467,8 +467,8 @@ impl Member {
         }
     }
 
-    /// Takes in an item from the node `from`: tells the group of it, or lets it fall. An item also falls if it is too long for
-    /// `version`, the version of the packet text that this node sends.
+    /// Takes an item from the node `from`: the group receives it, or it is discarded. It is also discarded if it is too long for `version`,
+    /// the version of the packet text that this node sends.
     fn item_came(
         &mut self,
         alloc: Global,
@@ -485,7 +485,7 @@ impl Member {
         self.call(alloc, me, GroupCall::Other(from, x))
     }
 
-    /// Takes in the item from the node `from`, if it is not `None`.
+    /// Takes the item from the node `from`, if it is not `None`.
     pub(crate) fn take_in(
         &mut self,
         alloc: Global,
@@ -514,8 +514,8 @@ impl Member {
         Ok(())
     }
 
-    /// Marks as acknowledged, of the items put out to the node `b`, the `count` items from `place` on. `Err` also if a place
-    /// would be above 2^64 - 1.
+    /// Marks as acknowledged, of the items queued for the node `b`, the `count` items from `place` on. `Err` also if a place would be above
+    /// 2^64 - 1.
     pub(crate) fn mark_done(&mut self, b: NodeId, place: u64, count: u64) -> Result<(), OutOfMemory>
         ensures { OnOk result (self.new ≡ value_done b.number place count self.old) }
     {
@@ -533,7 +533,8 @@ impl Member {
         Ok(())
     }
 
-    /// Notices the node `q`.
+    /// Takes the notice of the node `q`. If the group is here and `q` is another member, discards the items that wait for `q` and makes the
+    /// group's call.
     pub(crate) fn notice(&mut self, alloc: Global, me: NodeId, q: NodeId) -> Result<(), OutOfMemory>
         ensures { OnOk result (self.new ≡ value_noticed me.number q (held_spec self.old.phase self.old.spec) self.old) }
     {
@@ -555,7 +556,7 @@ impl Member {
         self.stopped = true;
     }
 
-    /// Returns the item with this place among those put out to the node `b`, or `Ok(None)` if there is none.
+    /// Returns the item with this place among those queued for the node `b`, or `Ok(None)` if there is none.
     pub(crate) fn item(
         &self,
         alloc: Global,
@@ -571,7 +572,7 @@ impl Member {
         }
     }
 
-    /// Returns the items put out to the node `b` that are carried.
+    /// Returns the items queued for the node `b` that are carried.
     pub(crate) fn carried(&self, alloc: Global, b: usize) -> Result<Entries, OutOfMemory>
         requires { b < MOST }
         ensures { IfOk result (λ e. (m : Prior) → StandsForMember self.now m → e ≡ take (m.taken b) (m.put b)) }

@@ -1,11 +1,11 @@
-//! What is seen of one group from outside, at each node: the replies to its commands, and the items that are carried to other nodes. The
-//! state that only the nodes hold is not part of it.
+//! The observation of one group from outside, at each node: the replies to its commands, and the items that are carried to other nodes.
+//! State that only the nodes have is not part of it.
 ghost use Rattle.std.specs.Prelude.{◌≡◌};
 
 use gb_types::{Entries, Reply};
 use std::marker::Model;
 
-/// What is seen of a group at a node.
+/// The observation of a group at a node: its replies, and the items carried from there.
 #[derive(Drop)]
 pub struct NodeSeen {
     replies: Vec<Reply>,
@@ -21,8 +21,8 @@ impl Model for NodeSeen {
 }
 
 impl NodeSeen {
-    /// Returns an observation of one node, which takes over both lists: `replies` to the group's commands, in order, and `carried`, the
-    /// items carried from this node to each node, node 0 first.
+    /// Returns an observation of one node, made of both lists: `replies` to the group's commands, in order, and `carried`, the items
+    /// carried from this node to each node, node 0 first.
     pub fn new(replies: Vec<Reply>, carried: Vec<Entries>) -> NodeSeen
         ensures { result ≡ record { replies = replies.items; carried = carried.items } }
     {
@@ -44,7 +44,7 @@ impl NodeSeen {
     }
 }
 
-/// What is seen of a group at each node. Contracts see the list, node 0 first.
+/// The observation of a group at each node. Contracts see the list, node 0 first.
 #[derive(Drop)]
 pub struct Observation {
     nodes: Vec<NodeSeen>,
@@ -60,7 +60,7 @@ impl Model for Observation {
 }
 
 impl Observation {
-    /// Returns what is seen of the group at each node, node 0 first.
+    /// Returns the observation of the group at each node, node 0 first.
     pub fn nodes(&self) -> &[NodeSeen]
         ensures { result.now ≡ self.now }
     {

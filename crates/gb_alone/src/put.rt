@@ -1,4 +1,4 @@
-//! The items that a group puts out to other nodes.
+//! The items that a group queues for other nodes.
 ghost use Rattle.std.specs.Prelude.{◌≡◌, ◌<◌, ◌++◌, List, [], ◌&&◌, not, IfOk, OnOk, length, map, take, slice_index_or, if◌then◌else◌};
 ghost use Rattle.gb_types.specs.declared.limits.TheConstants.{NODES as MOST};
 ghost use Rattle.gb_layer.specs.Machine as machine;
@@ -34,7 +34,7 @@ fn first_of(row: &[Entry], count: u64) -> &[Entry]
     &row[..count]
 }
 
-/// Returns the items put out to the node `b` so far.
+/// Returns the items queued for the node `b` so far.
 pub(crate) fn row_of(put: &[Entries], b: usize) -> &[Entry]
     ensures { result.now ≡ slice_index_or put.entry.now b [] }
 {
@@ -44,14 +44,14 @@ pub(crate) fn row_of(put: &[Entries], b: usize) -> &[Entry]
     }
 }
 
-/// Returns true if items are put out to the node `b`: it is another member and was not noticed.
+/// Returns true if items are queued for the node `b`: it is another member and was not noticed.
 fn is_reached(spec: &Spec, me: NodeId, b: NodeId, calls: &[Call]) -> bool
     ensures { result ≡ (rules.is_other spec.now me.number b.number && not (machine.was_noticed calls.now b.number)) }
 {
     spec.members.contains(b) && b != me && !is_noticed(calls, b)
 }
 
-/// Returns the items put out to the node `b`, followed by `more` if items are put out to that node.
+/// Returns the items queued for the node `b`, followed by `more` if items are queued for that node.
 fn row_after(
     alloc: Global,
     spec: &Spec,
@@ -71,7 +71,7 @@ fn row_after(
     Ok(next)
 }
 
-/// Returns, for each node, the items put out to it, followed by `more` if items are put out to that node.
+/// Returns, for each node, the items queued for it, followed by `more` if items are queued for that node.
 fn rows_after(
     alloc: Global,
     spec: &Spec,
@@ -90,7 +90,7 @@ fn rows_after(
     Ok(rows)
 }
 
-/// Returns, for each node, the items put out to it, followed by what the newest of the calls `told` puts out.
+/// Returns, for each node, the items queued for it, followed by those that the newest of the calls `told` adds.
 pub(crate) fn rows_told(
     alloc: Global,
     spec: &Spec,
@@ -104,7 +104,7 @@ pub(crate) fn rows_told(
     rows_after(alloc, spec, me, told, put, more.as_slice())
 }
 
-/// Returns the items put out to the node `b` that are carried.
+/// Returns the items queued for the node `b` that are carried.
 pub(crate) fn carried_row(
     alloc: Global,
     put: &[Entries],
@@ -117,7 +117,7 @@ pub(crate) fn carried_row(
     Entries::from_slice(alloc, first_of(row_of(put, b), taken[b]))
 }
 
-/// Returns, for each node, the items put out to it that are carried.
+/// Returns, for each node, the items queued for it that are carried.
 pub(crate) fn carried_rows(
     alloc: Global,
     put: &[Entries],

@@ -13,7 +13,7 @@ noticed-none s is = ap noticed_words (rising_all s ∙ is)
 pub noticed-some : (s : set.FinSet nat_cmp) (n : ℕ) (rest : List ℕ) → rising_from s 0 ≡ n ∷ rest → noticed_words (rising s) ≡ codes "noticed" ++ each_after_space (rising_from s 0)
 noticed-some s n rest is = ap noticed_words (rising_all s ∙ is) ∙ ap (λ xs. codes "noticed" ++ each_after_space xs) (sym is)
 
--- what is written after the word
+-- a text that is appended behind the word `noticed`
 pub joined : (old now more all : List ℕ) → now ≡ old ++ codes "noticed" → all ≡ codes "noticed" ++ more → now ++ more ≡ old ++ all
 joined old now more all written is = ap (λ xs. xs ++ more) written ∙ (append_assoc old (codes "noticed") more ∙ ap (λ xs. old ++ xs) (sym is))
 

@@ -9,14 +9,14 @@ use Rattle.gb_frame.specs.declared.fault.PacketFault.TheVariants.{Short, Magic, 
 use Rattle.gb_node.specs.declared.{answer.Frame.Frame, answer.Good.Good, answer.Halted.Halted, answer.Halted.TheVariants.Done as HaltDone, answer.Halted.TheVariants.Refused as HaltRefused, answer.PacketAnswer.PacketAnswer, answer.Ticked.Ticked, answer.Ticked.TheVariants.Noticed, answer.Ticked.TheVariants.Refused as TickRefused, answer.PacketAnswer.TheVariants.Good as TakenGood, answer.PacketAnswer.TheVariants.Fault as TakenFault, answer.PacketAnswer.TheVariants.Refused as TakenRefused}
 use Rattle.gb_node.specs.declared.answer.Frame.TheVariants.{Nothing as No_frame, First, Seen, Outside}
 
--- what a node made of a frame, in a word
+-- the word for the result of a frame
 abbrev pub frame_word : Frame → List ℕ
 frame_word No_frame = codes "none"
 frame_word First = codes "first"
 frame_word Seen = codes "seen"
 frame_word Outside = codes "outside"
 
--- what is wrong with bytes, in a word
+-- the word for a fault of bytes
 abbrev pub fault_name : PacketFault → List ℕ
 fault_name Short = codes "Short"
 fault_name Magic = codes "Magic"
@@ -33,11 +33,11 @@ fault_name Tag = codes "Tag"
 abbrev pub fault_spelling : PacketFault → List ℕ
 fault_spelling fault = codes "fault " ++ decimal (fault_number fault) ++ codes " " ++ fault_name fault
 
--- the text of a good packet: what became of its frame, the number of its items, and the number of frames that are done
+-- the text of a good packet: the result of its frame, the number of its items, and the number of frames that are newly done
 abbrev pub good_spelling : Good → List ℕ
 good_spelling good = codes "good " ++ frame_word good.frame ++ codes " " ++ decimal good.items ++ codes " " ++ decimal good.done
 
--- what became of bytes that came
+-- the text of the result of bytes that came
 abbrev pub packet_spelling : PacketAnswer → List ℕ
 packet_spelling (TakenGood good) = good_spelling good
 packet_spelling (TakenFault fault) = fault_spelling fault

@@ -1,4 +1,4 @@
-//! How the answers of a node are written. If there is no memory, a part of a text may have been appended.
+//! Writes the answers of a node. If there is no memory, a part of a text may have been appended.
 ghost use Rattle.std.specs.Prelude.{◌≡◌, ◌++◌, OnOk, OnErr};
 ghost use Rattle.std.specs.Io.{StartsWith};
 ghost use Rattle.gb_types.specs.Common.{rising, rising_from};
@@ -11,8 +11,8 @@ use gb_spelling::number::put_number;
 use gb_spelling::reply_text::put_reply;
 use gb_types::{NodeSet, OutOfMemory, Refusal, Reply};
 
-/// Appends the text of a refusal to `out`, such as `refused 1 Denied`, without a line end. `Err` if there is no memory; then a part of
-/// it may be there.
+/// Appends the text of a refusal to `out`, for instance `refused 1 Denied`, without a line feed. Returns `Err` if there is no memory; then
+/// a part of it may have been appended.
 pub fn put_refusal(out: &mut Vec<u8>, why: Refusal) -> Result<(), OutOfMemory>
     ensures ok { OnOk result (out.new.items ≡ out.old.items ++ reply_spelling (Reply.Refused why)) }
     ensures err { OnErr result (StartsWith out.new.items out.old.items) }
@@ -20,7 +20,7 @@ pub fn put_refusal(out: &mut Vec<u8>, why: Refusal) -> Result<(), OutOfMemory>
     put_reply(out, &Reply::Refused(why))
 }
 
-/// Returns the word for what a node made of a frame.
+/// Returns the word for the result of a frame.
 fn word_of(frame: Frame) -> &'static [u8]
     ensures { result.now ≡ frame_word frame }
 {
@@ -75,8 +75,8 @@ fn put_fault(out: &mut Vec<u8>, fault: PacketFault) -> Result<(), OutOfMemory>
     Ok(())
 }
 
-/// Appends to `out` what became of bytes that came to a node, without a line end: `good FRAME ITEMS DONE`, `fault NUMBER NAME`, or a
-/// refusal. `Err` if there is no memory; then a part of it may be there.
+/// Appends the text of the result of bytes that came to a node to `out`, without a line feed: `good FRAME ITEMS DONE`, `fault NUMBER NAME`,
+/// or a refusal. Returns `Err` if there is no memory; then a part of it may have been appended.
 pub fn put_packet(out: &mut Vec<u8>, taken: &PacketAnswer) -> Result<(), OutOfMemory>
     ensures ok { OnOk result (out.new.items ≡ out.old.items ++ packet_spelling taken.now) }
     ensures err { OnErr result (StartsWith out.new.items out.old.items) }
@@ -119,8 +119,9 @@ fn put_noticed(out: &mut Vec<u8>, found: &NodeSet) -> Result<(), OutOfMemory>
     }
 }
 
-/// Appends to `out` the answer to a tick at a node, without a line end: `noticed` and the numbers of the nodes that it newly holds for
-/// crashed (noticed as crashed), `noticed -` for none, or a refusal. `Err` if there is no memory; then a part of it may be there.
+/// Appends the text of the answer to a tick at a node to `out`, without a line feed: `noticed` and the numbers of the nodes that it newly
+/// noticed as crashed, `noticed -` if there are none, or a refusal. Returns `Err` if there is no memory; then a part of it may have been
+/// appended.
 pub fn put_ticked(out: &mut Vec<u8>, ticked: &Ticked) -> Result<(), OutOfMemory>
     ensures ok { OnOk result (out.new.items ≡ out.old.items ++ ticked_spelling ticked.now) }
     ensures err { OnErr result (StartsWith out.new.items out.old.items) }
@@ -131,8 +132,8 @@ pub fn put_ticked(out: &mut Vec<u8>, ticked: &Ticked) -> Result<(), OutOfMemory>
     }
 }
 
-/// Appends to `out` the answer to a stop of a node, without a line end: `ok` or a refusal. `Err` if there is no memory; then a part of
-/// it may be there.
+/// Appends the text of the answer to a stop of a node to `out`, without a line feed: `ok` or a refusal. Returns `Err` if there is no
+/// memory; then a part of it may have been appended.
 pub fn put_halted(out: &mut Vec<u8>, halted: Halted) -> Result<(), OutOfMemory>
     ensures ok { OnOk result (out.new.items ≡ out.old.items ++ halted_spelling halted) }
     ensures err { OnErr result (StartsWith out.new.items out.old.items) }

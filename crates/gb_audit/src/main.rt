@@ -1,6 +1,6 @@
-//! Audits the records of a cluster's nodes: reads the cluster's keys on standard input and a record from each file that its words
-//! name, and prints what it finds, a line each. Where its words ask for it, it compares what a group shows in the run with what it is
-//! alone, and writes the run as a schedule for gb_sim.
+//! Audits the records of a cluster's nodes: reads the cluster's keys on standard input and a record from each file that its words name, and
+//! prints what it finds, a line each. If its words ask for it, it compares what a group shows in the run with what the group is alone, and
+//! writes the run as a schedule for gb_sim.
 #![tactic(auto)]
 
 ghost use Rattle.gb_cluster.specs.Common.{IsClusterPlan};
@@ -40,7 +40,7 @@ Exit status: 0 when all records are one run of the cluster, 3 when that holds of
 one cluster did, or the run has no schedule that gb_sim answers so, 2 for words that are refused or a file to be made that is there, 4 when a file \
 could not be read or written, a line not be written, or memory was refused.";
 
-/// Why an audit comes to no verdict.
+/// The reason why an audit has no verdict.
 #[derive(Drop)]
 enum Trouble {
     /// A file could not be read, or a line could not be written.
@@ -82,24 +82,24 @@ impl<T: Drop> From<AllocFailed<T>> for Trouble {
     }
 }
 
-/// What the words name.
+/// The options and files that the words name.
 #[derive(Clone, Copy)]
 struct Names<'a> {
     /// The files of the records.
     records: &'a [&'a str],
     /// The number of the records' run, if it is given.
     run: Option<u64>,
-    /// The group that is compared with what it is alone.
+    /// The group that is compared with the group alone.
     group: Option<Addr>,
-    /// The file to be made for the run's schedule.
+    /// The file to write the run's schedule to.
     schedule: Option<&'a str>,
-    /// The file to be made for the schedule's answers.
+    /// The file to write the schedule's answers to.
     answers: Option<&'a str>,
     /// The folder for the redacted records.
     redact: Option<&'a str>,
 }
 
-// Returns an option that names a file to be made.
+// Returns an option that names a file to be written.
 fn file_arg<'a>(alloc: Global, name: &'static str, help: &'static str) -> Arg<'a> {
     Arg::new(alloc, name)
         .long(name)
@@ -159,7 +159,7 @@ fn command<'a>(alloc: Global) -> Result<Command<'a>, AllocError> {
         ))
 }
 
-// Writes a text and sees that it is written.
+// Writes a text to standard output. `Err` if it could not be written.
 fn print(rt: &HostRuntime, text: &[u8]) -> Result<(), Trouble> {
     let mut writer = io::writer(rt);
     writer.write_all(text)?;
@@ -167,7 +167,7 @@ fn print(rt: &HostRuntime, text: &[u8]) -> Result<(), Trouble> {
     Ok(())
 }
 
-// Writes a file that was not there, which its owner alone may read. Returns false if it was there, after saying so.
+// Writes a new file that only its owner may read. If the file exists already, prints a line and returns false.
 fn write_new(rt: &HostRuntime, name: &str, text: &[u8]) -> Result<bool, Trouble> {
     let mut options = OpenOptions::new();
     options.write(true).create_new(true).mode(0o600);
@@ -189,7 +189,7 @@ fn write_new(rt: &HostRuntime, name: &str, text: &[u8]) -> Result<bool, Trouble>
     }
 }
 
-// Writes a run as a schedule, and its answers, to the files that the words name. Returns the exit status: the audit's, where all went well.
+// Writes a run as a schedule, and its answers, to the files that the words name. Returns the exit status: the audit's, if all was written.
 fn write_replay(
     rt: &HostRuntime,
     names: &Names<'_>,
@@ -234,7 +234,7 @@ fn print_group(rt: &HostRuntime, run: &Audited, addr: Addr) -> Result<(), Troubl
     print(rt, &lines)
 }
 
-// Writes a file in a folder, as `write_new` does. Returns its name, or `None` if it was there, after saying so.
+// Writes a new file in a folder, as `write_new` does. Returns its name. If the file exists already, prints a line and returns `None`.
 fn write_in(
     rt: &HostRuntime,
     dir: &str,
@@ -278,7 +278,7 @@ fn write_redacted(
     Ok(true)
 }
 
-// Reads the records in these files. One that is redacted is read as what it was before, and a line in `lines` says so.
+// Reads the records in these files. A redacted record is read as the record before it was marked, and a line in `lines` says so.
 fn read_texts(
     rt: &HostRuntime,
     names: &Names<'_>,
@@ -299,7 +299,7 @@ fn read_texts(
     Ok(texts)
 }
 
-// Audits the records in these files, and writes what the words ask for. Returns the exit status.
+// Audits the records in these files, and writes the files that the words ask for. Returns the exit status.
 fn audit_files(rt: &HostRuntime, names: &Names<'_>) -> Result<u8, Trouble> {
     let alloc = rt.alloc();
     let Ok(keys) = read_keys(&mut rt.reader()) else {
@@ -350,7 +350,7 @@ fn audit_files(rt: &HostRuntime, names: &Names<'_>) -> Result<u8, Trouble> {
     Ok(status)
 }
 
-// Says on standard error why the words are refused. Returns the exit status.
+// Prints on standard error why the words are refused. Returns the exit status.
 fn refuse(rt: &HostRuntime, why: &[u8]) -> u8 {
     let _ = rt.stderr().write_all(why);
     2

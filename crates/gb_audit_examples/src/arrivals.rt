@@ -23,7 +23,7 @@ fn word(answer: &Answer) -> &'static str {
     }
 }
 
-/// Takes an event in the cluster. Returns the short name of its answer, or `nowhere` if the cluster has no such node.
+/// Executes an event in the cluster. Returns the short name of its answer, or `nowhere` if the cluster has no such node.
 fn told(cluster: &mut Cluster, event: &Event) -> Result<&'static str, OutOfMemory> {
     if !cluster.is_placed(event) {
         return Ok("nowhere");
@@ -32,12 +32,12 @@ fn told(cluster: &mut Cluster, event: &Event) -> Result<&'static str, OutOfMemor
     Ok(word(&answer))
 }
 
-/// Lets the packet with a number arrive. Returns the short name of the answer.
+/// Lets the packet with this number arrive. Returns the short name of the answer.
 fn arrives(cluster: &mut Cluster, number: u64) -> Result<&'static str, OutOfMemory> {
     told(cluster, &Event::Arrive(number))
 }
 
-/// Lets the first node acknowledge what came from the second. Returns the short name of the answer.
+/// Lets the first node acknowledge the frames from the second. Returns the short name of the answer.
 fn acknowledges(cluster: &mut Cluster) -> Result<&'static str, OutOfMemory> {
     told(cluster, &Event::At(FIRST, NodeEvent::Ack(SECOND)))
 }
@@ -47,20 +47,20 @@ fn stops(cluster: &mut Cluster) -> Result<&'static str, OutOfMemory> {
     told(cluster, &Event::At(SECOND, NodeEvent::Stop))
 }
 
-/// Returns the event that hands bytes to the second node as noise.
+/// Returns the event in which bytes come to the second node as noise.
 fn noise(alloc: Global, bytes: &[u8]) -> Result<Event, OutOfMemory> {
     let mut copy = Vec::with_capacity(alloc, bytes.len())?;
     copy.extend_from_slice(bytes)?;
     Ok(Event::At(SECOND, NodeEvent::Packet(PacketText::from(copy))))
 }
 
-/// Hands two bytes that are no packet to the second node. Returns the short name of the answer.
+/// Lets two bytes that are no packet come to the second node. Returns the short name of the answer.
 fn garbles(alloc: Global, cluster: &mut Cluster) -> Result<&'static str, OutOfMemory> {
     let event = noise(alloc, b"GB")?;
     told(cluster, &event)
 }
 
-/// Hands the first packet that was sent to the second node as noise. Returns the short name of the answer.
+/// Lets the first packet that was sent come to the second node as noise. Returns the short name of the answer.
 fn echoes(alloc: Global, cluster: &mut Cluster) -> Result<&'static str, OutOfMemory> {
     let event = match cluster.packets().first() {
         Some(packet) => noise(alloc, packet.text.as_slice())?,

@@ -39,8 +39,8 @@ const BY_ITSELF: [&[u8]; 27] = [
     b"fetch 1 7 1 0 16",
 ];
 
-/// The same, and another tenant's group has a message in each of the three frames. That group is in first-in first-out order, so
-/// the message that comes first waits.
+/// The same run, and another tenant's group has a message in each of the three frames. That group is in first-in first-out order, so the
+/// message that comes first waits.
 const BESIDE: [&[u8]; 42] = [
     b"cluster 3 3",
     b"tenant 0 8 4 8 4096 4",
@@ -86,7 +86,7 @@ const BESIDE: [&[u8]; 42] = [
     b"fetch 1 7 1 0 16",
 ];
 
-/// The part of both runs that concerns the first tenant's group, once it is open at the three nodes. It is written by hand.
+/// The steps of the first tenant's group in both runs, once it is open at the three nodes. They are written by hand.
 const LAZY: &[ToldAt] = &[
     (0, Told::Say),
     (0, Told::Took(1, 1)),
@@ -103,7 +103,7 @@ const LAZY: &[ToldAt] = &[
     (1, Told::Fetch),
 ];
 
-/// The part of the second run that concerns the other tenant's group, once it is open at the three nodes. It is written by hand.
+/// The steps of the other tenant's group in the second run, once it is open at the three nodes. They are written by hand.
 const FIFO: &[ToldAt] = &[
     (0, Told::Say),
     (0, Told::Took(1, 1)),
@@ -142,14 +142,14 @@ const LOGS_BY_ITSELF: [usize; 3] = [1, 2, 2];
 
 const LOGS_BESIDE: [usize; 6] = [1, 0, 2, 2, 1, 2];
 
-/// Returns true if both runs show the same of the first tenant's group, and the projection is the one that is written by hand.
+/// Returns true if both runs show the same of the first tenant's group, and its projection is the one written by hand.
 fn agrees(alloc: Global) -> Result<bool, OutOfMemory> {
     let by_itself = told_by(alloc, &BY_ITSELF, &LOGS_BY_ITSELF, 7, LAZY)?;
     let beside = told_by(alloc, &BESIDE, &LOGS_BESIDE, 7, LAZY)?;
     Ok(agree(&by_itself, &beside))
 }
 
-/// Returns true if the projection on the second tenant's group is the one that is written by hand.
+/// Returns true if the projection onto the second tenant's group is the one written by hand.
 fn is_told(alloc: Global) -> Result<bool, OutOfMemory> {
     Ok(told_by(alloc, &BESIDE, &LOGS_BESIDE, 8, FIFO)?.is_some())
 }

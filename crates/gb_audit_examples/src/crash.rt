@@ -15,10 +15,10 @@ pub const PLAN: Plan = Plan {
     ..schedule::PLAN
 };
 
-/// What happens, in short.
+/// An event, in short.
 #[derive(Clone, Copy)]
 enum Act {
-    /// The tenant comes to the node, and its group is made there and opened.
+    /// The tenant is added at the node, and its group is made there and opened.
     Furnish(NodeId, u16),
     Say(NodeId, u16),
     Fetch(NodeId, u16),
@@ -30,9 +30,9 @@ enum Act {
     Stop(NodeId),
 }
 
-/// Two groups' messages share a frame that comes twice; the frame back has a group's own message beside what it relays, and
-/// acknowledges the first. The third node stops, and is noticed at the first, where the last group is made only then. Its
-/// message shares a frame with what another group relays. Then the second node stops, and one group asks there twice.
+/// Two groups' messages share a frame that comes twice. The frame back has a group's own message beside the relayed one, and acknowledges
+/// the first. The third node stops, and is noticed at the first, where the last group is made only then. Its message shares a frame with a
+/// message that another group relays. Then the second node stops, and one group's requests come there twice.
 const ACTS: [Act; 31] = [
     Act::Furnish(FIRST, 7),
     Act::Furnish(FIRST, 8),
@@ -67,7 +67,7 @@ const ACTS: [Act; 31] = [
     Act::Fetch(FIRST, 7),
 ];
 
-/// The parts of this run that concern the groups of tenants 7 and 8, best effort and eager, once they are open at the three nodes.
+/// The steps of the groups of tenants 7 and 8 in this run, best effort and eager, once they are open at the three nodes.
 const BEST_EFFORT: &[ToldAt] = &[
     (0, Told::Say),
     (0, Told::Took(1, 1)),
@@ -97,7 +97,7 @@ const EAGER: &[ToldAt] = &[
     (0, Told::Drop),
 ];
 
-/// The part that concerns the group of tenant 9, all-ack.
+/// The steps of the group of tenant 9, all-ack.
 const ALL_ACK: &[ToldAt] = &[
     (1, Told::Tenant),
     (1, Told::Make),
@@ -112,7 +112,7 @@ const ALL_ACK: &[ToldAt] = &[
     (1, Told::Fetch),
 ];
 
-/// What is told of each group in the run of `events`. It is written by hand.
+/// The expected steps and replies of each group in the run of `events`. They are written by hand.
 pub const TOLD: [ToldOf; 3] = [
     ToldOf {
         tenant: 7,

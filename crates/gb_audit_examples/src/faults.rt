@@ -30,8 +30,7 @@ fn no_tape_sent_it(rt: HostRuntime) {
     judge(&rt, rt.alloc(), &UNSENT);
 }
 
-/// Two packets that crossed, and tapes on which each came before the other was sent. Last, the third node's packet comes to
-/// the first node.
+/// Two packets that crossed, and tapes on which each came before the other was sent. At the end, the third node's packet comes to the first node.
 const CROSSED: &[At] = &[
     (2, Step::Ack(0)),
     (0, Step::ComeUnsent(1)),
@@ -53,7 +52,7 @@ fn each_waits_for_the_other(rt: HostRuntime) {
     judge(&rt, rt.alloc(), &STUCK);
 }
 
-// The stranger, from the third node whose tape is lost, lies behind the entries that wait.
+// The stranger, from the third node whose tape is lost, is behind the entries that wait.
 const STRANGER: Case = Case {
     nodes: 3,
     steps: CROSSED,
@@ -66,7 +65,7 @@ fn a_stranger_is_told_before_tapes_that_are_stuck(rt: HostRuntime) {
     judge(&rt, rt.alloc(), &STRANGER);
 }
 
-// A tick of a single node, which notices no node. It is noted to notice none, then to notice the node itself, then to be refused.
+// A tick of a single node, which notices no node. Its recorded answers are that it notices none, that it notices the node itself, and a refusal.
 const NONE_NOTICED: Case = Case {
     nodes: 1,
     steps: &[(0, Step::ForgeTick(Ok(&[])))],
@@ -95,7 +94,7 @@ fn an_answer_is_another(rt: HostRuntime) {
     judge(&rt, rt.alloc(), &REFUSED);
 }
 
-// The packet that no tape sent, and each entry behind it, are not in the run. Nor is an entry that lack of memory refused.
+// The packet that no tape sent, and each entry behind it, are not in the run. Neither is an entry that was refused for lack of memory.
 #[test]
 fn a_front_ends_where_a_packet_was_never_sent(rt: HostRuntime) {
     let none: &[&str] = &[];
@@ -106,8 +105,8 @@ fn a_front_ends_where_a_packet_was_never_sent(rt: HostRuntime) {
     judge_part(&rt, rt.alloc(), Part::Front, &REFUSED, Ok(none));
 }
 
-// A packet of the second node comes to the first, whose tick follows. The second node's tape is lost: the first ends before that
-// packet, and the third goes on.
+// A packet of the second node comes to the first, whose tick follows. The second node's tape is lost: the first node's part ends before
+// that packet, and the third node's goes on.
 const CUT: Case = Case {
     nodes: 3,
     steps: &[

@@ -1,5 +1,5 @@
-// Two generations of one room whose messages share frames, and a room with as many generations as may live. Each is seen in the run
-// as it is alone, under a projection that tells what was made and dropped of the others.
+// Two generations of one room whose messages share frames, and a room with as many generations as may live. Each is seen in the run as it
+// is alone, under a projection that has the makes and drops of the others.
 use crate::short::{Got, are_seen};
 use crate::shown::{agree, run_by};
 use crate::told::{OPEN_AT_TWO, Told, ToldAt, are_steps};
@@ -9,8 +9,7 @@ use std::process::Abort;
 use std::rt::HostRuntime;
 use std::test::Fail;
 
-/// A group says two messages, and the second comes first. Its next generation is made at both nodes and dropped at one, and says
-/// nothing.
+/// A group says two messages, and the second comes first. Its next generation is made at both nodes and dropped at one, and says nothing.
 const SILENT: [&[u8]; 24] = [
     b"cluster2 2 3 3,3",
     b"tenant 0 7 4 8 4096 4",
@@ -38,7 +37,7 @@ const SILENT: [&[u8]; 24] = [
     b"fetch 0 7 1 0 16",
 ];
 
-/// The same, and the next generation has a message in each of the frames.
+/// The same run, and the next generation has a message in each of the frames.
 const SHARED: [&[u8]; 29] = [
     b"cluster2 2 3 3,3",
     b"tenant 0 7 4 8 4096 4",
@@ -71,7 +70,7 @@ const SHARED: [&[u8]; 29] = [
     b"fetch 0 7 1 0 16",
 ];
 
-/// The part of both runs that concerns the group, once it is open at both nodes. It is written by hand.
+/// The steps of the group in both runs, once it is open at both nodes. They are written by hand.
 const FIRST: &[ToldAt] = &[
     (0, Told::OtherMade(1)),
     (1, Told::OtherMade(1)),
@@ -90,7 +89,7 @@ const FIRST: &[ToldAt] = &[
     (0, Told::Fetch),
 ];
 
-/// The replies that are seen of it at the two nodes.
+/// The replies of the group at the two nodes.
 const FIRST_AT_0: &[Got] = &[
     Got::Done,
     Got::Done,
@@ -101,7 +100,7 @@ const FIRST_AT_0: &[Got] = &[
 
 const FIRST_AT_1: &[Got] = &[Got::Done, Got::Done, Got::Log(0), Got::Log(2), Got::Log(2)];
 
-/// The part of the second run that concerns the next generation, written by hand.
+/// The steps of the next generation in the second run, written by hand.
 const NEXT: &[ToldAt] = &[
     (0, Told::Tenant),
     (0, Told::OtherMade(0)),
@@ -154,7 +153,7 @@ const FULL: [&[u8]; 14] = [
     b"fetch 0 7 1.6 0 16",
 ];
 
-/// The part of it that concerns the later generation, written by hand. The first make is refused.
+/// The steps of the later generation, written by hand. The first make is refused.
 const LATER: &[ToldAt] = &[
     (0, Told::Tenant),
     (0, Told::OtherMade(0)),
@@ -175,7 +174,7 @@ const LATER_AT_0: &[Got] = &[
     Got::Log(0),
 ];
 
-/// The part that concerns a generation that was left out.
+/// The steps of a generation that was left out.
 const LEFT_OUT: &[ToldAt] = &[
     (0, Told::Tenant),
     (0, Told::OtherMade(0)),
@@ -248,7 +247,7 @@ fn two_generations_share_their_frames(rt: HostRuntime) -> Result<(), Fail> {
     Ok(())
 }
 
-// What a make answers depends on the other generations of the room, and on nothing else that the group alone is not told.
+// The reply to a make depends on the other generations of the room, and on nothing else that the group alone does not have.
 #[test]
 fn generations_of_a_full_room_are_seen_alone(rt: HostRuntime) -> Result<(), Fail> {
     let alloc = rt.alloc();

@@ -17,8 +17,8 @@ use gb_types::{Addr, Entries, Entry, NodeId, OutOfMemory, Payload, Refusal, Repl
 use std::alloc::Global;
 use std::rt::HostRuntime;
 
-// Both nodes make a group of each of two tenants. Node 0 says two messages in the one and a message in the other, and packs them all
-// into one packet, which node 1 takes twice. Node 1 fetches both logs and acknowledges.
+// Both nodes make a group of each of two tenants. Node 0 says two messages in the one and a message in the other, and packs them all into
+// one packet, which node 1 takes twice. Node 1 fetches both logs and acknowledges.
 static STEPS: [At; 21] = [
     (0, Step::AskOf(7, Asked::AddTenant)),
     (0, Step::AskOf(8, Asked::AddTenant)),
@@ -43,7 +43,7 @@ static STEPS: [At; 21] = [
     (0, Step::Come(1, 9)),
 ];
 
-// A group, and what is told of it.
+// A group, and the expected lines about it.
 struct Case {
     group: Addr,
     lines: &'static str,
@@ -86,7 +86,7 @@ static CASES: [Case; 4] = [
     },
 ];
 
-// Returns what is told of a group in an audited run. `None` if the group is not what it is alone.
+// Returns the lines about a group in an audited run. `None` if the group is not seen as it is alone.
 fn lines_of(alloc: Global, audited: &Audited, addr: Addr) -> Result<Option<Vec<u8>>, OutOfMemory>
     requires plan { IsClusterPlan audited.now.plan }
     requires front { IsMergedFront audited.now.plan (fed_tapes audited.now.tapes.items) audited.now.events.items }
@@ -100,7 +100,7 @@ fn lines_of(alloc: Global, audited: &Audited, addr: Addr) -> Result<Option<Vec<u
     Ok(Some(lines))
 }
 
-// Returns true if the audit of the records finds a run that shows of each case's group what the case says.
+// Returns true if the audit of the records finds a run that shows the case's lines of each case's group.
 fn are_shown(alloc: Global) -> Result<bool, OutOfMemory> {
     let texts = records_of(alloc, &plan_with(2, 1_024), &STEPS)?;
     let [first, second] = texts.as_slice() else {
@@ -125,7 +125,7 @@ fn each_group_is_what_it_is_alone(rt: HostRuntime) {
     assert!(rt; shown == Ok(true));
 }
 
-// What is seen of a group at two nodes: the second node's reply, and the payload of the item that the second node carries to the first.
+// The observation of a group at two nodes: the second node's reply, and the payload of the item that the second node carries to the first.
 #[derive(Clone, Copy)]
 struct Shape {
     refusal: Refusal,
@@ -194,7 +194,7 @@ group 7 1 alone node 1 replies 2 carried 1,0
 group 7 1 different
 ";
 
-// Returns true if a group that is different from what it is alone is told so.
+// Returns true if the lines about a group that differs from the group alone say so.
 fn is_difference_told(alloc: Global) -> Result<bool, OutOfMemory> {
     let other = Shape {
         payload: b"b",

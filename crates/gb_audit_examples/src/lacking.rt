@@ -6,7 +6,7 @@ use gb_merge::AuditFault;
 use gb_types::Refusal;
 use std::rt::HostRuntime;
 
-// The first node had no memory for the group, for a message and for a packet. Each was asked for again, and done.
+// The first node had no memory for the group, for a message and for a packet. Each was requested again, and then done.
 const LACKING: Case = Case {
     nodes: 2,
     steps: &[
@@ -52,7 +52,7 @@ fn what_was_refused_did_not_happen(rt: HostRuntime) {
     judge_part(&rt, rt.alloc(), Part::Front, &NEVER_MADE, Ok(&["0r", "0r"]));
 }
 
-// A packet that was refused was not sent. Another node took it in, so no tape sent it.
+// A packet that was refused was not sent. Another node received it, so no tape sent it.
 const NOT_SENT: Case = Case {
     nodes: 2,
     steps: &[(0, Step::PackRefused(1)), (1, Step::ComeUnsent(0))],
@@ -75,7 +75,7 @@ const WAITING: Case = Case {
     told: Err(AuditFault::Stuck),
 };
 
-// One answer was refused, and another is wrong.
+// One answer is a refusal for lack of memory, and another is wrong.
 const WRONG: Case = Case {
     nodes: 1,
     steps: &[

@@ -1,5 +1,5 @@
 //! Worked runs, as tests: what a run shows of a group beside the group alone, the tapes and records of running nodes, merged, audited and
-//! replayed, and each tampering. There is nothing here but tests.
+//! replayed, and each tampering. This crate has only tests.
 #![tactic(auto)]
 
 #[cfg(test)]

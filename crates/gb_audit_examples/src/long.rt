@@ -29,7 +29,7 @@ fn alone() -> Plan
     }
 }
 
-// Returns a tape of ticks at which nobody is noticed.
+// Returns a tape of ticks at which no node is noticed.
 fn ticks(alloc: Global) -> Result<Tape, OutOfMemory> {
     let mut entries = Vec::new(alloc);
     for count in 0..ENTRIES {
@@ -43,7 +43,7 @@ fn ticks(alloc: Global) -> Result<Tape, OutOfMemory> {
     Ok(Tape::from(entries))
 }
 
-// Returns the number of events that merging the tape returns.
+// Returns the number of events of the merged tape.
 fn count_merged(alloc: Global) -> Result<usize, AuditFault> {
     let Ok(tape) = ticks(alloc) else {
         return Err(AuditFault::OutOfMemory);

@@ -1,4 +1,4 @@
-//! What merging the tapes of worked steps at nodes returns, compared with tables, as tests.
+//! The results of merging the tapes of worked steps at nodes, compared with tables, as tests.
 ghost use Rattle.std.specs.Prelude.{◌≤◌};
 ghost use Rattle.gb_cluster.specs.Common.{IsClusterPlan};
 
@@ -15,16 +15,15 @@ use gb_types::{Plan, Version};
 use std::alloc::Global;
 use std::process::Abort;
 
-/// Steps at the nodes of a cluster, and what merging their tapes returns.
+/// Steps at the nodes of a cluster, and the expected result of merging their tapes.
 pub struct Case {
     /// The number of nodes: 1 to 3.
     pub nodes: u8,
     pub steps: &'static [At],
     /// The node whose tape is lost after the steps.
     pub lost: Option<u8>,
-    /// The events in letters, or the fault. `0t` is a tick at node 0; `r` stands for a request, `n` for noise, `p` for
-    /// packing, `g` for sending again, `a` for an acknowledgement that is sent and `s` for a stop. `#1` is the arrival of
-    /// the first packet that was sent.
+    /// The events in letters, or the fault. `0t` is a tick at node 0; `r` is a request, `n` noise, `p` packing, `g` sending again, `a`
+    /// sending an acknowledgement, and `s` a stop. `#1` is the arrival of the first packet that was sent.
     pub told: Result<&'static [&'static str], AuditFault>,
 }
 
@@ -66,7 +65,7 @@ pub fn plan_under(cluster_key: [u8; 32]) -> Plan
     }
 }
 
-/// Returns the letter of what happens at a node.
+/// Returns the letter of an event at a node.
 fn letter(event: &NodeEvent) -> u8 {
     match event {
         NodeEvent::Request(_) => b'r',
@@ -79,7 +78,7 @@ fn letter(event: &NodeEvent) -> u8 {
     }
 }
 
-/// Returns an event in letters: its node and what happens there, or, for an arrival, the packet's number.
+/// Returns an event in letters: its node and the event's letter, or, for an arrival, `#` and the packet's number.
 fn letters(event: &Event) -> [u8; 2] {
     match event {
         Event::Arrive(number) => [b'#', b'0' + (*number % 10) as u8],
@@ -132,7 +131,7 @@ fn merge_part(
     }
 }
 
-/// Takes the steps, and merges the tapes that they leave.
+/// Executes the steps, and merges the resulting tapes.
 fn run(
     alloc: Global,
     plan: &Plan,
@@ -153,8 +152,8 @@ fn run(
     merge_part(alloc, plan, part, tapes)
 }
 
-/// Takes `steps` at the new nodes of a cluster of `nodes` nodes, empties the tape of the node `lost`, if one is given, and merges
-/// this part of the tapes. Returns the merged events. `Err` with the fault of merging, or with `OutOfMemory`.
+/// Executes `steps` at the new nodes of a cluster of `nodes` nodes, empties the tape of the node `lost`, if one is given, and merges this
+/// part of the tapes. Returns the merged events. `Err` with the fault of merging, or with `OutOfMemory`.
 pub fn merged(
     alloc: Global,
     part: Part,
@@ -178,7 +177,7 @@ fn gives(alloc: Global, part: Part, case: &Case, wanted: Result<&[&str], AuditFa
     }
 }
 
-/// Returns true if merging returns what the case says. If the tapes are one run, merging their front returns the same events.
+/// Returns true if merging has the case's result. If the tapes are one run, merging their front has the same events.
 fn holds(alloc: Global, case: &Case) -> bool {
     let all = gives(alloc, Part::All, case, case.told);
     match case.told {
@@ -187,15 +186,15 @@ fn holds(alloc: Global, case: &Case) -> bool {
     }
 }
 
-/// Takes the steps of a case and merges their tapes. The test aborts with a message unless that returns the events or the fault of
-/// the case. If the case has events, merging the front of the tapes must return the same.
+/// Executes the steps of a case and merges their tapes. The test aborts with a message unless that returns the events or the fault of the
+/// case. If the case has events, merging the front of the tapes must return the same.
 pub fn judge(rt: &impl Abort, alloc: Global, case: &Case) {
     let held = holds(alloc, case);
     assert!(rt; held);
 }
 
-/// Takes the steps of a case at new nodes in memory, and merges a part of their tapes. Takes memory for nodes, tapes and events, and does
-/// no input or output. The test aborts with a message unless that returns the wanted events, each as two letters as in `Case`, or ends
+/// Executes the steps of a case at new nodes in memory, and merges a part of their tapes. Takes memory for nodes, tapes and events, and
+/// does no input or output. The test aborts with a message unless that returns the wanted events, each as two letters as in `Case`, or ends
 /// with the wanted fault.
 pub fn judge_part(
     rt: &impl Abort,

@@ -39,7 +39,7 @@ fn without_a_stop(rt: HostRuntime) {
     judge(&rt, rt.alloc(), &WITHOUT);
 }
 
-/// The number of events with a stop.
+/// The number of events, with the stop.
 const EVENTS: usize = 15;
 
 /// Returns the number of events that are merged, with a stop of a node after this number of steps.

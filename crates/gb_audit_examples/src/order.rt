@@ -3,8 +3,9 @@ use crate::merged::{Case, judge};
 use crate::steps::Step;
 use std::rt::HostRuntime;
 
-// The third node sends the first the same packet twice. The first node takes it before its tick; the second ticks twice. The
-// first node waits, so the entries of the second are taken while they can be; then those of the third, until the first can go on.
+// The third node sends the first the same packet twice. The first node takes it before its tick; the second ticks twice. The first node
+// waits, so the entries of the second are taken as long as they can be; then those of the third, until the first node's next entry can be
+// taken.
 const LOWEST: Case = Case {
     nodes: 3,
     steps: &[

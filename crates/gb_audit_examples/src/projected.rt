@@ -1,4 +1,4 @@
-// The projection of a run on a group, compared with the group alone: by the plain program, and by the slots of its nodes.
+// The projection of a run onto a group, compared with the group alone: by the plain program, and by the slots of its nodes.
 ghost use Rattle.std.specs.Prelude.{◌≡◌, ◌≤◌};
 ghost use Rattle.gb_types.specs.declared.limits.TheConstants.{NODES, SILENCE_MIN};
 
@@ -10,16 +10,16 @@ use gb_trace::{Trace, alone, observe, project, refused_for};
 use gb_types::{Addr, OutOfMemory, Plan};
 use std::alloc::Global;
 
-/// The projection of a run on a group, and what is seen of the group in it.
+/// The projection of a run onto a group, and what is seen of the group in it.
 #[derive(Drop)]
 pub struct Shown {
     pub steps: Vec<GroupStep>,
     pub seen: Observation,
 }
 
-/// Returns what a run shows of a group: the part of the run that concerns it (its projection), and what is seen of it. `Ok(None)` if a
-/// request of the group was refused for lack of memory, or if the group by itself, without other tenants, links or frames, does not
-/// show the same under that projection, by the plain program or by slots. `Err` if there is no memory.
+/// Returns what a run shows of a group: the steps of the group in the run (its projection), and what is seen of the group. `Ok(None)` if a
+/// request of the group was refused for lack of memory, or if the group by itself, without other tenants, links or frames, does not show
+/// the same under that projection, by the plain program or by slots. `Err` if there is no memory.
 pub fn show(
     alloc: Global,
     plan: &Plan,

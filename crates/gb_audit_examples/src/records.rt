@@ -1,4 +1,4 @@
-// Records of two nodes that did things together, and what an audit says of them, and of records that were changed afterwards.
+// Records of two nodes of one run, and the lines of audits of them, and of records that were changed afterwards.
 ghost use Rattle.gb_cluster.specs.Common.{IsClusterPlan};
 
 use crate::merged::{plan, plan_under};
@@ -41,15 +41,15 @@ static STEPS: [At; 15] = [
 #[derive(Clone, Copy)]
 pub enum Change {
     None,
-    // These bytes of a line become others.
+    // These bytes of a line are replaced by others.
     Replace(usize, &'static [u8], &'static [u8]),
     // A line is left out.
     Drop(usize),
     // A line and the next one are exchanged.
     Exchange(usize),
-    // Only the first lines are left, and the first bytes of the next one.
+    // Only the first lines are kept, and the first bytes of the next one.
     Cut(usize, usize),
-    // Only the first lines are left, and the line `end`.
+    // Only the first lines are kept, and the line `end`.
     End(usize),
 }
 
@@ -71,7 +71,7 @@ pub fn changed(alloc: Global, text: &[u8], change: Change) -> Result<Vec<u8>, Ou
     for line in text.split(|byte| *byte == b'\n') {
         lines.push(line)?;
     }
-    // What stands behind the last line feed is no line.
+    // The text behind the last line feed is no line.
     let count = lines.len().saturating_sub(1);
     let mut out = Vec::new(alloc);
     for place in 0..count {
@@ -178,7 +178,7 @@ pub fn is_audited(
     Ok(out.as_slice() == lines.as_bytes() && status_of(&found) == status)
 }
 
-// Changes of the records of node 0 and of node 1, what an audit of them prints, and its status.
+// Changes of the records of node 0 and of node 1, the lines of an audit of them, and its status.
 struct Case {
     first: Change,
     second: Change,
@@ -204,21 +204,21 @@ static CASES: [Case; 15] = [
         lines: "tape a node 0 entries 7 whole\ntape b node 1 entries 8 whole\nmerged 15 events\nwhole of the records given, complete\n",
         status: 0,
     },
-    // An answer is changed: what node 1 fetched.
+    // An answer is changed: the log that node 1 fetched.
     Case {
         first: Change::None,
         second: Change::Replace(7, b"0:1:61", b"0:1:62"),
         lines: "tape a node 0 entries 7 whole\ntape b node 1 entries 8 whole\naudit fault 3 b line 7\n",
         status: 1,
     },
-    // An answer is changed, and says that the node had no memory: what the node did further is not what it does without the message.
+    // An answer is changed, and says that the node had no memory: the node's later answers are not those that it gives without the message.
     Case {
         first: Change::Replace(5, b"> said 1", b"> refused 16 OutOfMemory"),
         second: Change::None,
         lines: "tape a node 0 entries 7 whole\npassed over a entries 1\ntape b node 1 entries 8 whole\naudit fault 3 a line 6\n",
         status: 1,
     },
-    // A tick is answered so.
+    // The answer of a tick is changed so.
     Case {
         first: Change::Replace(8, b"> noticed -", b"> refused 16 OutOfMemory"),
         second: Change::None,
@@ -239,7 +239,7 @@ static CASES: [Case; 15] = [
         lines: "tape a node 0 entries 7 whole\ntape b node 1 entries 8 whole\naudit fault 3 a line 3\n",
         status: 1,
     },
-    // A packet is invented: node 0, whose record is whole, did not send the one that node 1 took.
+    // A packet is invented: node 1 took a packet of node 0 that node 0, whose record is whole, did not send.
     Case {
         first: Change::End(5),
         second: Change::None,
@@ -260,21 +260,21 @@ static CASES: [Case; 15] = [
         lines: "tape a node 0 entries 4 cut torn 3\ntape b node 1 entries 8 whole\nleft b line 6 entries 4 awaits 0\nmerged 8 events\n",
         status: 3,
     },
-    // The end of a record is missing, and no other record heard of what stood there.
+    // The end of a record is missing, and no other record depends on it.
     Case {
         first: Change::None,
         second: Change::Cut(8, 0),
         lines: "tape a node 0 entries 7 whole\ntape b node 1 entries 7 cut torn 0\nmerged 14 events\nwhole of the records given, partial\n",
         status: 0,
     },
-    // The record is said to be another node's.
+    // The record's first line names another node.
     Case {
         first: Change::Replace(1, b"tape 1 0", b"tape 1 1"),
         second: Change::None,
         lines: "bad line 2 of a\n",
         status: 1,
     },
-    // Two files are exchanged: each first line stands before the other node's entries.
+    // Two files are exchanged: each first line is followed by the other node's entries.
     Case {
         first: Change::Replace(1, b"tape 1 0 2 3 4 1", b"tape 1 1 2 3 4 2"),
         second: Change::Replace(1, b"tape 1 1 2 3 4 2", b"tape 1 0 2 3 4 1"),
@@ -288,14 +288,14 @@ static CASES: [Case; 15] = [
         lines: "tape a node 0 entries 7 whole\nnot one cluster: b\n",
         status: 1,
     },
-    // A number is spelt in another way.
+    // A number is spelled in another way.
     Case {
         first: Change::Replace(8, b"tick 0", b"tick 00"),
         second: Change::None,
         lines: "bad line 8 of a\n",
         status: 1,
     },
-    // Something stands behind the end.
+    // There is text behind the end.
     Case {
         first: Change::Exchange(8),
         second: Change::None,
@@ -319,7 +319,7 @@ fn are_told(alloc: Global) -> Result<bool, OutOfMemory> {
     are_all_told(alloc, &texts, &CASES)
 }
 
-// Node 1 takes a packet of node 2, of which there is no record, and behind it one of node 0.
+// Node 1 takes a packet of node 2, of which there is no record, and then one of node 0.
 static BEHIND: [At; 12] = [
     (0, Step::Ask(Asked::AddTenant)),
     (0, Step::Ask(Asked::MakeGroup)),
@@ -336,14 +336,14 @@ static BEHIND: [At; 12] = [
 ];
 
 static BEHIND_CASES: [Case; 2] = [
-    // The record of node 2 may have what it sent.
+    // The record of node 2 may have the packet.
     Case {
         first: Change::None,
         second: Change::None,
         lines: "tape a node 0 entries 5 whole\ntape b node 1 entries 6 whole\nleft b line 5 entries 3 awaits 2\nmerged 8 events\n",
         status: 3,
     },
-    // That explains nothing of the packet behind, which node 0, whose record is whole, did not send.
+    // That does not explain the second packet, which node 0, whose record is whole, did not send.
     Case {
         first: Change::End(5),
         second: Change::None,
@@ -363,8 +363,8 @@ fn a_missing_record_hides_no_packet_that_nobody_sent(rt: HostRuntime) {
     assert!(rt; told == Ok(true));
 }
 
-// A record of another run stands in for node 1's. Its packets are tagged under that run's key, so the first that it sent is not what the
-// node sends in this run.
+// A record of another run is given instead of node 1's. Its packets are tagged under that run's key, so the first packet that it sent is
+// not the one that the node sends in this run.
 const OTHER_RUN: Case = Case {
     first: Change::None,
     second: Change::None,

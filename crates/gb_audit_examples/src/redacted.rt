@@ -1,4 +1,4 @@
-// Records without their secrets: what stands in them, and what an audit of them says.
+// Records without their secrets: their texts, and the lines of an audit of them.
 use crate::merged::plan;
 use crate::records::{Change, KEYS, changed, is_audited, records_of, sources};
 use crate::requests::{ADMIN_KEY, Asked};
@@ -15,8 +15,8 @@ use gb_types::OutOfMemory;
 use std::alloc::Global;
 use std::rt::HostRuntime;
 
-// Both nodes make a group and open it. Node 0 says a message and packs it; node 1 takes it and fetches it. Before all that, a tenant that
-// node 0 has not asks it to open a group.
+// Both nodes make a group and open it. Node 0 says a message and packs it; node 1 takes it and fetches it. Before all that, node 0 gets a
+// request to open a group from a tenant that it does not have.
 static STEPS: [At; 12] = [
     (0, Step::AskOf(8, Asked::OpenGroup)),
     (0, Step::Ask(Asked::AddTenant)),
@@ -47,13 +47,13 @@ static SAID: &[u8] = b"4f24bd934e6f14f850bad5870782a6b538a6fa428c02a0c087d730e1c
 
 static NO_TOKEN: &[u8] = b"0000000000000000000000000000000000000000000000000000000000000000";
 
-// The keys for an audit of the redacted records, and the key that stands for the administrator's.
+// The keys for an audit of the redacted records: the cluster's key, and the redacted key of the administrator.
 static KEYS_TEXT: &str = "0303030303030303030303030303030303030303030303030303030303030303\n\
 5382e5bd808acee065475566c872cbacaffc325bc37f95d7be51a3ee8021e819\n";
 
 static ADMIN: &[u8] = b"5382e5bd808acee065475566c872cbacaffc325bc37f95d7be51a3ee8021e819";
 
-// Returns true if the text of a record is redacted so.
+// Returns true if `wanted` is the redacted text of a record.
 fn is_redacted(alloc: Global, text: &[u8], wanted: &[u8]) -> bool {
     match redact_text(alloc, &ADMIN_KEY, text) {
         Ok(made) => made.as_slice() == wanted,
@@ -85,7 +85,7 @@ fn is_told(
     is_audited(alloc, &sources(&first, &second), keys, lines, status)
 }
 
-// Returns true if the record of node 0 is redacted as it should be: whole, cut in the midst of a token, and with a wrong token.
+// Returns true if the record of node 0 is redacted as expected: whole, cut in the middle of a token, and with a wrong token.
 fn is_first_redacted(alloc: Global, first: &[u8]) -> Result<bool, OutOfMemory> {
     let cut = changed(alloc, first, Change::Cut(5, 60))?;
     let lines = changed(alloc, FIRST.as_bytes(), Change::Cut(5, 0))?;
@@ -99,8 +99,8 @@ fn is_first_redacted(alloc: Global, first: &[u8]) -> Result<bool, OutOfMemory> {
     )
 }
 
-// Returns true if the two redacted records are one run under the keys that are handed out with them, and not under the old ones, and if so
-// are the first entries of a record that is cut short.
+// Returns true if the two redacted records are one run under the keys that come with them, and not under the old ones, and if the first
+// entries of a record that is cut short are one run, too.
 fn are_audited(alloc: Global, first: &[u8], second: &[u8]) -> Result<bool, OutOfMemory> {
     let Some(admin) = read_token(ADMIN) else {
         return Ok(false);
@@ -118,7 +118,7 @@ fn are_audited(alloc: Global, first: &[u8], second: &[u8]) -> Result<bool, OutOf
     )
 }
 
-// Returns true if all is as it should be.
+// Returns true if all results are as expected.
 fn outcome(alloc: Global) -> Result<bool, OutOfMemory> {
     let texts = records_of(alloc, &plan(2), &STEPS)?;
     let [first, second] = texts.as_slice() else {

@@ -1,4 +1,4 @@
-// The groups that the law excepts after a refusal for lack of memory.
+// The groups without the law's promise after a refusal for lack of memory.
 use crate::schedule::{FIRST, furnish, group_of, say, spec_with};
 use gb_cluster::{Answer, Event};
 use gb_trace::{Trace, refused_for};

@@ -14,7 +14,7 @@ use gb_types::{OutOfMemory, Plan};
 use std::alloc::Global;
 use std::rt::HostRuntime;
 
-// Node 0 is asked before its tenant is there, takes bytes that are no packet, says two messages of which the second must have its
+// Node 0 gets a request before its tenant is there, takes bytes that are no packet, says two messages of which the second must have its
 // number, packs them, and has nothing more to pack. Node 1 takes the second packet, the first one, and that again; it fetches and
 // acknowledges. Then node 0 notices it and stops.
 static STEPS: [At; 24] = [
@@ -96,7 +96,7 @@ noticed 1
 ok
 ";
 
-// Returns the run of the nodes, as it is merged from their tapes.
+// Returns the run of the nodes, merged from their tapes.
 fn run(alloc: Global, plan: &Plan) -> Option<Vec<Event>>
     requires { IsClusterPlan plan.now }
 {
@@ -111,7 +111,7 @@ fn run(alloc: Global, plan: &Plan) -> Option<Vec<Event>>
     merge_front(alloc, plan, &tapes).ok()
 }
 
-// Returns true if a run is replayed so.
+// Returns true if the run has these schedule and answers.
 fn is_replayed(alloc: Global, plan: &Plan, events: &[Event]) -> bool
     requires { IsClusterPlan plan.now }
 {

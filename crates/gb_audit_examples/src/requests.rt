@@ -15,7 +15,7 @@ fn key_of(tenant: u8) -> Key {
     [tenant; 32]
 }
 
-/// Returns what a node keeps of a tenant.
+/// Returns the row of a tenant at a node.
 fn row_of(tenant: u8) -> TenantRow {
     TenantRow {
         tenant: u16::from(tenant),
@@ -88,8 +88,8 @@ fn by_member(tenant: u8, me: NodeId, command: GroupCommand) -> Request {
     Request::of_group(member(tenant, me), group_of(tenant), command)
 }
 
-/// Returns the request that `asked` names, at the node `me`, with the token that it needs. It is of the tenant with this number, and of
-/// its one group. `Err` if memory for a message is refused.
+/// Returns the request that `asked` names, at the node `me`, with the token that it needs. It is a request of the tenant with this number,
+/// for its one group. `Err` if memory for a message is refused.
 pub fn request(
     alloc: Global,
     me: NodeId,

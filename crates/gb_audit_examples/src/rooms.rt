@@ -1,4 +1,4 @@
-// What may happen to a group's room, and what may not: the slots of the group's nodes take the one and refuse the other.
+// Legal and illegal steps of a group's room: the slots of the group's nodes accept the legal ones and refuse the others.
 use crate::schedule::{FIRST, PLAN, group_of, spec};
 use gb_alone::{GroupEvent, GroupStep};
 use gb_group_run::alone_by_slots;
@@ -8,7 +8,7 @@ use std::alloc::Global;
 use std::rt::HostRuntime;
 use std::test::Fail;
 
-/// What happens to the room of a group at node 0. The group is generation 0.
+/// A step of the room of a group at node 0. The group is generation 0.
 #[derive(Clone, Copy)]
 enum Room {
     Tenant,
@@ -42,8 +42,8 @@ const MAY_BE_FULL: [Room; 5] = [
     Room::Made(4),
 ];
 
-/// The last step of each may not happen: a fifth generation with the group and without it, a generation that is the group, a drop where
-/// nothing was made and one where nothing is left, and a tenant that is there.
+/// The last step of each list is not legal: a fifth generation with the group and without it, a generation that is the group, a drop when
+/// no generation was made and one when none is left, and a tenant that is there already.
 const MAY_NOT_HAPPEN: [&[Room]; 6] = [
     &[
         Room::Tenant,
@@ -81,7 +81,7 @@ fn event_of(room: Room) -> GroupEvent {
     }
 }
 
-/// Returns true if all of this may happen.
+/// Returns true if all of these steps are legal.
 fn passes(alloc: Global, room: &[Room]) -> Result<bool, OutOfMemory> {
     let mut steps = Vec::new(alloc);
     for step in room {
@@ -102,7 +102,7 @@ fn a_room_has_four_places(rt: HostRuntime) -> Result<(), Fail> {
     Ok(())
 }
 
-/// Returns true if the last of these steps may not happen, and those before it may.
+/// Returns true if the last of these steps is not legal, and those before it are.
 fn ends_badly(alloc: Global, room: &[Room]) -> Result<bool, OutOfMemory> {
     match room.split_last() {
         None => Ok(false),

@@ -18,7 +18,8 @@ use std::test::Fail;
 /// The replies at the first node are the same for each group of the first run.
 const FIRST_REPLIES: [Got; 3] = [Got::Done, Got::Done, Got::Said(1)];
 
-/// Returns true if a tenant's group is seen as it should be, where that is looked at. The payload is the tenant's number.
+/// Returns true if the observation of a tenant's group has the expected replies, if `told` has them, and the expected payload, which is the
+/// tenant's number.
 fn is_seen_so(seen: &Observation, told: &ToldOf) -> bool {
     let payload = told.tenant.to_be_bytes();
     match told.second {
@@ -27,7 +28,7 @@ fn is_seen_so(seen: &Observation, told: &ToldOf) -> bool {
     }
 }
 
-/// Returns true if a tenant's group is seen in a run as it should be, and its projection is the one that is written by hand.
+/// Returns true if a tenant's group is seen in a run as expected, and its projection is the one written by hand.
 fn is_told(
     alloc: Global,
     plan: &Plan,
@@ -43,7 +44,8 @@ fn is_told(
     }
 }
 
-/// Returns true if no event is refused for lack of memory and each group is told as it should be, and the numbers of answers and packets.
+/// Returns true if no event is refused for lack of memory and each group is seen as expected, with the numbers of answers and packets.
+/// `Ok(None)` if the plan is no cluster's plan, or an event names a node beyond the cluster.
 fn outcome(
     alloc: Global,
     plan: Plan,

@@ -1,4 +1,4 @@
-// What happens in a cluster of two nodes, and what is told of each of its groups.
+// The events in a cluster of two nodes, and the expected steps and replies of each of its groups.
 use crate::short::Got;
 use crate::told::{OPEN_AT_TWO, Told, ToldAt};
 use gb_cap::token::token;
@@ -112,8 +112,8 @@ fn ask_as_member(
     ask(events, node, Request::of_group(token, addr, command))
 }
 
-/// Appends three requests at a node to the events of a run: add a tenant, make its group with these parameters, open it. `Err` if there
-/// is no memory; then some may be there.
+/// Appends three requests at a node to the events of a run: add a tenant, make its group with these parameters, open it. `Err` if there is
+/// no memory; then some of them may have been appended.
 pub fn furnish(
     events: &mut Vec<Event>,
     node: NodeId,
@@ -209,8 +209,8 @@ fn add_events(alloc: Global, events: &mut Vec<Event>) -> Result<(), OutOfMemory>
     Ok(())
 }
 
-/// What is told of the group of a tenant in a run: the parts of its projection, and its replies at the second of two nodes, if they are
-/// looked at.
+/// The expectations for the group of a tenant in a run: the parts of its projection, and its replies at the second of two nodes, if they
+/// are checked.
 #[derive(Clone, Copy)]
 pub struct ToldOf {
     pub tenant: u16,
@@ -221,7 +221,7 @@ pub struct ToldOf {
 /// A tenant's message goes from the first node to the second.
 const SAID: &[ToldAt] = &[(0, Told::Say), (0, Told::Took(1, 1)), (1, Told::Came(0, 1))];
 
-/// What is told of each group in the run of `events`. It is written by hand.
+/// The expectations for each group in the run of `events`. They are written by hand.
 pub const TOLD: [ToldOf; 3] = [
     ToldOf {
         tenant: 7,

@@ -1,4 +1,4 @@
-// A run in which a group is settled: a member stopped, the others noticed it, and nothing of the group is on its way.
+// A run in which a group is settled: a member stopped, the others noticed it, and nothing of the group is in transit.
 use crate::schedule::group_of;
 use crate::short::are_same_entries;
 use crate::shown::run_by;
@@ -9,8 +9,8 @@ use std::alloc::Global;
 use std::rt::HostRuntime;
 use std::test::Fail;
 
-/// An origin stops when one of two nodes has its message. That node relays it to the third, which says something itself. Each
-/// of the two hears the other between its ticks, and so notices the origin alone; then they have nothing more to pack.
+/// An origin stops when one of two nodes has its message. That node relays it to the third, which says a message itself. Each of the two
+/// hears the other between its ticks, and so notices the origin alone; then they have nothing more to pack.
 const SETTLED: [&[u8]; 35] = [
     b"cluster 3 3",
     b"tenant 0 7 4 8 4096 4",
@@ -49,7 +49,7 @@ const SETTLED: [&[u8]; 35] = [
     b"fetch 2 7 1 0 16",
 ];
 
-/// What an answer says of a group that settles.
+/// A sign of an answer that a group settles.
 #[derive(Clone, Copy, PartialEq, Eq)]
 enum Sign {
     /// The node with this number is noticed first.

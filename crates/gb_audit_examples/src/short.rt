@@ -1,4 +1,4 @@
-// What is seen of a group, in short.
+// The observation of a group, in short.
 use gb_alone::{NodeSeen, Observation};
 use gb_types::{Entries, Entry, Refusal, Reply};
 
@@ -20,8 +20,7 @@ fn short_of(reply: &Reply) -> Got {
     }
 }
 
-/// Returns true if a group's replies at a node are exactly the wanted ones, in order. Logs are compared by their numbers of entries
-/// alone.
+/// Returns true if a group's replies at a node are exactly the wanted ones, in order. Of logs only the numbers of entries are compared.
 fn are_replies(replies: &[Reply], wanted: &[Got]) -> bool {
     if replies.len() != wanted.len() {
         return false;
@@ -65,7 +64,7 @@ fn is_silent(node: &NodeSeen) -> bool {
     }
 }
 
-/// Returns true if a group has exactly these replies at each node, in order. Logs are compared by their numbers of entries alone.
+/// Returns true if a group has exactly these replies at each node, in order. Of logs only the numbers of entries are compared.
 pub fn are_seen(seen: &Observation, wanted: &[&[Got]]) -> bool {
     let nodes = seen.nodes();
     if nodes.len() != wanted.len() {
@@ -79,9 +78,9 @@ pub fn are_seen(seen: &Observation, wanted: &[&[Got]]) -> bool {
     true
 }
 
-/// Returns true if exactly this is seen of a group at two nodes: the replies `first` at the first node and `second` at the second, and
-/// the messages with these payloads, which went from the first node to the second. The messages are numbered from 1. Logs are compared by
-/// their numbers of entries alone.
+/// Returns true if exactly this is seen of a group at two nodes: the replies `first` at the first node and `second` at the second, and the
+/// messages with these payloads, which went from the first node to the second. The messages are numbered from 1. Of logs only the numbers
+/// of entries are compared.
 pub fn is_seen(seen: &Observation, first: &[Got], second: &[Got], payloads: &[&[u8]]) -> bool {
     match seen.nodes() {
         [sender, other] => {
@@ -139,8 +138,8 @@ fn is_same_node(node: &NodeSeen, other: &NodeSeen) -> bool {
     true
 }
 
-/// Returns true if the same is seen of a group in both observations: as many nodes, and at each node the same replies and the same
-/// messages that it sent to each node.
+/// Returns true if the same is seen of a group in both observations: the same number of nodes, and at each node the same replies and the
+/// same messages that it sent to each node.
 pub fn is_same(seen: &Observation, other: &Observation) -> bool {
     let (nodes, others) = (seen.nodes(), other.nodes());
     if nodes.len() != others.len() {

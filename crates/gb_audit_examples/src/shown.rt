@@ -35,7 +35,7 @@ pub fn right_run(
     }
 }
 
-/// Does the same with the events of a schedule, which are added to a list, which is empty before.
+/// Does the same with the events of a schedule. They are added to a list, which is empty before.
 fn read_run(
     alloc: Global,
     lines: &[&[u8]],
@@ -48,15 +48,15 @@ fn read_run(
     }
 }
 
-/// Runs a schedule, as `read` takes it. Returns the run with what it shows of a group. `Ok(None)` if the schedule cannot be read, and where
-/// `right_run` returns it. `Err` if there is no memory.
+/// Runs a schedule, as `read` reads it. Returns the run with what it shows of a group. `Ok(None)` if the schedule cannot be read, and in
+/// the cases in which `right_run` returns it. `Err` if there is no memory.
 pub fn run_by(alloc: Global, lines: &[&[u8]], addr: Addr) -> Result<Option<RightRun>, OutOfMemory> {
     let mut events = Vec::new(alloc);
     read_run(alloc, lines, addr, &mut events)
 }
 
-/// Returns true if a run sent as many packets, refused nothing, fetched logs with these numbers of entries, and shows the steps of these
-/// parts, one after the other.
+/// Returns true if a run sent this number of packets, refused nothing, fetched logs with these numbers of entries, and shows the steps of
+/// these parts, one after the other.
 pub fn is_as_told(run: &RightRun, packets: usize, logs: &[usize], parts: &[&[ToldAt]]) -> bool {
     run.trace.packets.len() == packets
         && are_fetched(run.trace.answers.as_slice(), logs)

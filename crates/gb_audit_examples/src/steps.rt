@@ -1,4 +1,4 @@
-//! Worked steps at nodes, and the tapes that they leave, for the tests of merging.
+//! Worked steps at nodes, and the tapes that they produce, for the tests of merging.
 ghost use Rattle.gb_cluster.specs.Common.{IsClusterPlan};
 
 use crate::requests::{Asked, node, request};
@@ -8,44 +8,44 @@ use gb_types::{NodeId, NodeSet, OutOfMemory, Plan, Refusal, Reply};
 use std::alloc::Global;
 use std::mem;
 
-/// What happens at a node, with other nodes by their numbers.
+/// A step at a node, with other nodes by their numbers.
 #[derive(Clone, Copy)]
 pub enum Step {
-    /// Tenant 7 asks.
+    /// A request of tenant 7.
     Ask(Asked),
-    /// The tenant with this number asks.
+    /// A request of the tenant with this number.
     AskOf(u8, Asked),
-    /// It is noted that the node had no memory for it, and the node does nothing.
+    /// An entry is recorded that says that the node had no memory for the request, and the node does nothing.
     AskRefused(Asked),
     /// The items that wait for another node are packed.
     Pack(u8),
-    /// It is noted that the node had no memory for that, and the node does nothing.
+    /// An entry is recorded that says that the node had no memory for packing, and the node does nothing.
     PackRefused(u8),
-    /// Another node is sent an acknowledgement.
+    /// An acknowledgement is sent to another node.
     Ack(u8),
     Tick,
-    /// A tick is noted with a forged answer: the nodes that are noticed, or a refusal.
+    /// A tick is recorded with a forged answer: the nodes that are noticed, or a refusal.
     ForgeTick(Result<&'static [u8], Refusal>),
     Stop,
-    /// Bytes come.
+    /// These bytes come.
     Bytes(&'static [u8]),
-    /// The packet comes that a node sent by the entry at an index of its tape; no bytes come if the entry sent none.
+    /// The packet comes that a node sent in the entry at an index of its tape; no bytes come if the entry sent none.
     Come(u8, usize),
-    /// The acknowledgement that a node would send this one comes, and that node notes nothing.
+    /// The acknowledgement comes that a node would send to this one, and that node records nothing.
     ComeUnsent(u8),
 }
 
 /// A step, and the number of the node where it happens.
 pub type At = (u8, Step);
 
-/// A node, with the tape of what happened there.
+/// A node, with the tape of its events.
 #[derive(Drop)]
 pub struct Taped {
     node: Node,
     tape: Vec<TapeEntry>,
 }
 
-/// Appends the nodes of a cluster to `nodes`, each with nothing happened and an empty tape. `Err` if memory is refused.
+/// Appends the nodes of a cluster to `nodes`, each new and with an empty tape. `Err` if memory is refused.
 pub fn start(alloc: Global, plan: &Plan, nodes: &mut Vec<Taped>) -> Result<(), OutOfMemory>
     requires { IsClusterPlan plan.now }
 {
@@ -57,7 +57,7 @@ pub fn start(alloc: Global, plan: &Plan, nodes: &mut Vec<Taped>) -> Result<(), O
     Ok(())
 }
 
-/// Returns the bytes of what was sent. They are empty if it is no packet.
+/// Returns the bytes of the packet that was sent. They are empty if no packet was sent.
 fn bytes(sent: &Sent) -> &[u8] {
     match sent {
         Sent::Packet(text) => text.as_slice(),
@@ -65,7 +65,7 @@ fn bytes(sent: &Sent) -> &[u8] {
     }
 }
 
-/// Returns the bytes that a node sent by the entry at an index of its tape.
+/// Returns the bytes that a node sent in the entry at an index of its tape.
 fn sent(nodes: &[Taped], from: NodeId, place: usize) -> &[u8] {
     let Some(taped) = nodes.get(from.index()) else {
         return &[];
@@ -79,13 +79,13 @@ fn sent(nodes: &[Taped], from: NodeId, place: usize) -> &[u8] {
     }
 }
 
-/// Returns the event that bytes come.
+/// Returns the event in which bytes come.
 fn come(alloc: Global, bytes: &[u8]) -> Result<NodeEvent, OutOfMemory> {
     let copy = Vec::from_slice(alloc, bytes)?;
     Ok(NodeEvent::Packet(PacketText::from(copy)))
 }
 
-/// Returns the event that the acknowledgement comes which a node would send to another one.
+/// Returns the event in which the acknowledgement comes that a node would send to another one.
 fn come_unsent(
     alloc: Global,
     nodes: &mut [Taped],
@@ -137,7 +137,7 @@ fn forged(told: Result<&[u8], Refusal>) -> Ticked {
     }
 }
 
-/// Returns what is noted as the answer to the event of a step.
+/// Returns the answer that is recorded for the event of a step.
 fn answer(node: &mut Node, step: Step, event: &NodeEvent) -> NodeAnswer {
     match step {
         Step::AskRefused(_) => NodeAnswer::Reply(Reply::Refused(Refusal::OutOfMemory)),
@@ -147,7 +147,7 @@ fn answer(node: &mut Node, step: Step, event: &NodeEvent) -> NodeAnswer {
     }
 }
 
-/// Notes an event with its answer.
+/// Records an event with its answer.
 fn note(
     tape: &mut Vec<TapeEntry>,
     event: NodeEvent,
@@ -163,7 +163,7 @@ fn note(
     Ok(())
 }
 
-/// Takes a step at a node.
+/// Executes a step at a node.
 fn take(alloc: Global, nodes: &mut [Taped], me: NodeId, step: Step) -> Result<(), OutOfMemory> {
     let event = event(alloc, nodes, me, step)?;
     match nodes.get_mut(me.index()) {
@@ -175,8 +175,8 @@ fn take(alloc: Global, nodes: &mut [Taped], me: NodeId, step: Step) -> Result<()
     }
 }
 
-/// Takes these steps at their nodes, one after the other. Each changes its node and appends an entry to the node's tape. A step at
-/// a node that is not there is left out. `Err` if memory is refused.
+/// Executes these steps at their nodes, one after the other. Each changes its node and appends an entry to the node's tape. A step at a
+/// node that is not there is left out. `Err` if memory is refused.
 pub fn take_all(alloc: Global, nodes: &mut [Taped], steps: &[At]) -> Result<(), OutOfMemory> {
     for (number, step) in steps {
         take(alloc, nodes, node(*number), *step)?;

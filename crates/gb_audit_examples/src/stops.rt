@@ -54,8 +54,8 @@ fn is_named(plan: &Plan) -> bool
     true
 }
 
-/// Returns true if a cluster may be started with this plan: its nodes, versions, places and silence are within their limits. Its room
-/// is not looked at.
+/// Returns true if a cluster may be started with this plan: its nodes, versions, places and silence are within their limits. Its room is
+/// not checked.
 pub fn is_plan(plan: &Plan) -> bool
     ensures { IsTrue result → IsClusterPlan plan.now }
 {
@@ -111,7 +111,7 @@ fn read_plan(line: &[u8]) -> Option<Plan> {
     Some(plan_of(&read_start(line)?))
 }
 
-/// Returns the event that a line spells, if it spells a command in its place that starts no cluster.
+/// Returns the event that a line spells, if it spells a valid command that starts no cluster.
 fn read_event(
     alloc: Global,
     keys: &mut Keys,
@@ -148,8 +148,7 @@ fn read_events(
     Ok(true)
 }
 
-/// Returns the plan that the first of the lines spells, with the events of the others added, if each line spells a command in its
-/// place.
+/// Returns the plan that the first of the lines spells, with the events of the others added, if each line spells a valid command.
 fn read_all(
     alloc: Global,
     keys: &mut Keys,
@@ -170,8 +169,8 @@ fn read_all(
 
 /// Reads a schedule, a text of commands as gb_sim reads it. The tests of this module run it on a cluster, stop a node after each event in
 /// turn, and compare what is seen of each group with what is seen of it alone. Returns the plan that the first line spells, and appends to
-/// `events` the events of the other lines. `Ok(None)` if a line does not spell a command in its place, or no cluster may be started with
-/// the plan. `Err` if there is no memory. In both cases some events may have been appended.
+/// `events` the events of the other lines. `Ok(None)` if a line does not spell a valid command, or no cluster may be started with the plan.
+/// `Err` if there is no memory. In both cases some events may have been appended.
 pub fn read(
     alloc: Global,
     lines: &[&[u8]],
@@ -285,7 +284,7 @@ fn is_right(stopped: &NodeSet, sent: &[Posted], event: &Event, answer: &Answer) 
     }
 }
 
-/// Takes an event and its answer into account: the nodes that have stopped, and the number of packets that were sent.
+/// Updates the nodes that have stopped and the number of packets that were sent, by an event and its answer.
 fn pass(event: &Event, answer: &Answer, stopped: &mut NodeSet, sent: &mut usize) {
     if let Event::At(node, NodeEvent::Stop) = event {
         stopped.insert(*node);

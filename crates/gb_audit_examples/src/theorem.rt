@@ -1,4 +1,4 @@
-// The worked run of docs/THEOREM.md: the part of it that concerns a group, and what is seen of the group.
+// The worked run of docs/THEOREM.md: the steps of a group in it, and what is seen of the group.
 use crate::schedule::group_of;
 use crate::short::{Got, is_seen};
 use crate::shown::{is_as_told, run_by};
@@ -34,7 +34,7 @@ const LINES: [&[u8]; 22] = [
     b"fetch 0 7 1 0 16",
 ];
 
-/// The part of it that concerns tenant 7's group, as the page has it, once the group is open at both nodes.
+/// The steps of tenant 7's group, as the page has them, once the group is open at both nodes.
 const STEPS: &[ToldAt] = &[
     (0, Told::Say),
     (0, Told::Say),
@@ -45,7 +45,7 @@ const STEPS: &[ToldAt] = &[
     (0, Told::Fetch),
 ];
 
-/// The replies that are seen at the two nodes.
+/// The replies at the two nodes.
 const FIRST_REPLIES: &[Got] = &[
     Got::Done,
     Got::Done,
@@ -70,8 +70,7 @@ fn is_as_the_page_has_it(alloc: Global) -> Result<bool, OutOfMemory> {
     }
 }
 
-// The part of the run that concerns the group is what the page says. What is seen of the group is what is seen of it alone under
-// these steps.
+// The steps of the group in the run are those of the page. What is seen of the group is what is seen of it alone after these steps.
 #[test]
 fn the_worked_run_of_the_theorem(rt: HostRuntime) -> Result<(), Fail> {
     let right = is_as_the_page_has_it(rt.alloc())?;

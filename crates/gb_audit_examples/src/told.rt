@@ -1,7 +1,7 @@
-// What happens to a group, in short.
+// The events of a group, in short.
 use gb_alone::{GroupEvent, GroupStep};
 
-/// What happens at a node, in short: a command has no arguments.
+/// An event at a node, in short: a command has no arguments.
 #[derive(Clone, Copy, PartialEq, Eq)]
 pub enum Told {
     Tenant,
@@ -43,10 +43,10 @@ fn told_of(event: &GroupEvent) -> Told {
     }
 }
 
-/// The number of a node, and what happens there.
+/// The number of a node, and the event there.
 pub type ToldAt = (u8, Told);
 
-/// A tenant comes to two nodes, and its group is made and opened, first at the one node and then at the other.
+/// A tenant is added at two nodes, and its group is made and opened, first at the one node and then at the other.
 pub const OPEN_AT_TWO: &[ToldAt] = &[
     (0, Told::Tenant),
     (0, Told::Make),
@@ -56,7 +56,7 @@ pub const OPEN_AT_TWO: &[ToldAt] = &[
     (1, Told::Open),
 ];
 
-/// The same at a third node. It stands behind what `OPEN_AT_TWO` has.
+/// The same at a third node. It follows the steps of `OPEN_AT_TWO`.
 pub const OPEN_AT_THIRD: &[ToldAt] = &[(2, Told::Tenant), (2, Told::Make), (2, Told::Open)];
 
 /// Returns true if the steps of a group are exactly those of a part.
@@ -74,7 +74,7 @@ fn are_of_part(steps: &[GroupStep], part: &[ToldAt]) -> bool {
 }
 
 /// Returns true if the steps of a group are exactly the wanted ones: those of the first part, in order, then those of the next one, to the
-/// last. Each is the number of a node and what happens there, without the arguments of requests.
+/// last. Each is the number of a node and the event there, without the arguments of requests.
 pub fn are_steps(steps: &[GroupStep], parts: &[&[ToldAt]]) -> bool {
     let mut left = steps;
     for part in parts {
@@ -87,8 +87,8 @@ pub fn are_steps(steps: &[GroupStep], parts: &[&[ToldAt]]) -> bool {
     left.is_empty()
 }
 
-/// Returns true if both lists have the same steps of a group, in order. Compared are the nodes and what happens there, without the
-/// arguments of requests.
+/// Returns true if both lists have the same steps of a group, in order. The nodes and the events there are compared, without the arguments
+/// of requests.
 pub fn are_same_steps(steps: &[GroupStep], wanted: &[GroupStep]) -> bool {
     if steps.len() != wanted.len() {
         return false;
@@ -102,7 +102,7 @@ pub fn are_same_steps(steps: &[GroupStep], wanted: &[GroupStep]) -> bool {
     true
 }
 
-/// Returns true if the steps at the node with this number are exactly the wanted ones, in order, whatever stands between them.
+/// Returns true if the steps at the node with this number are exactly the wanted ones, in order, whatever steps are between them.
 pub fn are_steps_at(steps: &[GroupStep], node: u8, wanted: &[Told]) -> bool {
     let mut left = wanted;
     for step in steps {

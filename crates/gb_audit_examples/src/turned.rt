@@ -1,4 +1,4 @@
-// Two runs in which the same happens to a group at each node, and the nodes act in another order since another tenant is there.
+// Two runs with the same events of a group at each node, in which the nodes act in another order since another tenant is there.
 use crate::schedule::{FIRST, PLAN, SECOND, fetch, furnish, group_of, say, spec};
 use crate::short::{Got, are_seen, is_same};
 use crate::shown::{RightRun, right_run};
@@ -25,7 +25,7 @@ fn add_by_itself(alloc: Global, events: &mut Vec<Event>) -> Result<(), OutOfMemo
 }
 
 /// Adds the events of the run with the other tenant, which keeps the first node busy: the second node says its message, packs it and takes
-/// the other's before.
+/// the other node's before.
 fn add_beside(alloc: Global, events: &mut Vec<Event>) -> Result<(), OutOfMemory> {
     furnish(events, SECOND, 7, spec())?;
     furnish(events, FIRST, 8, spec())?;
@@ -43,7 +43,7 @@ fn add_beside(alloc: Global, events: &mut Vec<Event>) -> Result<(), OutOfMemory>
     fetch(events, FIRST, 7)
 }
 
-/// What happens to the group at the first node in both runs. It is written by hand.
+/// The events of the group at the first node in both runs. They are written by hand.
 const AT_FIRST: &[Told] = &[
     Told::Tenant,
     Told::Make,
@@ -54,7 +54,7 @@ const AT_FIRST: &[Told] = &[
     Told::Fetch,
 ];
 
-/// What happens to it at the second node in both runs.
+/// The events of the group at the second node in both runs.
 const AT_SECOND: &[Told] = &[
     Told::Tenant,
     Told::Make,
@@ -79,14 +79,14 @@ fn run_so(alloc: Global, is_beside: bool) -> Result<Option<RightRun>, OutOfMemor
     right_run(alloc, PLAN, &events, group_of(7))
 }
 
-/// Returns true if what happens to the group at each node, and what is seen of it, is as written above.
+/// Returns true if the events of the group at each node, and what is seen of the group, are as written above.
 fn is_as_written(run: &RightRun) -> bool {
     are_steps_at(&run.shown.steps, 0, AT_FIRST)
         && are_steps_at(&run.shown.steps, 1, AT_SECOND)
         && are_seen(&run.shown.seen, &[REPLIES, REPLIES])
 }
 
-/// Returns true if both runs show the same of the group, though their projections on it are in another order.
+/// Returns true if both runs show the same of the group, though their projections onto it are in another order.
 fn agree_though_turned(one: &RightRun, other: &RightRun) -> bool {
     is_as_written(one)
         && is_as_written(other)
@@ -103,7 +103,7 @@ fn agrees(alloc: Global) -> Result<bool, OutOfMemory> {
     }
 }
 
-// Another tenant changes when the nodes act, and nothing that is seen of the group.
+// Another tenant changes when the nodes act, but nothing that is seen of the group.
 #[test]
 fn two_runs_agree_node_by_node(rt: HostRuntime) -> Result<(), Fail> {
     let agrees = agrees(rt.alloc())?;

@@ -20,9 +20,9 @@ fn plan() -> Plan {
 /// A payload that is too long for a node of version 1.
 const LONG: &[u8] = &[b'a'; 1_025];
 
-/// Adds the events of a run. A group says a message at the second node that is too long there. At the first node it says the same
-/// message, then a short one. The frame with both comes to the second node, which lets the first message fall, and is
-/// acknowledged. If `is_shared`, another group says something between them.
+/// Adds the events of a run. A group says a message at the second node that is too long there. At the first node it says the same message,
+/// then a short one. The frame with both comes to the second node, which discards the first message, and is acknowledged. If `is_shared`,
+/// another group says a message between them.
 fn add_events(alloc: Global, is_shared: bool, events: &mut Vec<Event>) -> Result<(), OutOfMemory> {
     if is_shared {
         furnish(events, FIRST, 8, spec())?;
@@ -45,7 +45,7 @@ fn add_events(alloc: Global, is_shared: bool, events: &mut Vec<Event>) -> Result
     fetch(events, FIRST, 7)
 }
 
-/// The part of this run that concerns the group, once it is open at both nodes. It is written by hand.
+/// The steps of the group in this run, once it is open at both nodes. They are written by hand.
 const STEPS: &[ToldAt] = &[
     (1, Told::Say),
     (0, Told::Say),
@@ -80,13 +80,13 @@ fn run_beside(alloc: Global, is_shared: bool) -> Result<Option<RightRun>, OutOfM
     right_run(alloc, plan(), &events, group_of(7))
 }
 
-/// Returns true if a run shows of the group what it should show.
+/// Returns true if a run shows the expected steps and replies of the group.
 fn is_told(run: &RightRun) -> bool {
     are_steps(&run.shown.steps, &[OPEN_AT_TWO, STEPS])
         && are_seen(&run.shown.seen, &[FIRST_REPLIES, SECOND_REPLIES])
 }
 
-/// Returns true if the same is seen in both runs, and it is what should be seen.
+/// Returns true if the same is seen in both runs, and it is the expected observation.
 fn agrees(alloc: Global) -> Result<bool, OutOfMemory> {
     let by_itself = run_beside(alloc, false)?;
     let shared = run_beside(alloc, true)?;
@@ -96,8 +96,7 @@ fn agrees(alloc: Global) -> Result<bool, OutOfMemory> {
     }
 }
 
-// A message that is too long for a node is refused and let fall there, in the run and alone. Another group's messages change
-// nothing.
+// A message that is too long for a node is refused and discarded there, in the run and alone. Another group's messages change nothing.
 #[test]
 fn two_runs_of_unlike_versions_agree(rt: HostRuntime) -> Result<(), Fail> {
     let agrees = agrees(rt.alloc())?;

@@ -157,7 +157,7 @@ pub const MAJORITY_ACK: [&[u8]; 19] = [
     b"fetch 2 7 1 0 16",
 ];
 
-/// The last of 32 nodes says something and stops; the one before it notices this and relays what it has to the first.
+/// The last of 32 nodes says a message and stops; the one before it notices this and relays the message to the first.
 pub const LAST_NODE: [&[u8]; 22] = [
     b"cluster2 32 2 2,2,2,2,2,2,2,2,2,2,2,2,2,2,2,2,2,2,2,2,2,2,2,2,2,2,2,2,2,2,2,2",
     b"tenant 0 7 4 8 4096 4",

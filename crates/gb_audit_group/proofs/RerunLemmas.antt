@@ -23,7 +23,7 @@ unrefused (AnswerHalted halted) is = is
 unrefused NoPacket is = refl
 unrefused NotNoise is = refl
 
--- steps, none of which refuses, lead on
+-- steps that refuse nothing are a run from one value to another
 leads : (w : ClusterValue) (events : List Event) (answers : List Answer) (v : ClusterValue) → AreSteps w events answers v → list_any tells_want answers ≡ false → Leads w events answers v
 unfolding AreSteps Leads
 leads w [] [] v steps none = steps
@@ -35,7 +35,7 @@ leads w (e ∷ events) (y ∷ answers) v steps none = by (tells_want y) refl non
     by true is so rest = absurd (cc)
     by false is so rest = (steps.0, steps.1, unrefused y is, rest (cc))
 
--- the node's own answer is what the cluster told
+-- the node's own answer is the one in the cluster's answer
 own_told : (packets : List Posted) (y : Answer) → own_answer packets y ≡ told packets y
 own_told packets (AnswerReply reply) = refl
 own_told packets (AnswerTaken taken) = refl
@@ -51,7 +51,7 @@ own_told packets (AnswerHalted halted) = refl
 own_told packets NoPacket = refl
 own_told packets NotNoise = refl
 
--- what happened by an event is its entry
+-- the step of an event is its entry
 did_at : (a : NodeId) (event : NodeEvent) (p : Pick) (o : Option NodeAnswer) → o ≡ Some p.entry.answer → p.node ≡ a → p.entry.event ≡ event → did_with a event o ≡ did p ∷ []
 did_at a event p None own node it = absurd (cc)
 did_at a event p (Some g) own node it = cc
@@ -62,7 +62,7 @@ did_is packets (Arrive k) y p is so =
     ap (λ (o : Option Posted). option_map_or (λ (q : Posted). did_with q.to (Came q.text) (own_answer packets y)) o []) is.1
     ∙ did_at is.0.to (Came is.0.text) p (own_answer packets y) (own_told packets y ∙ so) is.2 is.3
 
--- all that happened are the entries
+-- the steps of all events are the entries
 all_are : (packets : List Posted) (events : List Event) (answers : List Answer) (picks : List Pick) → AreTold packets events answers picks → all_did packets events answers ≡ map did picks
 unfolding AreTold all_did
 all_are packets [] [] [] are = refl

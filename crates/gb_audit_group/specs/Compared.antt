@@ -1,4 +1,4 @@
--- What a recorded run shows of a group, beside what the group is alone.
+-- What a recorded run shows of a group, compared with the group alone.
 use Rattle.std.specs.Prelude.{◌≡◌, ◌↔◌, true, List, IsTrue}
 use Rattle.gb_types.specs.declared.{address.Addr.Addr, plan.Plan.Plan}
 use Rattle.gb_types.specs.Common.{bounds_of}
@@ -11,8 +11,8 @@ use Rattle.gb_merge.specs.Common.{IsMergedFront, run_of}
 use Rattle.gb_trace.specs.Observed.{observed}
 use Rattle.gb_audit_group.specs.declared.compare.GroupSeen.{GroupSeen}
 
--- Both observations are those of the group in the run, and of the group alone, given the projection of the run, which is legal. They are told the same exactly
--- where they are equal, and they are equal.
+-- The observations are those of the group in the run, and of the group alone after the projection of the run, which is legal. `is_same` is true if
+-- and only if they are equal, and they are equal.
 pub record IsSeen (plan : Plan) (run : List NodeStep) (g : Addr) (found : GroupSeen) : Type 0 where
   pub seen : found.seen ≡ observed plan g run
   pub alone : found.alone ≡ observed_alone plan.nodes (alone_in plan g run)
@@ -20,6 +20,6 @@ pub record IsSeen (plan : Plan) (run : List NodeStep) (g : Addr) (found : GroupS
   pub same : IsTrue found.is_same ↔ (observed plan g run ≡ observed_alone plan.nodes (alone_in plan g run))
   pub sure : found.is_same ≡ true
 
--- from whatever tapes the events were merged, the run is that of their entries
+-- the run is that of the entries of the tapes that the events were merged from, whichever tapes these are
 abbrev pub IsCompared : Plan → List Event → Addr → GroupSeen → Type 0
 IsCompared plan events g found = (tapes : List (List TapeEntry)) (m : IsMergedFront plan tapes events) → IsSeen plan (run_of m.picks) g found

@@ -1,4 +1,4 @@
-//! What an audited run shows of a group, compared with what the group is alone.
+//! What an audited run shows of a group, compared with the group alone.
 ghost use Rattle.std.specs.Prelude.{List, IfOk};
 ghost use Rattle.gb_cluster.specs.Common.{IsClusterPlan};
 ghost use Rattle.gb_merge.specs.Common.{IsMergedFront};
@@ -17,22 +17,22 @@ use gb_trace::{observe, project};
 use gb_types::{Addr, OutOfMemory, Plan};
 use std::alloc::Global;
 
-/// What is seen of a group in a run, and alone.
+/// The observations of a group in a run, and alone.
 #[derive(Drop)]
 pub struct GroupSeen {
-    /// What is seen of the group in the run.
+    /// The observation of the group in the run.
     pub seen: Observation,
-    /// What is seen of the group by itself, when the same happens to it.
+    /// The observation of the group by itself, after the same events.
     pub alone: Observation,
     /// True if the two are equal.
     pub is_same: bool,
 }
 
-/// Compares what is seen of the group `addr` in a run of a cluster of `plan` with what is seen of the group by itself under the projection
-/// of the run. `events` were merged from tapes, as an audit returns them; the run is that of the tapes' entries. A group that no event names
-/// is seen with no replies and no items. The events are run again, which takes memory for the run's answers and packets. `Err` if memory runs
-/// out, also where a node of the cluster that runs them is refused memory, or if a number would not fit, as `gb_trace::project` and
-/// `gb_group_run::alone_by_slots` say.
+/// Compares the observation of the group `addr` in a run of a cluster of `plan` with the observation of the group by itself under the
+/// projection of the run. `events` were merged from tapes, as an audit returns them; the run is that of the tapes' entries. A group that no
+/// event names is seen with no replies and no items. The events are run again, which takes memory for the run's answers and packets. `Err`
+/// if memory runs out, also if a node of the cluster that runs them is refused memory, or if a number would not fit, as `gb_trace::project`
+/// and `gb_group_run::alone_by_slots` say.
 pub fn compare(
     alloc: Global,
     plan: &Plan,

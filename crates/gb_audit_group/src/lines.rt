@@ -1,4 +1,4 @@
-//! The lines that tell what an audited run shows of a group. If there is no memory, a part of them may have been appended.
+//! The lines that say what an audited run shows of a group. If there is no memory, a part of them may have been appended.
 ghost use Rattle.std.specs.Prelude.{◌≡◌, ◌++◌, codes, decimal, length, map, OnOk};
 ghost use Rattle.gb_spelling.specs.Common.{group_word};
 ghost use Rattle.gb_record_text.specs.RecordText.{after_space, each_after_comma};
@@ -18,7 +18,7 @@ fn put_after(out: &mut Vec<u8>, number: u64) -> Result<(), OutOfMemory>
     put_number(out, number)
 }
 
-// Appends a group's word after a space: its number, and behind a dot its generation, if it is not the first.
+// Appends a group's word after a space: its number, followed by a dot and its generation if this is not the first.
 fn put_group_word(out: &mut Vec<u8>, addr: Addr) -> Result<(), OutOfMemory>
     ensures { OnOk result (out.new.items ≡ out.old.items ++ after_space (group_word addr)) }
 {
@@ -65,7 +65,7 @@ fn put_more(out: &mut Vec<u8>, carried: &[Entries]) -> Result<(), OutOfMemory>
     Ok(())
 }
 
-// Appends the number of each of these lists' entries, parted by commas.
+// Appends the number of each of these lists' entries, separated by commas.
 fn put_counts(out: &mut Vec<u8>, carried: &[Entries]) -> Result<(), OutOfMemory>
     ensures { OnOk result (out.new.items ≡ out.old.items ++ counts_text carried.now) }
 {
@@ -89,7 +89,7 @@ fn put_seen(out: &mut Vec<u8>, seen: &NodeSeen) -> Result<(), OutOfMemory>
     put_bytes(out, b"\n")
 }
 
-// Appends the line of what is seen of a group at a node. `word` stands behind the group.
+// Appends the line of a group's replies and carried items at a node. `word` comes after the group.
 fn put_node(
     out: &mut Vec<u8>,
     addr: Addr,
@@ -105,7 +105,7 @@ fn put_node(
     put_seen(out, seen)
 }
 
-// Appends a line for each node, of what is seen of a group there.
+// Appends a line for each node, with the group's replies and carried items there.
 fn put_nodes(
     out: &mut Vec<u8>,
     addr: Addr,
@@ -121,7 +121,7 @@ fn put_nodes(
     Ok(())
 }
 
-// Appends whether the group is what it is alone. If it is not, what it is alone stands before it.
+// Appends the line that says if the group is seen as it is alone. If it is not, the lines of the group alone come before it.
 fn put_verdict(out: &mut Vec<u8>, addr: Addr, found: &GroupSeen) -> Result<(), OutOfMemory>
     ensures { OnOk result (out.new.items ≡ out.old.items ++ verdict_text addr found.now) }
 {
@@ -132,10 +132,9 @@ fn put_verdict(out: &mut Vec<u8>, addr: Addr, found: &GroupSeen) -> Result<(), O
     put_fact(out, addr, b" different\n")
 }
 
-/// Appends the lines of what was found of the group `addr` to `out`: for each node `group T G node A replies R carried C0,C1,..`, the
-/// number of replies there and the number of items that were carried to each node, node 0 first; then `group T G same`, or
-/// `group T G different` behind the lines of what is seen of the group alone, which begin `group T G alone`. `Err` if there is no memory;
-/// then `out` may have a part of the lines.
+/// Appends the lines of the result for the group `addr` to `out`: for each node `group T G node A replies R carried C0,C1,..`, the number
+/// of replies there and the number of items that were carried to each node, node 0 first; then `group T G same`, or `group T G different`
+/// after the lines of the group alone, which begin `group T G alone`. `Err` if there is no memory; then `out` may have a part of the lines.
 pub fn put_group(out: &mut Vec<u8>, addr: Addr, found: &GroupSeen) -> Result<(), OutOfMemory>
     ensures { OnOk result (out.new.items ≡ out.old.items ++ group_text addr found.now) }
 {

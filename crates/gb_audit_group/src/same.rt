@@ -1,4 +1,4 @@
-//! Comparing what is seen of a group in two observations.
+//! Comparison of two observations of a group.
 ghost use Rattle.std.specs.Prelude.{◌≡◌, ◌↔◌, IsTrue};
 
 use gb_alone::{NodeSeen, Observation};
@@ -63,7 +63,7 @@ fn same_replies(first: &[Reply], second: &[Reply]) -> bool
     true
 }
 
-// Returns true if the same is carried to each node.
+// Returns true if the same items are carried to each node.
 fn same_carried(first: &[Entries], second: &[Entries]) -> bool
     ensures { IsTrue result ↔ (first.now ≡ second.now) }
 {
@@ -78,7 +78,7 @@ fn same_carried(first: &[Entries], second: &[Entries]) -> bool
     true
 }
 
-// Returns true if the same is seen at a node.
+// Returns true if the same replies and items are seen at a node.
 fn same_seen(first: &NodeSeen, second: &NodeSeen) -> bool
     ensures { IsTrue result ↔ (first.now ≡ second.now) }
 {
@@ -86,8 +86,8 @@ fn same_seen(first: &NodeSeen, second: &NodeSeen) -> bool
         && same_carried(first.carried(), second.carried())
 }
 
-/// Returns true if the two observations are equal: as many nodes, and at each node the same replies in the same order, and the same
-/// items carried to each node in the same order.
+/// Returns true if the two observations are equal: the same number of nodes, and at each node the same replies in the same order, and the
+/// same items carried to each node in the same order.
 pub fn is_same(first: &Observation, second: &Observation) -> bool
     ensures { IsTrue result ↔ (first.now ≡ second.now) }
 {

@@ -1,4 +1,4 @@
--- Records, one after another, and the tapes that they make.
+-- Lists of records, and the tapes that they make.
 use Rattle.gb_types.specs.Common.{◌≡◌, ◌≢◌, ℕ, zero, suc, ◌+◌, ◌<◌, ◌≤◌, ◌⊎◌, List, [], ◌∷◌, ◌++◌, length, map, take, get_or, All, ◌↔◌, refl, sym, ap, ◌∙◌, subst, arith, Option, Some, None, IsSome, Vec, vec_len, AllPairs, sum, slice_get, range_with_len, AllZip, set, take_more, take_all, take-map, get_or-take, length-take-le, map-append, get_or-set_same, get_or-set_other, length-map, same_lists, get_or_default, append-nil, All-append, All-get_or, All-head, All-tail, sum_by-take-le, sum_by-append, sum_by-cons, version_at, limits_of, inl, inr, cases_eq, length-append, get_or_append_left, get_or-append_seam, not, Bool, true}
 use Rattle.std.proofs.{Math.ListN.get_or-map, lemmas.List.Sums.length-filter, lemmas.Slice.Zip.all_zipped_more, lemmas.List.FromFn.length-map-range_with_len, lemmas.List.FromFn.get_or-map-range_with_len}
 use Rattle.std.specs.declared.alloc.Global.{Global}
@@ -35,7 +35,7 @@ all_seen P xs i le all = subst (All P) (take_all i xs le) all
 pub each_seen : {X : Type 0} (P : X → Type 0) (xs : List X) (i : ℕ) (x : X) → i < length xs → x ≡ get_or xs i x → All P xs → P x
 each_seen P xs i x lt is all = subst P (sym is) (All-get_or P xs i x lt all)
 
--- The versions that the nodes of some first lines send.
+-- The versions that nodes send, by first lines.
 
 abbrev pub SendsIt : List Version → RecordHead → Type 0
 SendsIt versions h = version_at versions h.node.number ≡ h.version
@@ -52,7 +52,7 @@ versions_more heads versions i h lt is one within before =
     let other : (get_or (take i heads) k d).node.number ≢ h.node.number = λ same. apart (ap (λ (x : RecordHead). x.node.number) (sym there) ∙ same ∙ ap (λ (x : RecordHead). x.node.number) (sym here)) in
     get_or-set_other versions h.node.number (get_or (take i heads) k d).node.number h.version One other ∙ before k d below)
 
--- The tapes that some records make, by the nodes' numbers.
+-- The tapes of records, by the nodes' numbers.
 
 abbrev pub AreTapes : ℕ → List Record → List (List TapeEntry) → Type 0
 AreTapes nodes records tapes = (length tapes ≡ nodes) × ((b : ℕ) → b < nodes → get_or tapes b [] ≡ entries_of records b)
@@ -63,7 +63,7 @@ are_tapes nodes records tapes made =
     same_lists tapes (map (entries_of records) (range_with_len 0 nodes)) (made.0 ∙ sym len)
     (λ k d lt. get_or_default tapes k d [] lt ∙ (made.1 k (omega (arith, made.0)) ∙ sym (get_or-map-range_with_len (entries_of records) 0 nodes k k d (omega (arith, made.0)) (omega arith))))
 
--- these records are left, and of the others, which stand behind them, the tapes are made
+-- the records in `left` remain, and the tapes are those of the records behind them
 pub record AreMade (nodes : ℕ) (all left : List Record) (tapes : List (List TapeEntry)) : Type 0 where
   pub done : List Record
   pub parts : all ≡ left ++ done
@@ -76,7 +76,7 @@ pub all_made : (nodes : ℕ) (all left : List Record) (tapes : List (List TapeEn
 all_made nodes all left tapes none made =
     are_tapes nodes made.done tapes made.made ∙ ap (λ rs. map (entries_of rs) (range_with_len 0 nodes)) (sym (made.parts ∙ ap (λ xs. xs ++ made.done) none))
 
--- the first lines of records of one cluster are of one
+-- the first lines of records of one cluster are of one cluster
 pub heads_of_one : (records : List Record) → AllPairs (λ (r : Record) (s : Record). AreOfOne r.head s.head) records → AllPairs AreOfOne (map (λ (r : Record). r.head) records)
 heads_of_one [] one i j d lt below = absurd (omega (arith, below))
 heads_of_one (x ∷ xs) one i j d lt below =
@@ -95,17 +95,17 @@ pub first_is : (heads : List RecordHead) (first : RecordHead) → Some first ≡
 first_is [] first e = absurd (cc)
 first_is (h ∷ heads) first e = cc
 
--- one text more is read
+-- the list with one more text that is read
 pub read_more : (sources : List Source) (records : List Record) (i : ℕ) (d : Source) (record_read : Record) → i < length sources → HasText (get_or sources i d) record_read → AllZip HasText (take i sources) records
     → AllZip HasText (take (i + 1) sources) (records ++ record_read ∷ [])
 read_more sources records i d record_read lt has before =
     subst (λ xs. AllZip HasText xs (records ++ record_read ∷ [])) (sym (take_more sources i d lt)) (all_zipped_more HasText (take i sources) records (get_or sources i d) record_read before has)
 
--- one element more of a list that is mapped
+-- the mapped list with one more element
 pub mapped_more : {X Y : Type 0} (f : X → Y) (xs : List X) (i : ℕ) (x : X) → i < length xs → x ≡ get_or xs i x → map f (take (i + 1) xs) ≡ map f (take i xs) ++ f x ∷ []
 mapped_more f xs i x lt is = ap (map f) (take_more xs i x lt ∙ ap (λ y. take i xs ++ y ∷ []) (sym is)) ∙ map-append f (take i xs) (x ∷ [])
 
--- what is counted of a tape and of the tapes before it is not more than what is counted of all
+-- the count of a tape plus that of the tapes before it is at most the count of all
 pub sum_past : (f : List TapeEntry → ℕ) (tapes : List (List TapeEntry)) (i : ℕ) (tape : List TapeEntry) → i < length tapes → tape ≡ get_or tapes i tape → sum (map f (take i tapes)) + f tape ≤ sum (map f tapes)
 sum_past f tapes i tape lt is =
     let more : sum (map f (take (i + 1) tapes)) ≡ sum (map f (take i tapes)) + sum (f tape ∷ []) = ap sum (mapped_more f tapes i tape lt is) ∙ sum_by-append (λ n. n) (map f (take i tapes)) (f tape ∷ []) in
@@ -120,12 +120,12 @@ sum_more f tapes i tape lt is =
     let one = sum_by-cons (λ n. n) (f tape) [] in
     omega (arith, more, one)
 
--- how many entries were not refused
+-- the number of entries that were not refused
 pub fed_counted : (entries : List TapeEntry) → length (fed_of entries) ≡ fed_count entries
 unfolding fed_of
 fed_counted entries = length-filter (λ (x : TapeEntry). not (wants_memory x.answer)) entries
 
--- records with one that is not of their cluster, or of one of their nodes
+-- records with one that is not of their cluster, or is of a node that has one
 pub unlike_of : (records : List Record) (r : Record) → (All (λ (x : Record). AreOfOne x.head r.head) records → ⊥) → AllPairs (λ (x : Record) (y : Record). AreOfOne x.head y.head) (records ++ r ∷ []) → ⊥
 unlike_of records r none pairs = none (λ k d lt.
     let last = length records in
@@ -145,13 +145,13 @@ sent_more heads other versions i h lt is within before a small =
 of_first : (plan : Plan) (heads : List RecordHead) (first : RecordHead) → 0 < length heads → first ≡ get_or heads 0 first → All (IsOfPlan plan) heads → IsOfPlan plan first
 of_first plan heads first some is fit = subst (IsOfPlan plan) (sym is) (fit 0 first some)
 
--- a node is not one of the cluster's
+-- a node is not in the cluster
 pub not_below : (heads : List RecordHead) (first : RecordHead) → 0 < length heads → first ≡ get_or heads 0 first → (All (λ (h : RecordHead). h.node.number < first.nodes) heads → ⊥) → IsUnplanned heads
 not_below heads first some is none plan cluster fit =
     let of = of_first plan heads first some is fit in
     none (λ k d lt. let at = fit k d lt in omega (arith, at.here, of.nodes))
 
--- the plan that the first lines make starts no cluster
+-- no cluster may be started with the plan of the first lines
 pub no_cluster : (heads : List RecordHead) (first : RecordHead) (made : Plan) → 0 < length heads → first ≡ get_or heads 0 first → AreSent heads first.version made.versions → made.nodes ≡ first.nodes → made.silence ≡ first.silence → made.places ≡ first.places → (IsClusterPlan made → ⊥) → IsUnplanned heads
 no_cluster heads first made some is sent nodes silence places none plan cluster fit =
     let of = of_first plan heads first some is fit in
@@ -176,7 +176,7 @@ no_cluster heads first made some is sent nodes silence places none plan cluster 
         let at : IsOfPlan plan one.1 = subst (IsOfPlan plan) (sym one.3) (fit one.0 one.1 one.2) in
         subst (λ (v : Version). made.nodes ≤ (limits_of v).nodes) one.4 (can one.1 same at)
 
--- the first lines say the same of the cluster as the first of them
+-- the first lines agree with the first of them about the cluster
 pub like_first : (heads : List RecordHead) (first : RecordHead) (k : ℕ) (d : RecordHead) → first ≡ get_or heads 0 first → AllPairs AreOfOne heads → k < length heads
     → ((get_or heads k d).nodes ≡ first.nodes) × (((get_or heads k d).silence ≡ first.silence) × (((get_or heads k d).places ≡ first.places) × ((get_or heads k d).room ≡ first.room)))
 like_first heads first zero d is one lt =
@@ -188,7 +188,7 @@ like_first heads first (suc k) d is one lt =
       (sym pair.silence ∙ ap (λ (h : RecordHead). h.silence) here, (sym pair.places ∙ ap (λ (h : RecordHead). h.places) here, sym pair.room ∙ ap (λ (h : RecordHead). h.room) here)),
     )
 
--- a list from which nothing can be popped
+-- a list without a last element is empty
 pub none_left : (left : Vec Record Global) (popped : Option Record) → popped ≡ None → IsSome popped ↔ (0 < vec_len left) → left.items ≡ []
 none_left left popped none variant = empty left.items (by left.items refl)
   where
@@ -203,7 +203,7 @@ none_left left popped none variant = empty left.items (by left.items refl)
         let is : IsSome popped = variant.1 some in
         absurd (subst (λ (o : Option Record). IsSome o → ⊥) (sym none) (λ i. cc) is)
 
--- texts are of one list of records
+-- texts belong to one list of records only
 
 same_each : OneTextOneRecord → (sources : List Source) (records others : List Record) → AllZip HasText sources records → AllZip HasText sources others → All FitsRecord records → All FitsRecord others → All IsAllAnswered records → All IsAllAnswered others → AllZip AreSame records others
 same_each law [] [] [] have its fits fit answered are = tt
@@ -219,9 +219,9 @@ same_each law (x ∷ sources) (r ∷ records) (s ∷ others) have its fits fit a
 pub the_only : OneTextOneRecord → (sources : List Source) (records : List Record) → AllZip HasText sources records → All FitsRecord records → All IsAllAnswered records → AreTheOnly sources records
 the_only law sources records have fits answered others are fit its = same_each law sources records others have are.read fits fit answered its
 
--- Why records are not audited.
+-- The reasons why records are not audited.
 
--- a record is not one of the first's cluster, or is one of a node that has one
+-- a record is not of the first one's cluster, or is of a node that has one
 pub unlike_so : (sources : List Source) (records : List Record) (i : ℕ) (d : Source) (r : Record) → i < length sources → HasText (get_or sources i d) r → AllZip HasText (take i sources) records → (All (λ (x : Record). AreOfOne x.head r.head) records → ⊥) → AreUnlike sources
 unlike_so sources records i d r lt has before none = record { count = i + 1; records = records ++ r ∷ []; read = read_more sources records i d r lt has before; unlike = unlike_of records r none }
 
@@ -235,7 +235,7 @@ wrong_so plan records i r n lt is wrong = record { place = i; wrong_record = r; 
 pub gap_so : (records : List Record) (i : ℕ) (r : Record) (n : ℕ) → i < length records → r ≡ get_or records i r → IsFirstGap r.entries.items n → HasGapAt records i n
 gap_so records i r n lt is gap = record { gap_record = r; there = (lt, is); gap = gap }
 
--- texts of no records are none
+-- the texts of an empty list of records are none
 pub no_texts : (sources : List Source) (records : List Record) → AllZip HasText sources records → map (λ (r : Record). r.head) records ≡ [] → sources ≡ []
 no_texts [] records have none = refl
 no_texts (x ∷ sources) [] have none = absurd have
@@ -256,7 +256,7 @@ all_here records plan fit k d lt = (fit k d lt).here
 pub tapes_count : (plan : Plan) (records : List Record) → length (tapes_of plan records) ≡ plan.nodes
 tapes_count plan records = length-map-range_with_len (entries_of records) 0 plan.nodes
 
--- what was merged of records is what it is made of
+-- the merged events are made of these records
 pub merged_so : (records : List Record) (run : Audited) (tapes : List (List TapeEntry)) (events : List Event) (ended : List Bool) → run.tapes.items ≡ tapes_of run.plan records → ended ≡ ended_of run.plan records → tapes ≡ run.tapes.items → events ≡ run.events.items
     → IsMergedFront run.plan (fed_tapes tapes) events → IsVerdict run.plan tapes events ended run.verdict → (run.is_complete ≡ true) ↔ AreEnded ended → IsMergedFrom records run
 merged_so records run tapes events ended made are_ended same_tapes same_events front verdict complete = record {

@@ -2,6 +2,6 @@
 use Rattle.gb_types.specs.Common.{ℕ, nat_eq, List, take, count_by}
 use Rattle.gb_node.specs.declared.tape.TapeEntry.{TapeEntry}
 
--- the entries of a seat among the first ones
+-- the number of entries of a seat among the first ones
 abbrev pub of_seat : List TapeEntry → ℕ → ℕ → ℕ
 of_seat entries n seat = count_by (λ (x : TapeEntry). nat_eq x.seat seat) (take n entries)

@@ -1,4 +1,4 @@
--- The replay of what happened at a node is what the node did.
+-- The replay of the events at a node gives the node's answers.
 use Rattle.gb_types.specs.Common.{◌≡◌, ℕ, zero, suc, ◌+◌, ◌<◌, ◌≤◌, ◌⊎◌, true, false, List, [], ◌∷◌, ◌++◌, length, take, drop, get_or, inl, inr, refl, sym, ap, subst, ◌∙◌, arith, take_more, take-append-drop, Bool, ap₂, map, sum, sum_by, sum_by-cons}
 use Rattle.gb_types.specs.declared.{node.NodeId.NodeId, plan.Plan.Plan}
 use Rattle.gb_node.specs.Common.{Happened, IsTurn, NodeValue, StarvedSays}
@@ -46,7 +46,7 @@ given_at starves answers v w e turn = by (wants_or_not (wants_memory e.answer))
     by (inr fed) = given_so starves v w e e.answer turn fed refl
 
 module _ (starves : StarvedSays) (answers : TurnsAnswer) (plan : Plan) (a : NodeId) (tape : List TapeEntry) where
-  -- the node is as the replay of its past
+  -- the node is the replay of its past
   replay_so : (d : TapeEntry) (i : ℕ) → i ≤ length tape → (v : NodeValue) → NodeComesTo (node_plan plan a) (past_of (take i tape)) v → v ≡ replay plan a (take i tape)
   unfolding NodeComesTo
   replay_so d zero le v comes = comes.1
@@ -71,7 +71,7 @@ replayed_so starves answers plan run v a later tape comes within begins =
     let there = before_later (node_plan plan a) later (past_of tape) (node_at v a) whole in
     given_so_at starves answers plan a tape there.0 there.1
 
--- Nothing is left of good tapes.
+-- All entries of good tapes are merged.
 
 fed_sizes : (tapes : List (List TapeEntry)) → sum_by length (fed_tapes tapes) ≡ sum (map fed_count tapes)
 fed_sizes [] = refl

@@ -9,25 +9,25 @@ use Rattle.gb_merge.proofs.ActingLemmas.{turned}
 use Rattle.gb_record_text.specs.Laws.{IsAnswered}
 use Rattle.gb_audit_run.specs.Replayed.{AreReplayedTo, IsGiven, IsUnfed, IsStarvedAt}
 
--- an answer that refuses nothing and is the entry's is the one that is given
+-- if the answer refuses nothing and is the entry's, the entry has the answer of the replay
 pub given_so : StarvedSays → (v w : NodeValue) (e : TapeEntry) (answer : NodeAnswer) → IsTurn v e.event answer w → wants_memory answer ≡ false → answer ≡ e.answer → IsGiven v e
 given_so starves v w e answer turn fed same = inr (ap wants_memory (sym same) ∙ fed, sym same ∙ (turned starves v e.event answer w turn fed).0)
 
--- what is given to an entry that was not refused is the answer that refuses nothing
+-- if the entry has the answer of the replay and was not refused, the answer that refuses nothing is the entry's
 pub same_so : StarvedSays → (v w : NodeValue) (e : TapeEntry) (answer : NodeAnswer) → IsTurn v e.event answer w → wants_memory answer ≡ false → wants_memory e.answer ≡ false → IsGiven v e → answer ≡ e.answer
 same_so starves v w e answer turn fed kept (inl refused) = absurd (let e = sym kept ∙ refused.0 in cc)
 same_so starves v w e answer turn fed kept (inr given) = (turned starves v e.event answer w turn fed).0 ∙ sym given.1
 
--- an entry that was refused is given if its answer is one to its event
+-- an entry that was refused has the answer of the replay if its answer fits its event
 pub refused_so : (v : NodeValue) (e : TapeEntry) → wants_memory e.answer ≡ true → IsGiven v e → IsAnswered e
 refused_so v e refused (inl given) = given.1
 refused_so v e refused (inr given) = absurd (let e = sym given.0 ∙ refused in cc)
 
--- and the node stays as it is
+-- a refusal does not change the node
 pub refused_stays : (v : NodeValue) (e : TapeEntry) → wants_memory e.answer ≡ true → v ≡ after_entry v e
 refused_stays v e refused = sym (ap (λ (b : Bool). if b then v else node_after v e.event) refused)
 
--- the node is then as after the entry
+-- the node is then the one after the entry
 pub after_so : StarvedSays → (v w : NodeValue) (e : TapeEntry) (answer : NodeAnswer) → IsTurn v e.event answer w → wants_memory answer ≡ false → answer ≡ e.answer → w ≡ after_entry v e
 after_so starves v w e answer turn fed same =
     let kept : wants_memory e.answer ≡ false = ap wants_memory (sym same) ∙ fed in
@@ -46,7 +46,7 @@ given_more plan me entries i d v lt is before here k e below =
       | inr other ↦ before k e (omega (arith, below, other))
     ]
 
--- a node that is refused memory was refused it at the next entry
+-- a node that is refused memory here was refused it at the next entry
 pub starved_so : (plan : Plan) (me : NodeId) (entries : List TapeEntry) (i : ℕ) (d : TapeEntry) (v : NodeValue) → i < length entries → v ≡ replay plan me (take i entries) → AreReplayedTo plan me entries i → IsUnfed v (get_or entries i d) → IsStarvedAt plan me entries
 starved_so plan me entries i d v lt is before unfed = record {
   place = i;

@@ -1,4 +1,4 @@
--- Where each record is right, no merged answer is another one than its replay's.
+-- If each record is right, each merged answer is that of its replay.
 use Rattle.gb_types.specs.Common.{◌≡◌, ◌≢◌, ℕ, zero, suc, ◌<◌, ◌≤◌, ◌⊎◌, Bool, true, false, List, [], ◌∷◌, length, take, get_or, slice_get, All, All-head, All-tail, Some, None, inl, inr, refl, sym, ap, subst, ◌∙◌, arith, find, option_map_or, nat_eq, eqb-true, cond, cases_lt, get_or_past}
 use Rattle.std.proofs.lemmas.List.FromFn.{length-map-range_with_len, get_or-map-range_with_len}
 use Rattle.gb_types.specs.declared.{node.NodeId.NodeId, plan.Plan.Plan}
@@ -13,7 +13,7 @@ use Rattle.gb_record_text.specs.declared.reader.Record.{Record}
 use Rattle.gb_audit_run.specs.Audits.{IsRight, entries_of, is_of, tapes_of}
 use Rattle.gb_audit_run.specs.Replayed.{AreReplayed, IsGiven}
 
--- where an entry stands that was not refused
+-- the index of an entry that was not refused
 record StandsFed (tape : List TapeEntry) (place : ℕ) (x : TapeEntry) : Type 0 where
   at : ℕ
   within : at < length tape

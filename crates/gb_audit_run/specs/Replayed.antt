@@ -6,7 +6,7 @@ use Rattle.gb_node.specs.declared.{answer.NodeAnswer.NodeAnswer, tape.TapeEntry.
 use Rattle.gb_merge.specs.Common.{wants_memory, node_answer, replay}
 use Rattle.gb_record_text.specs.Laws.{IsAnswered}
 
--- the entry's answer refuses its event for lack of memory, or is what the node answers that has memory
+-- the entry's answer refuses its event for lack of memory, or is that of a node with memory
 abbrev pub IsGiven : NodeValue → TapeEntry → Type 0
 IsGiven v e = ((wants_memory e.answer ≡ true) × IsAnswered e) ⊎ ((wants_memory e.answer ≡ false) × (e.answer ≡ node_answer v e.event))
 
@@ -14,11 +14,11 @@ IsGiven v e = ((wants_memory e.answer ≡ true) × IsAnswered e) ⊎ ((wants_mem
 abbrev pub AreReplayedTo : Plan → NodeId → List TapeEntry → ℕ → Type 0
 AreReplayedTo plan me entries n = (i : ℕ) (d : TapeEntry) → i < n → IsGiven (replay plan me (take i entries)) (get_or entries i d)
 
--- each entry has
+-- each entry has the answer of the replay
 abbrev pub AreReplayed : Plan → NodeId → List TapeEntry → Type 0
 AreReplayed plan me entries = AreReplayedTo plan me entries (length entries)
 
--- n entries have the answers of the replay, and the next one has not
+-- the first n entries have the answers of the replay, and the next one does not
 pub record IsFirstWrong (plan : Plan) (me : NodeId) (entries : List TapeEntry) (n : ℕ) : Type 0 where
   pub within : n < length entries
   pub before : AreReplayedTo plan me entries n
@@ -32,7 +32,7 @@ pub record IsUnfed (v : NodeValue) (e : TapeEntry) : Type 0 where
   pub wants : wants_memory answer ≡ true
   pub fed : wants_memory e.answer ≡ false
 
--- behind entries that have the answers of the replay, the node refuses the next one's event so
+-- after entries with the answers of the replay, the node refuses the next entry's event for lack of memory, and the entry's answer does not
 pub record IsStarvedAt (plan : Plan) (me : NodeId) (entries : List TapeEntry) : Type 0 where
   pub place : ℕ
   pub within : place < length entries

@@ -1,4 +1,4 @@
-//! The audit of the records of a cluster's nodes: whether what they recorded is one run of the cluster.
+//! The audit of the records of a cluster's nodes: it finds out if the records are of one run of the cluster.
 ghost use Rattle.std.specs.Prelude.{◌≡◌, ◌<◌, ◌↔◌, length, map, sum, true, false, All, IfOk, IfErr, IfSome, IfNone, IsTrue};
 ghost use Rattle.std.specs.List.{range_with_len};
 ghost use Rattle.gb_cluster.specs.Common.{IsClusterPlan};
@@ -31,20 +31,20 @@ use gb_types::memory::put_bytes;
 use gb_types::{OutOfMemory, Plan};
 use std::alloc::Global;
 
-/// How an audit ended.
+/// The verdict of an audit.
 #[derive(Clone, Copy, Debug, PartialEq, Eq)]
 pub enum Verdict {
-    /// All entries of the records that were given are one run of the cluster, but for those that lack of memory refused.
+    /// All entries of the given records are one run of the cluster, except those that were refused for lack of memory.
     Whole,
-    /// The first entries of the records are one run, and behind them some are left. A node has no record that ends, so its part may be
-    /// missing; and no packet came that a node did not send whose record ends.
+    /// The first entries of the records are one run, and some entries behind them are left. A node has no record that ends, so its part may
+    /// be missing. No packet arrived that its sender, whose record ends, did not send.
     Left,
-    /// Entries are left although each node has a record that ends, or a packet came that its sender, whose record ends, did not send. A
+    /// Entries are left although each node has a record that ends, or a packet arrived that its sender, whose record ends, did not send. A
     /// line says which.
     Refused,
 }
 
-/// Why records are not audited. The last line says it too, except of `NoRecords`.
+/// The reason why records are not audited. The last line says it too, except for `NoRecords`.
 #[derive(Clone, Copy, Debug, PartialEq, Eq)]
 pub enum Unaudited {
     /// There is no record.
@@ -53,15 +53,15 @@ pub enum Unaudited {
     Unread,
     /// Two records are of one node, or of two clusters.
     Unlike,
-    /// No cluster may be started with what the first lines say.
+    /// No cluster may be started with the values of the first lines.
     Unplanned,
-    /// An answer is not the one that its node returns when it is replayed alone.
+    /// An answer is not that of its node replayed alone.
     Differs,
     /// The counts of a seat's entries have a gap.
     Gap,
 }
 
-/// A file: its name, and what stands in it.
+/// A file: its name and its text.
 #[derive(Clone, Copy)]
 pub struct Source<'a> {
     pub name: &'a str,
@@ -73,7 +73,7 @@ pub struct Source<'a> {
 pub struct Audited {
     /// The plan of the cluster that the records are of.
     pub plan: Plan,
-    /// The tapes of the records, by the nodes' numbers. It is empty for a node without a record.
+    /// The tapes of the records, by the nodes' numbers. A node without a record has an empty tape.
     pub tapes: Vec<Tape>,
     /// The events of the run.
     pub events: Vec<Event>,
@@ -82,7 +82,7 @@ pub struct Audited {
     pub is_complete: bool,
 }
 
-// Returns true if a record may be of another node of the cluster that these are of.
+// Returns true if a record may be of another node of the same cluster as `records`.
 #[tactic(auto, using(crate::proofs::AuditLemmas::none_yet, crate::proofs::AuditLemmas::one_more, crate::proofs::AuditLemmas::all_seen, crate::proofs::AuditLemmas::each_seen))]
 fn is_one_more(records: &[Record], record: &Record) -> bool
     ensures { IsTrue result ↔ All (λ r. AreOfOne r.head record.now.head) records.now }
@@ -95,7 +95,7 @@ fn is_one_more(records: &[Record], record: &Record) -> bool
     true
 }
 
-// Returns how many entries were not refused for lack of memory.
+// Returns the number of entries that were not refused for lack of memory.
 fn count_fed(entries: &[TapeEntry]) -> usize
     ensures { result ≡ fed_count entries.now }
 {
@@ -108,7 +108,7 @@ fn count_fed(entries: &[TapeEntry]) -> usize
     count
 }
 
-// Appends the line of a record that was read, and one more if lack of memory refused some of its entries.
+// Appends the line of a record that was read, and one more if some of its entries were refused for lack of memory.
 fn put_record(out: &mut Vec<u8>, name: &str, record: &Record) -> Result<(), OutOfMemory> {
     let torn = if record.is_whole {
         None
@@ -124,7 +124,7 @@ fn put_record(out: &mut Vec<u8>, name: &str, record: &Record) -> Result<(), OutO
     Ok(())
 }
 
-// Reads the records. `Err` if a file is no record, or not one of the first record's cluster; the last line says so.
+// Reads the records. `Err` if a file is no record, or is not one of the first record's cluster; the last line says so.
 fn read_all(
     alloc: Global,
     sources: &[Source<'_>],
@@ -165,7 +165,7 @@ fn heads_of(alloc: Global, records: &[Record]) -> Result<Vec<RecordHead>, OutOfM
     Ok(heads)
 }
 
-// Returns the name of the file at a place.
+// Returns the name of the file at index `place`.
 fn name_at<'a>(sources: &[Source<'a>], place: usize) -> &'a str {
     match sources.get(place) {
         Some(source) => source.name,
@@ -173,8 +173,8 @@ fn name_at<'a>(sources: &[Source<'a>], place: usize) -> &'a str {
     }
 }
 
-// Returns true if each answer of each record is the one that its node returns when it is replayed alone, or refuses for lack of memory.
-// Otherwise the last line says which one is not.
+// Returns true if each answer of each record is that of its node replayed alone, or refuses for lack of memory. Otherwise the last line
+// says which answer is not.
 fn are_replayed(
     alloc: Global,
     plan: &Plan,
@@ -203,14 +203,14 @@ fn are_replayed(
     Ok(true)
 }
 
-// An entry whose count is not the next one of its seat: the place of its record, and its own place there.
+// An entry whose count is not the next one of its seat: the index of its record, and its own index there.
 #[derive(Clone, Copy)]
 struct Gap {
     file: usize,
     entry: usize,
 }
 
-// Returns the first gap in the counts of the records' entries. `None` if they have none.
+// Returns the first gap in the counts of the records' entries. `None` if there is no gap.
 fn find_gap(alloc: Global, records: &[Record]) -> Result<Option<Gap>, OutOfMemory>
     ensures none { IfOk result (λ found. IfNone found (All (λ r. AreCounted r.entries.items) records.now)) }
     ensures some { IfOk result (λ found. IfSome found (λ gap. HasGapAt records.now gap.file gap.entry)) }
@@ -240,7 +240,7 @@ fn is_ended(records: &[Record], node: u8) -> bool
     records.iter().any(|record| record.head.node.number == node && record.is_whole)
 }
 
-// Returns whose records end, by the nodes' numbers.
+// Returns for each node, by number, true if its record ends.
 fn ended_of(alloc: Global, nodes: u8, records: &[Record]) -> Result<Vec<bool>, OutOfMemory>
     ensures { IfOk result (λ ended. ended.items ≡ map (is_ended records.now) (range_with_len 0 nodes)) }
 {
@@ -251,7 +251,7 @@ fn ended_of(alloc: Global, nodes: u8, records: &[Record]) -> Result<Vec<bool>, O
     Ok(ended)
 }
 
-// Returns true if all are true.
+// Returns true if all elements are true.
 fn are_true(all: &[bool]) -> bool
     ensures { IsTrue result ↔ All (λ is. is ≡ true) all.now }
 {
@@ -295,7 +295,7 @@ fn have_entries(tapes: &[Tape], count: usize) -> bool
     left == 0
 }
 
-// Merges the first entries of the tapes, each of which is its replay's. `Err` if memory runs out.
+// Merges the first entries of the tapes, whose answers are those of their replays. `Err` if memory runs out.
 fn merge_all(alloc: Global, plan: &Plan, tapes: &[Tape]) -> Result<Vec<Event>, OutOfMemory>
     requires plan { IsClusterPlan plan.now }
     requires one_each { length tapes.now ≡ plan.now.nodes }
@@ -311,7 +311,7 @@ fn merge_all(alloc: Global, plan: &Plan, tapes: &[Tape]) -> Result<Vec<Event>, O
     }
 }
 
-// Says what is left of each record behind the entries that are in the run of `events`. `names` are the names of the records.
+// Appends a line for each record that has entries behind those in the run of `events`. `names` are the names of the records.
 fn tell_left(
     alloc: Global,
     plan: &Plan,
@@ -336,8 +336,8 @@ fn tell_left(
     Ok(())
 }
 
-// Returns the verdict on tapes of which these events were merged. If they are not all, lines say what is left or which packet nobody
-// sent. `ended` says whose records end, and `names` are the names of the records.
+// Returns the verdict on tapes from which these events were merged. If they are not all entries, appends lines that say which entries are
+// left or which packet nobody sent. `ended` is true for each node whose record ends, and `names` are the names of the records.
 fn verdict_of(
     alloc: Global,
     plan: &Plan,
@@ -405,7 +405,7 @@ fn read_cluster(
     Ok(Ok(Recorded { records, plan }))
 }
 
-// Merges the records of a cluster, each of which is what its node does alone, and returns the verdict. `Err` if memory runs out.
+// Merges the records of a cluster, whose answers are those of their nodes alone, and returns the verdict. `Err` if memory runs out.
 fn merged(
     alloc: Global,
     sources: &[Source<'_>],
@@ -437,8 +437,8 @@ fn merged(
 }
 
 /// Audits the records of a cluster. `sources` are the files that they were read from, in the same order. It appends to `out` a line for
-/// each finding, and passes over the entries that lack of memory refused, which changed nothing. Returns the part of the records that is
-/// one run of the cluster, with a verdict; or why the records are not audited. `Err` if memory runs out.
+/// each finding, and skips the entries that were refused for lack of memory, which changed nothing. Returns the part of the records that is
+/// one run of the cluster, with a verdict; or the reason why the records are not audited. `Err` if memory runs out.
 pub fn audit_cluster(
     alloc: Global,
     sources: &[Source<'_>],
@@ -460,8 +460,8 @@ pub fn audit_cluster(
     Ok(Ok(merged(alloc, sources, recorded, out)?))
 }
 
-/// Audits the records in `sources`, one for each node and in any order, under the cluster's keys, as `audit_cluster` does once they are
-/// read. `Err` if memory runs out.
+/// Audits the records in `sources`, one for each node and in any order, under the cluster's keys: reads them, and then does what
+/// `audit_cluster` does. `Err` if memory runs out.
 pub fn audit(
     alloc: Global,
     sources: &[Source<'_>],

@@ -1,4 +1,4 @@
-//! The cluster that records speak of: whether records may be of one cluster, and the plan of that cluster.
+//! The cluster of records: the test if records may be of one cluster, and the plan of that cluster.
 ghost use Rattle.std.specs.Prelude.{◌≡◌, ◌≢◌, ◌<◌, ◌≤◌, ◌⊎◌, ◌↔◌, ℕ, [], length, All, AllPairs, IfSome, IfNone, IsTrue};
 ghost use Rattle.gb_types.specs.Common.{limits_of, version_at};
 ghost use Rattle.gb_types.specs.declared.limits.TheConstants.{NODES as MOST};
@@ -19,7 +19,7 @@ pub struct ClusterKeys {
     pub admin: [u8; 32],
 }
 
-// Returns true if the version that each node sends can name them all.
+// Returns true if the version that each node sends can name all nodes.
 fn is_named(plan: &Plan) -> bool
     requires { plan.now.nodes ≤ MOST }
     ensures { IsTrue result ↔ ((a : ℕ) → a < plan.now.nodes → plan.now.nodes ≤ (limits_of (version_at plan.now.versions a)).nodes) }
@@ -57,7 +57,7 @@ pub fn are_of_one(first: &RecordHead, other: &RecordHead) -> bool
         && first.node.number != other.node.number
 }
 
-// Returns the version that each node sends, by the nodes' numbers: what its record says. A node without a record sends this one.
+// Returns the version that each node sends, by the nodes' numbers: that of its record, or `other` if it has no record.
 fn versions_of(heads: &[RecordHead], other: Version) -> [Version; NODES]
     requires one { AllPairs AreOfOne heads.now }
     ensures records { All (λ h. version_at result h.node.number ≡ h.version) heads.now }
@@ -70,7 +70,7 @@ fn versions_of(heads: &[RecordHead], other: Version) -> [Version; NODES]
     versions
 }
 
-// Returns true if each node has a number below this.
+// Returns true if each node has a number below `nodes`.
 #[tactic(auto, using(crate::proofs::AuditLemmas::none_yet, crate::proofs::AuditLemmas::one_more, crate::proofs::AuditLemmas::all_seen, crate::proofs::AuditLemmas::each_seen))]
 fn are_below(nodes: u8, heads: &[RecordHead]) -> bool
     ensures { IsTrue result ↔ All (λ h. h.node.number < nodes) heads.now }
@@ -83,9 +83,9 @@ fn are_below(nodes: u8, heads: &[RecordHead]) -> bool
     true
 }
 
-/// Returns the plan of the cluster that the records with the first lines `heads` are of, under `keys`. A node without a record is taken
-/// to send packets of the version of the first record. `None` if `heads` is empty, if a record is of a node beyond the cluster's number
-/// of nodes, or if no cluster may be started with that plan.
+/// Returns the plan of the cluster of the records with the first lines `heads`, under `keys`. A node without a record is assumed to send
+/// packets of the version of the first record. `None` if `heads` is empty, if a record is of a node beyond the cluster's number of nodes,
+/// or if no cluster may be started with that plan.
 pub fn plan_of(heads: &[RecordHead], keys: ClusterKeys) -> Option<Plan>
     requires one { AllPairs AreOfOne heads.now }
     ensures plan { IfSome result IsClusterPlan }

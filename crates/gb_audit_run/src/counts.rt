@@ -1,5 +1,4 @@
-//! The counts of a record's entries. A seat counts its events at a node from 0 on, so a count that is left out tells that an entry
-//! is missing.
+//! The counts of a record's entries. A seat counts its events at a node from 0, so a count that is left out shows that an entry is missing.
 ghost use Rattle.std.specs.Prelude.{◌≡◌, ℕ, ◌+◌, ◌<◌, ◌^◌, nat_eq, cond, IfOk, IfSome, IfNone, OnOk};
 ghost use Rattle.gb_audit_run.specs.Counts.{AreCounted, IsFirstGap, noted};
 
@@ -8,7 +7,7 @@ use gb_types::OutOfMemory;
 use indexmap::IndexMap;
 use std::alloc::Global;
 
-// Returns the number that is noted for a seat, and 0 if none is.
+// Returns the number that is recorded for a seat, or 0 if there is none.
 fn number_of(counts: &IndexMap<u32, u64>, seat: u32) -> u64
     ensures { result ≡ noted counts.now seat }
 {
@@ -18,7 +17,7 @@ fn number_of(counts: &IndexMap<u32, u64>, seat: u32) -> u64
     }
 }
 
-// Notes a number for a seat.
+// Records a number for a seat.
 fn note(counts: &mut IndexMap<u32, u64>, seat: u32, count: u64) -> Result<(), OutOfMemory>
     ensures { OnOk result ((s : ℕ) → noted counts.new s ≡ cond (nat_eq seat s) count (noted counts.old s)) }
 {

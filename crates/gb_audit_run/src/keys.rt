@@ -1,4 +1,4 @@
-//! Whether a record was made under other keys than those that an audit has.
+//! The test if a record was made under other keys than those of an audit.
 use gb_cap::token::admits;
 use gb_cap::{HmacKey, Need};
 use gb_frame::reading::decode;
@@ -15,7 +15,7 @@ fn first_packet(entries: &[TapeEntry]) -> Option<&[u8]> {
     None
 }
 
-// Returns true if the entry is an administrator's request that was admitted, and its token is none under the plan's key.
+// Returns true if the entry is an administrator's request that was admitted, and its token is not one under the plan's key.
 fn has_other_token(plan: &Plan, entry: &TapeEntry) -> bool {
     let NodeEvent::Request(request) = &entry.event else {
         return false;
@@ -29,9 +29,9 @@ fn has_other_token(plan: &Plan, entry: &TapeEntry) -> bool {
     }
 }
 
-/// Returns true if a record is not one under the keys in `plan`: the first packet that its node sent is none under the cluster's key; or
-/// the entry at `wrong`, the first whose answer is another one under these keys, is an administrator's request that was admitted, and its
-/// token is none under the administrator's key.
+/// Returns true if a record was not made under the keys in `plan`. That is so if the first packet that its node sent is not one under the
+/// cluster's key. It is also so if the entry at `wrong`, the first whose answer differs under these keys, is an administrator's request
+/// that was admitted with a token that is not one under the administrator's key.
 pub fn has_other_keys(plan: &Plan, entries: &[TapeEntry], wrong: usize) -> bool {
     if let Some(bytes) = first_packet(entries)
         && decode(bytes, &HmacKey::new(&plan.cluster_key)).is_err()

@@ -5,7 +5,7 @@ use gb_merge::laws::closed_tapes_merge_whole;
 use gb_node::past::packets_say;
 use gb_record_text::laws::turns_answer;
 
-/// A law: an audit finds each answer right in a record that is a beginning of what happened at its node in a run.
+/// A law: an audit finds each answer right in a record that is a beginning of the events at its node in a run.
 pub fn beginnings_are_replayed()
     ensures { BeginningsAreReplayed }
 {
@@ -13,9 +13,9 @@ pub fn beginnings_are_replayed()
     turns_answer();
 }
 
-/// A law: of records that are beginnings of what happened at their nodes in one run the verdict is `Whole`, wherever each record ends, if
-/// each packet was written where it was sent before it was written where it came. That holds where a node writes an entry before its packet
-/// leaves. Entries that lack of memory refused do not count.
+/// A law: the verdict is `Whole` on records that are beginnings of the events at their nodes in one run, wherever each record ends, if each
+/// packet was written at its sender before it was written at its receiver. That holds if a node writes an entry before its packet leaves.
+/// Entries that were refused for lack of memory do not count.
 pub fn good_tapes_are_whole()
     ensures { GoodTapesAreWhole }
 {

@@ -1,4 +1,4 @@
-//! What is left of the nodes' records behind the entries that are in the merged run.
+//! The entries of the nodes' records behind those that are in the merged run.
 use crate::replay::is_refused;
 use gb_cap::HmacKey;
 use gb_cluster::Event;
@@ -23,7 +23,7 @@ fn has_sent(entry: &TapeEntry) -> bool {
     matches!(&entry.answer, NodeAnswer::Sent(Sent::Packet(_)))
 }
 
-// Returns the node at which an event of the run happened. `sent` are the destinations of the packets that were sent before it.
+// Returns the node of an event of the run. `sent` are the destinations of the packets that were sent before it.
 fn place_of(event: &Event, sent: &[NodeId]) -> Option<NodeId> {
     match event {
         Event::At(node, _) => Some(*node),
@@ -34,7 +34,7 @@ fn place_of(event: &Event, sent: &[NodeId]) -> Option<NodeId> {
     }
 }
 
-// Returns the place of the first entry from `place` on that was not refused for lack of memory; the number of entries if there is none.
+// Returns the index of the first entry from `place` on that was not refused for lack of memory, or the number of entries if there is none.
 fn next_fed(entries: &[TapeEntry], place: usize) -> usize {
     for next in place..entries.len() {
         if !is_refused(&entries[next].answer) {
@@ -44,9 +44,9 @@ fn next_fed(entries: &[TapeEntry], place: usize) -> usize {
     entries.len()
 }
 
-/// Returns, by the nodes' numbers, the place in each node's record of the first entry that is not in the run of `events`, which was merged
-/// from `tapes`, nor refused for lack of memory. It is the number of entries if there is none. Takes memory for a list of the packets
-/// sent. `Err` if memory runs out.
+/// Returns, by the nodes' numbers, the index in each node's record of the first entry that is not in the run of `events`, which was merged
+/// from `tapes`, and was not refused for lack of memory. It is the number of entries if there is no such entry. Takes memory for a list of
+/// the packets sent. `Err` if memory runs out.
 pub fn merged_counts(
     alloc: Global,
     tapes: &[Tape],
@@ -78,8 +78,8 @@ pub fn merged_counts(
     Ok(counts)
 }
 
-/// Returns the sender of the packet that the event of `entry` took, as the packet's head names it. `None` if the event took no packet, or
-/// took bytes that are no packet under the cluster's key in `plan`.
+/// Returns the sender of the packet in the event of `entry`, as the packet's head names it. `None` if the event is no packet, or its bytes
+/// are no packet under the cluster's key in `plan`.
 pub fn sender_of(plan: &Plan, entry: &TapeEntry) -> Option<NodeId> {
     let NodeEvent::Packet(bytes) = &entry.event else {
         return None;

@@ -1,4 +1,4 @@
-//! Audits records: finds out if what the nodes of a cluster recorded is one run of the cluster. Read `audit::audit`.
+//! Audits records: finds out if the records of a cluster's nodes are of one run of the cluster. Read `audit::audit`.
 #![tactic(auto)]
 
 pub mod audit;

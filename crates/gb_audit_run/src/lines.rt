@@ -71,8 +71,8 @@ pub fn put_fault(
     put_bytes(out, b"\n")
 }
 
-/// Appends the line `passed over FILE entries R`: lack of memory refused R entries of the record `name`, which are in no run. `Err` if memory
-/// runs out; then `out` may have a part of the line.
+/// Appends the line `passed over FILE entries R`: R entries of the record `name` were refused for lack of memory, and are in no run. `Err`
+/// if memory runs out; then `out` may have a part of the line.
 pub fn put_passed(out: &mut Vec<u8>, name: &str, entries: usize) -> Result<(), OutOfMemory> {
     put_bytes(out, b"passed over ")?;
     put_bytes(out, name.as_bytes())?;
@@ -80,7 +80,7 @@ pub fn put_passed(out: &mut Vec<u8>, name: &str, entries: usize) -> Result<(), O
     put_bytes(out, b"\n")
 }
 
-/// Appends the line `other keys FILE line L`: the record `name` is not one under these keys, and its entry at line L shows it. `place` is the
+/// Appends the line `other keys FILE line L`: the record `name` was not made under these keys, as its entry at line L shows. `place` is the
 /// number of entries before it, so L is `place` + 2. `Err` if memory runs out; then `out` may have a part of the line.
 pub fn put_other_keys(out: &mut Vec<u8>, name: &str, place: usize) -> Result<(), OutOfMemory> {
     put_bytes(out, b"other keys ")?;
@@ -89,8 +89,8 @@ pub fn put_other_keys(out: &mut Vec<u8>, name: &str, place: usize) -> Result<(),
     put_bytes(out, b"\n")
 }
 
-/// Appends the line `gap FILE line L`: the count of the entry in line L of the record `name` is not the next of its seat. `place` is the number
-/// of entries before it, so L is `place` + 2. `Err` if memory runs out; then `out` may have a part of the line.
+/// Appends the line `gap FILE line L`: the count of the entry in line L of the record `name` is not the next count of its seat. `place` is
+/// the number of entries before it, so L is `place` + 2. `Err` if memory runs out; then `out` may have a part of the line.
 pub fn put_gap(out: &mut Vec<u8>, name: &str, place: usize) -> Result<(), OutOfMemory> {
     put_bytes(out, b"gap ")?;
     put_bytes(out, name.as_bytes())?;
@@ -125,9 +125,9 @@ pub fn put_merged(out: &mut Vec<u8>, events: usize) -> Result<(), OutOfMemory> {
     put_bytes(out, b" events\n")
 }
 
-/// Appends the last line of an audit whose verdict is `Whole`: `whole of the records given, complete` if `is_complete`, each node of the
-/// cluster having a record that ends, and otherwise `whole of the records given, partial`. `Err` if memory runs out; then `out` may have a
-/// part of the line.
+/// Appends the last line of an audit whose verdict is `Whole`: `whole of the records given, complete` if `is_complete`, that is if each
+/// node of the cluster has a record that ends, otherwise `whole of the records given, partial`. `Err` if memory runs out; then `out` may
+/// have a part of the line.
 pub fn put_whole(
     out: &mut Vec<u8>,
     verdict: Verdict,
@@ -147,7 +147,7 @@ pub fn put_whole(
     )
 }
 
-// Returns the number of the line of the entry before which `place` entries stand.
+// Returns the number of the line of the entry with `place` entries before it.
 fn line_of(place: usize) -> u64 {
     (place as u64).saturating_add(2)
 }

@@ -26,7 +26,7 @@ pub(crate) fn is_refused(answer: &NodeAnswer) -> bool
     }
 }
 
-// Returns true if the answer is one to the event.
+// Returns true if the answer is of the kind that the event has.
 fn answers(event: &NodeEvent, answer: &NodeAnswer) -> bool
     ensures { IsTrue result ↔ Answers event.now answer.now }
 {
@@ -42,8 +42,9 @@ fn answers(event: &NodeEvent, answer: &NodeAnswer) -> bool
     }
 }
 
-// Takes an entry's event, except if the entry's answer refuses it for lack of memory: then the node stays as it is. Returns true if the
-// answer is the entry's, or the entry's refuses so. `Err` if the node is refused memory here.
+// Executes an entry's event in the node, unless the entry's answer refuses it for lack of memory: then the node does not change. Returns
+// true if the answer is the entry's, or if the entry's answer is such a refusal of the event's kind. `Err` if the node is refused memory
+// here.
 fn is_right(node: &mut Node, entry: &TapeEntry) -> Result<bool, OutOfMemory>
     ensures given { IfOk result (λ right. IsTrue right ↔ IsGiven node.old entry.now) }
     ensures after { IfOk result (λ right. IsTrue right → node.new ≡ after_entry node.old entry.now) }
@@ -62,9 +63,9 @@ fn is_right(node: &mut Node, entry: &TapeEntry) -> Result<bool, OutOfMemory>
     Ok(answer.is(&entry.answer))
 }
 
-/// Starts a new node `me` of a cluster of `plan`, gives it the events of `entries` in order, and compares each answer with the entry's.
-/// It passes over the entries that were refused for lack of memory, which changed nothing. Takes memory for the node. Returns the index
-/// of the first entry whose answer is another one, from 0. `None` if there is no such entry. `Err` if the node is refused memory here.
+/// Starts a new node `me` of a cluster of `plan`, executes the events of `entries` in it in order, and compares each answer with the
+/// entry's. It skips the entries that were refused for lack of memory, which changed nothing. Takes memory for the node. Returns the index,
+/// from 0, of the first entry whose answer differs. `None` if there is no such entry. `Err` if the node is refused memory here.
 pub fn first_wrong(
     alloc: Global,
     plan: &Plan,

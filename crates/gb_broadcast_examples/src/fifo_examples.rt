@@ -14,7 +14,7 @@ use std::alloc::Global;
 use std::process::Abort;
 use std::test::Fail;
 
-/// Messages by place, those of node 0 out of order.
+/// Messages at their places, those of node 0 out of order.
 const MESSAGES: &[(u8, u16)] = &[(0, 3), (0, 2), (2, 1), (0, 1), (0, 4)];
 
 /// Compares the effects of the last of a case's calls of a fifo over best-effort broadcast.
@@ -45,7 +45,7 @@ const CALLS: &[Event] = &[
     Came(0, 4),
 ];
 
-/// How many of the calls are made, and what comes up at the last of them.
+/// The number of calls that are made, and the messages that come up at the last of them.
 const LATE: &[(usize, &[(u8, u16)])] = &[
     (1, &[]),
     (2, &[]),
@@ -55,8 +55,8 @@ const LATE: &[(usize, &[(u8, u16)])] = &[
     (6, &[(0, 4)]),
 ];
 
-/// A gap that is filled late: the third and the second message wait for the first, and come up with it, each once. Another origin's
-/// message in between does not wait, and a copy of what came up changes nothing.
+/// A gap is filled late: the third and the second message wait for the first, and come up with it, each once. A message of another origin
+/// in between does not wait, and a copy of a message that came up changes nothing.
 #[test]
 fn a_gap_is_filled_late(rt: HostRuntime) -> Result<(), Fail> {
     for (count, ups) in LATE {
@@ -86,7 +86,7 @@ const OVER_ALL_ACKED: &[Case] = &[
     ),
 ];
 
-/// The order stands over any layer: a fifo sends what the layer below sends.
+/// The order works over any layer: a fifo sends what the layer below it sends.
 #[test]
 fn a_fifo_stands_over_a_relay(rt: HostRuntime) -> Result<(), Fail> {
     for case in OVER_EAGER {
@@ -98,7 +98,7 @@ fn a_fifo_stands_over_a_relay(rt: HostRuntime) -> Result<(), Fail> {
     Ok(())
 }
 
-/// Returns the index's greatest number of an origin, and the place of its message after `count`.
+/// Returns the greatest number of an origin's messages in the index, and the place of the message after `count`.
 fn last_and_next(index: &Index, origin: NodeId, count: u16) -> (u16, Option<u16>) {
     (index.last(origin), index.find_next(origin, count))
 }
@@ -119,7 +119,7 @@ fn an_index_finds_the_next_message(rt: HostRuntime) -> Result<(), Fail> {
     Ok(())
 }
 
-/// An index takes the memory for as many messages as it has places for, and no more. Messages are pushed into it.
+/// An index takes memory for a number of messages, has that number of places, and no more. Messages are pushed into it.
 #[test]
 fn an_index_pushes_into_its_memory(rt: HostRuntime) -> Result<(), Fail> {
     let mut index = Index::new(rt.alloc());

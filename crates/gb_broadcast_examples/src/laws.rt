@@ -17,13 +17,13 @@ fn hold<L: Broadcast>() {
     laws::integrity::<L>();
 }
 
-/// Calls the laws of a relay by a rule.
+/// Calls the laws of a relay that has this rule.
 fn relay_holds<R: Rule>() {
     gb_layer::modules::relays::<R>();
     hold::<Relay<Beb, R>>();
 }
 
-/// Calls the laws that say which layers and which rules are which module of broadcast.
+/// Calls the laws that say which module of broadcast each layer and each rule is.
 fn modules_hold() {
     gb_layer::rule::noticed_and_holders();
     gb_layer::modules::best_effort();
@@ -33,7 +33,7 @@ fn modules_hold() {
     gb_uniform::modules::majority_ack();
 }
 
-/// The laws hold of each layer.
+/// The laws hold for each layer.
 #[test]
 fn each_layer_is_lawful(_rt: HostRuntime) -> Result<(), Fail> {
     modules_hold();

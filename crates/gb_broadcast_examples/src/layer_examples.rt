@@ -1,4 +1,4 @@
-//! The worked examples of gb_layer, run over places and sinks: node 1 of the members 0, 1 and 2. A relay hands a message up as received
+//! The worked examples of gb_layer, run over places and sinks: node 1 of the members 0, 1 and 2. A relay passes a message up as received
 //! from its origin.
 ghost use Rattle.std.specs.Prelude.{List};
 ghost use Rattle.gb_types.specs.declared.message.MsgId.{MsgId};
@@ -22,8 +22,8 @@ pub const OTHER: NodeId = NodeId { number: 2 };
 
 pub const MEMBERS: [NodeId; 3] = [ORIGIN, ME, OTHER];
 
-/// What a layer is told, each message by its place and each node by its number: a message is said, it came from a node, or a node was
-/// noticed.
+/// A call of a layer, in which a message is given by its place and a node by its number: a message is said, it came from a node, or a node
+/// was noticed.
 #[derive(Clone, Copy)]
 pub enum Event {
     Say(u16),
@@ -31,7 +31,8 @@ pub enum Event {
     Notice(u8),
 }
 
-/// Messages by origin and number, what a layer is told of them, and what it then sends and hands up: places, and nodes with places.
+/// Messages by origin and number, the calls of a layer, and what the layer sends and passes up at the last call: places, and nodes with
+/// places.
 pub type Case = (
     &'static [(u8, u16)],
     &'static [Event],
@@ -39,7 +40,7 @@ pub type Case = (
     &'static [(u8, u16)],
 );
 
-/// Returns the call that tells a layer of the event.
+/// Returns the layer's call for the event.
 fn call_of(event: Event) -> PlacedCall {
     match event {
         Event::Say(place) => PlacedCall::Say(place),
@@ -48,7 +49,7 @@ fn call_of(event: Event) -> PlacedCall {
     }
 }
 
-/// Makes these calls, and keeps the effects of the last one alone. Returns false if a call names a place too early.
+/// Makes these calls, and keeps the effects of the last one only. Returns false if a call names a place too early, and true otherwise.
 fn last_effects<L: Bounded>(
     layer: &mut L,
     index: &Index,
@@ -79,7 +80,7 @@ pub fn index_of(alloc: Global, messages: &[(u8, u16)]) -> Result<Index, OutOfMem
     Ok(index)
 }
 
-/// Returns true if these come up, each told by its node and its place.
+/// Returns whether exactly these came up, each given by its node and its place.
 fn come_up(ups: &[PlacedUp], told: &[(u8, u16)]) -> bool {
     for (up, (via, place)) in ups.iter().zip(told) {
         if up.via != node(*via) || up.place != *place {
@@ -89,7 +90,7 @@ fn come_up(ups: &[PlacedUp], told: &[(u8, u16)]) -> bool {
     ups.len() == told.len()
 }
 
-/// Compares the effects of the last of a case's calls.
+/// Compares the effects of the last of a case's calls with those of the case.
 pub fn compare<L: Bounded>(
     rt: &impl Abort,
     alloc: Global,
@@ -126,16 +127,16 @@ fn compare_relay<R: Rule + Drop>(
     compare(rt, alloc, &mut layer, case)
 }
 
-/// The first message of node 0.
+/// The list of the first message of node 0.
 const FIRST: &[(u8, u16)] = &[(0, 1)];
 
-/// The first message of node 1.
+/// The list of the first message of node 1, which is this node's own.
 pub const OWN: &[(u8, u16)] = &[(1, 1)];
 
 /// Two messages of node 0.
 const BOTH: &[(u8, u16)] = &[(0, 1), (0, 2)];
 
-/// The same with the second one first.
+/// The same two messages, with the second one first.
 pub const TURNED: &[(u8, u16)] = &[(0, 2), (0, 1)];
 
 const DIRECT: &[Case] = &[
@@ -215,7 +216,7 @@ fn a_notice_frees_in_the_order_of_first_mention(rt: HostRuntime) -> Result<(), F
     Ok(())
 }
 
-/// A place is not told before those in front of it.
+/// A call may not name a place before the places below it were named.
 #[test]
 fn a_place_is_told_after_those_before_it(rt: HostRuntime) -> Result<(), Fail> {
     let alloc = rt.alloc();

@@ -1,4 +1,4 @@
-//! The lowest layer, and the plain program on a history worked out by hand.
+//! The lowest layer, and the plain program on a history that is worked out by hand.
 use crate::names::{FIRST, ME, MEMBERS, ORIGIN, OTHER, OWN, SECOND, are_messages};
 use crate::placed::{Outcome, effects};
 use gb_layer::{Beb, Call, Layer, Up, plain};
@@ -7,14 +7,14 @@ use std::alloc::Global;
 use std::process::Abort;
 use std::test::Fail;
 
-/// An own message, another node's and a crash.
+/// The calls: this node says a message, another node's message comes, and a node crashes.
 const CALLS: [Call; 3] = [
     Call::Say(OWN),
     Call::Came(OTHER, FIRST),
     Call::Notice(ORIGIN),
 ];
 
-/// Compares what a call sent and what came up.
+/// Compares the messages that a call sent, and those that came up, with the expected ones.
 fn compare_call(rt: &impl Abort, out: &Outcome, sends: &[MsgId], ups: &[Up]) {
     assert!(rt; out.sends.as_slice() == sends);
     assert!(rt; out.ups.as_slice() == ups);
@@ -62,7 +62,7 @@ const PLAIN: &[Plain] = &[
     (Module::Majority, BOTH, SECOND_ALONE),
 ];
 
-/// Returns true if the plain program computes this log and these broadcasts for the history.
+/// Returns whether the plain program computes this log and these broadcasts for the history.
 fn has_plain(alloc: Global, case: &Plain) -> Result<bool, OutOfMemory> {
     let (module, log, broadcasts) = *case;
     let found = plain::log(alloc, module, ME, &MEMBERS, &HISTORY)?;
@@ -70,8 +70,8 @@ fn has_plain(alloc: Global, case: &Plain) -> Result<bool, OutOfMemory> {
     Ok(are_messages(&found, log) && are_messages(&sent, broadcasts))
 }
 
-/// The log of a history and the broadcasts of its last call, for each base, worked out by hand from the book's
-/// algorithms: a message of a node that was noticed is relayed, and its second one comes from a relay.
+/// The log of a history and the broadcasts of its last call, for each base, worked out by hand from the algorithms. A message of a node
+/// that was noticed is relayed, and its second one comes from a relay.
 #[test]
 fn plain_answers_are_those_of_the_algorithms(rt: HostRuntime) -> Result<(), Fail> {
     for case in PLAIN {

@@ -1,5 +1,5 @@
-//! Worked uses of the broadcasts and their layers, as tests: each stack beside the plain program of its kind, and lists
-//! worked out by hand. This crate has tests only.
+//! Worked uses of the broadcasts and their layers, as tests: each stack is compared with the plain program of its kind, and layers with
+//! lists that are worked out by hand. This crate has tests only.
 #![tactic(auto)]
 
 #[cfg(test)]

@@ -1,4 +1,4 @@
-//! Nodes and messages that the tests speak of.
+//! Nodes and messages that the tests name.
 use gb_types::{MsgId, NodeId, NodeSet};
 
 /// The node with the greatest number that is allowed.
@@ -31,7 +31,7 @@ pub fn set(nodes: &[NodeId]) -> NodeSet {
     found
 }
 
-/// Returns the node with this number, below 32.
+/// Returns the node with this number, which is below 32.
 pub fn node(number: u8) -> NodeId {
     NodeId::new(number % 32)
 }
@@ -44,7 +44,7 @@ pub fn message(origin: u8, seq: u16) -> MsgId {
     }
 }
 
-/// Returns true if these are the messages, each told by its origin and its number.
+/// Returns whether these are the messages, each given by its origin and its number.
 pub fn are_messages(found: &[MsgId], told: &[(u8, u16)]) -> bool {
     for (m, (origin, seq)) in found.iter().zip(told) {
         if *m != message(*origin, *seq) {

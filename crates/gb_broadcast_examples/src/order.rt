@@ -1,4 +1,4 @@
-//! A fifo over other layers than those of a stack, and the plain order on lists worked out by hand.
+//! A fifo over layers that no stack has, and the plain order on lists that are worked out by hand.
 ghost use Rattle.std.specs.Prelude.{List};
 ghost use Rattle.gb_types.specs.declared.message.MsgId.{MsgId};
 
@@ -18,7 +18,7 @@ const ME: u8 = 1;
 
 const OTHER: u8 = 31;
 
-/// Messages, by origin and number.
+/// Returns the list of these messages, given by origin and number.
 fn listed(alloc: Global, told: &[(u8, u16)]) -> Result<Vec<MsgId>, OutOfMemory> {
     let mut found = Vec::new(alloc);
     for (origin, seq) in told {
@@ -27,7 +27,7 @@ fn listed(alloc: Global, told: &[(u8, u16)]) -> Result<Vec<MsgId>, OutOfMemory> 
     Ok(found)
 }
 
-/// Compares what all these calls sent and what came up, each message from its origin.
+/// Compares the messages that all these calls sent, and those that came up, each from its origin.
 fn compare(
     rt: &impl Abort,
     alloc: Global,
@@ -42,7 +42,7 @@ fn compare(
     Ok(())
 }
 
-/// Returns the call that says an own message, or the arrival of another origin's message from its origin.
+/// Returns the call in which this node says its own message, or in which another origin's message arrives from that origin.
 fn call_of(origin: u8, seq: u16) -> Call {
     let m = message(origin, seq);
     if origin == ME {
@@ -64,7 +64,7 @@ fn calls_of(alloc: Global, steps: &[Step]) -> Result<Vec<Call>, OutOfMemory> {
     Ok(calls)
 }
 
-/// Returns true if after the call of each step as many messages had come up as the step says.
+/// Returns whether the number of messages that came up after the call of each step is that of the step.
 fn have_counts(each: &[Outcome], steps: &[Step]) -> bool {
     let mut count: usize = 0;
     for (out, step) in each.iter().zip(steps) {
@@ -76,7 +76,7 @@ fn have_counts(each: &[Outcome], steps: &[Step]) -> bool {
     each.len() == steps.len()
 }
 
-/// Takes the steps at a new fifo, one after the other. Returns what each of them sends and hands up.
+/// Takes the steps at a new fifo, one after the other. Returns what the fifo sends and passes up at each step.
 fn told(rt: &impl Abort, alloc: Global, steps: &[Step]) -> Result<Vec<Outcome>, OutOfMemory> {
     let mut fifo = Fifo::new(alloc, Direct::new(Beb::new(node(ME))));
     let calls = calls_of(alloc, steps)?;
@@ -102,8 +102,8 @@ const LATE_UPS: &[(u8, u16)] = &[
     (ORIGIN, 4),
 ];
 
-/// A gap that is filled late: the third and the second message wait for the first, and come up with it, each once.
-/// Another origin's message in between does not wait, and a copy of what came up changes nothing.
+/// A gap is filled late: the third and the second message wait for the first, and come up with it, each once. A message of another origin
+/// in between does not wait, and a copy of a message that came up changes nothing.
 #[test]
 fn a_gap_is_filled_late(rt: HostRuntime) -> Result<(), Fail> {
     let each = told(&rt, rt.alloc(), LATE)?;
@@ -129,7 +129,7 @@ const TURNS_UPS: &[(u8, u16)] = &[
     (ME, 2),
 ];
 
-/// The messages of two origins, and this node's own, come in turns and out of order.
+/// The messages of two origins, and this node's own, come in turns and out of order. Those of one origin do not wait for those of another.
 #[test]
 fn two_origins_do_not_wait_for_each_other(rt: HostRuntime) -> Result<(), Fail> {
     let each = told(&rt, rt.alloc(), TURNS)?;
@@ -137,8 +137,8 @@ fn two_origins_do_not_wait_for_each_other(rt: HostRuntime) -> Result<(), Fail> {
     Ok(())
 }
 
-/// Tells a layer of the second and the first message of an origin that crashes in between, and of an own one. Returns what it sends and
-/// hands up at each.
+/// Makes four calls of a layer: the second message of an origin comes, the origin crashes, its first message comes, and this node says a
+/// message. Returns what the layer sends and passes up at each.
 fn tell<L: Bounded>(alloc: Global, layer: &mut L) -> Result<Vec<Outcome>, OutOfMemory>
     requires { (ms : List MsgId) → L.knows ms layer.old 0 0 }
 {
@@ -152,7 +152,7 @@ fn tell<L: Bounded>(alloc: Global, layer: &mut L) -> Result<Vec<Outcome>, OutOfM
     effects(alloc, layer, &calls)
 }
 
-/// Compares what a fifo over a fifo sends and hands up after `tell`.
+/// Compares what a fifo over a fifo sends and passes up in `tell` with what a fifo does.
 fn compare_two_fifos(rt: &impl Abort, alloc: Global) -> Result<(), OutOfMemory> {
     let below = Fifo::new(alloc, Direct::new(Beb::new(node(ME))));
     let mut fifo = Fifo::new(alloc, below);
@@ -162,14 +162,14 @@ fn compare_two_fifos(rt: &impl Abort, alloc: Global) -> Result<(), OutOfMemory> 
     compare(rt, alloc, &each, &[(ME, 1)], &ups)
 }
 
-/// A fifo over a fifo hands up the same as a fifo. It may take the place of the layer below.
+/// A fifo over a fifo passes up the same as a fifo alone. So a fifo may be the layer below another.
 #[test]
 fn a_fifo_stands_over_any_broadcast(rt: HostRuntime) -> Result<(), Fail> {
     compare_two_fifos(&rt, rt.alloc())?;
     Ok(())
 }
 
-/// Returns true if the plain program puts what was delivered in this order.
+/// Returns whether the plain program puts the delivered messages in this order.
 fn in_order(
     alloc: Global,
     delivered: &[(u8, u16)],
@@ -180,7 +180,7 @@ fn in_order(
     Ok(are_messages(&found, given))
 }
 
-/// What was delivered, and the order in which it is handed up.
+/// Messages in the order of their delivery, and in the order in which they are passed up.
 type Order = (&'static [(u8, u16)], &'static [(u8, u16)]);
 
 const NOTHING: Order = (&[], &[]);
@@ -198,8 +198,8 @@ const ZERO: Order = (&[(ORIGIN, 0), (ORIGIN, 65535), (ORIGIN, 1)], &[(ORIGIN, 1)
 
 const ORDERS: &[Order] = &[NOTHING, FILLED, GAP, REPEATED, ZERO];
 
-/// The plain program, on lists worked out by hand: a gap that is filled, one that is not, a repeated message, and a
-/// message with the number 0, which is less than each number that a message may have.
+/// The plain program on lists that are worked out by hand: a gap that is filled, one that is not, a repeated message, and a message with
+/// the number 0, which is less than each number that a message may have.
 #[test]
 fn plain_answers_are_those_of_the_definition(rt: HostRuntime) -> Result<(), Fail> {
     for (delivered, given) in ORDERS {

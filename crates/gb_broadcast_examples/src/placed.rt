@@ -1,4 +1,4 @@
-//! The calls of a layer that is told places, by the messages that they name. An index has the messages.
+//! Calls of a layer that takes places, made from calls that name messages. An index has the messages.
 ghost use Rattle.std.specs.Prelude.{◌≡◌, List, true, length, OnOk};
 ghost use Rattle.gb_types.specs.declared.message.MsgId.{MsgId};
 ghost use Rattle.gb_layer.specs.Common.{Names, IsNext, reached, told_after};
@@ -9,15 +9,14 @@ use gb_stack::Stack;
 use gb_types::{Kind, MsgId, NodeSet, OutOfMemory, Spec};
 use std::alloc::Global;
 
-/// The effects of a call: the messages that are sent to each other member, and the pairs that come up.
+/// The effects of a call: the messages that are sent to each other member, and those that come up, each with the node that it came from.
 #[derive(Drop)]
 pub struct Outcome {
     pub sends: Vec<MsgId>,
     pub ups: Vec<Up>,
 }
 
-/// Returns a new stack for a group of `kind` with the members 1, 2 and 31, at node 1, which already holds the nodes `noticed` for
-/// crashed.
+/// Returns a new stack for a group of `kind` with the members 1, 2 and 31, at node 1, which has already noticed the nodes `noticed`.
 pub fn stack(alloc: Global, kind: Kind, noticed: &NodeSet) -> Stack
     ensures { (ms : List MsgId) → ⟦<Stack as Layer>⟧.knows ms result 0 0 }
 {
@@ -46,7 +45,7 @@ fn index_of(alloc: Global, calls: &[Call]) -> Result<Index, OutOfMemory> {
     Ok(index)
 }
 
-/// Returns the call by the place of its message. `None` if the message is not in the index.
+/// Returns the call with the place of its message, or `None` if the message is not in the index.
 fn placed(index: &Index, call: Call) -> Option<PlacedCall> {
     match call {
         Call::Say(m) => index.find(m).map(|place| PlacedCall::Say(place)),
@@ -55,7 +54,7 @@ fn placed(index: &Index, call: Call) -> Option<PlacedCall> {
     }
 }
 
-/// Returns true if the place is one of the first `told`, or the next one, and is below `places`.
+/// Returns whether the place is one of the first `told`, or the next one, and is below `places`.
 fn is_next_place(place: u16, told: usize, places: usize) -> bool
     ensures { result ≡ true → IsNext told places place }
 {
@@ -67,7 +66,7 @@ fn is_next_place(place: u16, told: usize, places: usize) -> bool
     false
 }
 
-/// Returns true if a layer that was told of the first `told` places, and has memory for `places` places, may be told the call.
+/// Returns whether the call may be made at a layer to which the first `told` places were named and that has memory for `places` places.
 fn is_next(call: PlacedCall, told: usize, places: usize) -> bool
     ensures { result ≡ true → Names (IsNext told places) call }
 {
@@ -78,7 +77,7 @@ fn is_next(call: PlacedCall, told: usize, places: usize) -> bool
     }
 }
 
-/// Returns how many places were told once `place` was told too.
+/// Returns the number of places that were named once `place` is named too, if `told` were named before.
 fn reached(told: usize, place: u16) -> usize
     ensures { result ≡ reached told place }
 {
@@ -89,7 +88,7 @@ fn reached(told: usize, place: u16) -> usize
     }
 }
 
-/// Returns how many places were told after the call.
+/// Returns the number of places that were named after the call, if `told` were named before.
 fn told_after(told: usize, call: PlacedCall) -> usize
     ensures { result ≡ told_after told call }
 {
@@ -100,8 +99,8 @@ fn told_after(told: usize, call: PlacedCall) -> usize
     }
 }
 
-/// Makes one call, and appends its effects to `out`, for which it takes the memory before the call. `told` is the number of places that were told. Returns false, with no call made,
-/// if the call names a place too early.
+/// Makes one call, and appends its effects to `out`, for which it takes the memory before the call. `told` is the number of places that
+/// were named; it is updated. Returns false, and makes no call, if the call names a place too early. Returns true otherwise.
 pub fn make_next<L: Bounded>(
     layer: &mut L,
     index: &Index,
@@ -122,7 +121,7 @@ pub fn make_next<L: Bounded>(
     Ok(true)
 }
 
-/// Returns the effects in messages. A place that is not in the index is left out.
+/// Returns the effects with messages instead of places. A place that is not in the index is left out.
 fn in_messages(alloc: Global, index: &Index, lists: &Lists) -> Result<Outcome, OutOfMemory> {
     let mut out = Outcome {
         sends: Vec::new(alloc),
@@ -141,8 +140,8 @@ fn in_messages(alloc: Global, index: &Index, lists: &Lists) -> Result<Outcome, O
     Ok(out)
 }
 
-/// Makes these calls, each where the one before left the layer, which takes the memory for all of them at once. Returns what each of
-/// them sends and hands up. The list ends before the first call that is not made, since it names a place too early.
+/// Makes these calls in turn, and takes the memory for all of them at once. Returns what the layer sends and passes up at each. The list
+/// ends before the first call that names a place too early; neither that call nor a later one is made.
 pub fn effects<L: Bounded>(
     alloc: Global,
     layer: &mut L,
@@ -167,7 +166,7 @@ pub fn effects<L: Bounded>(
     Ok(each)
 }
 
-/// Returns what these calls of a new stack send and hand up, each.
+/// Makes these calls of a new stack in turn, and returns what it sends and passes up at each.
 pub fn run(
     alloc: Global,
     kind: Kind,

@@ -5,7 +5,7 @@ use gb_layer::{Call, Layer};
 use gb_types::{Kind, Module, NodeSet, Order};
 use std::test::Fail;
 
-/// A stack that was refused the memory for too many messages has not changed, and takes a call that it has memory for.
+/// A stack that was refused memory for too many messages has not changed, and takes a call that it has memory for.
 #[test]
 fn a_stack_that_was_refused_memory_goes_on(rt: HostRuntime) -> Result<(), Fail> {
     let (module, order) = (Module::AllAck, Order::Fifo);

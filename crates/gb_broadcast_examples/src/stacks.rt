@@ -15,7 +15,7 @@ const STRANGER: NodeId = NodeId { number: 7 };
 
 const ORDERS: [Order; 2] = [Order::Any, Order::Fifo];
 
-/// Every call that tells a node of an own message, of two messages of another node, and of the other nodes.
+/// All calls with this node's own message, with two messages of another node, and with the other nodes.
 const CALLS: [Call; 9] = [
     Call::Say(OWN),
     Call::Came(ORIGIN, OWN),
@@ -28,7 +28,7 @@ const CALLS: [Call; 9] = [
     Call::Notice(OTHER),
 ];
 
-/// Returns true if the call was made.
+/// Returns whether the call was made.
 fn was_made(past: &[Call], call: Call) -> bool {
     for made in past {
         if *made == call {
@@ -38,7 +38,7 @@ fn was_made(past: &[Call], call: Call) -> bool {
     false
 }
 
-/// Returns true if the caller may make the call after these, the newest first.
+/// Returns whether the caller may make the call after these, which are given the newest first.
 fn may_come(past: &[Call], call: Call) -> bool {
     let own_is_said = was_made(past, Call::Say(OWN));
     match call {
@@ -48,7 +48,7 @@ fn may_come(past: &[Call], call: Call) -> bool {
     }
 }
 
-/// Returns true if the plain program broadcasts the same at the last call of a history.
+/// Returns whether the plain program broadcasts the same messages at the last call of a history.
 fn has_sent(
     alloc: Global,
     kind: Kind,
@@ -59,7 +59,7 @@ fn has_sent(
     Ok(sends == broadcasts.as_slice())
 }
 
-/// Returns true if the plain program has the same log after a history.
+/// Returns whether the plain program has the same log after a history.
 fn has_log(
     alloc: Global,
     kind: Kind,
@@ -70,7 +70,7 @@ fn has_log(
     Ok(log == told.as_slice())
 }
 
-/// Adds what came up to the log, each message under its origin.
+/// Appends the messages that came up to the log, each with its origin.
 fn add_ups(rt: &impl Abort, out: &Outcome, log: &mut Vec<MsgId>) -> Result<(), OutOfMemory> {
     for up in &out.ups {
         assert!(rt; up.via == up.m.origin);
@@ -79,7 +79,7 @@ fn add_ups(rt: &impl Abort, out: &Outcome, log: &mut Vec<MsgId>) -> Result<(), O
     Ok(())
 }
 
-/// Adds what came up to the log, and compares what was sent, and the log, with the plain program's answers.
+/// Appends the messages that came up to the log, and compares the messages that were sent, and the log, with the plain program's answers.
 fn compare_effects(
     rt: &impl Abort,
     alloc: Global,
@@ -107,7 +107,7 @@ fn notices(alloc: Global, noticed: &[NodeId]) -> Result<Vec<Call>, OutOfMemory> 
     Ok(history)
 }
 
-/// Returns true if the calls may come one after the other, after the notices of these nodes.
+/// Returns whether the calls may be made one after the other, after the notices of these nodes.
 fn may_all_come(alloc: Global, noticed: &[NodeId], calls: &[Call]) -> Result<bool, OutOfMemory> {
     let mut history = notices(alloc, noticed)?;
     for call in calls {
@@ -187,10 +187,10 @@ fn each_stack_starts_with_the_notices(rt: HostRuntime) -> Result<(), Fail> {
     Ok(())
 }
 
-/// A module, true if the origin was noticed, and the numbers of messages that are then sent and handed up, in either order.
+/// A module, whether the origin was noticed, and the numbers of messages that are then sent and passed up, in either order.
 type Copied = (Module, bool, usize, usize);
 
-/// Returns true if a stack sends and hands up the numbers of messages of the case when a copy of another node's message comes.
+/// Returns whether a stack sends and passes up the numbers of messages of the case when a copy of another node's message comes.
 fn is_copied(alloc: Global, case: Copied, order: Order) -> Result<bool, OutOfMemory> {
     let (module, is_noticed, sends, ups) = case;
     let mut noticed = NodeSet::new();
@@ -215,9 +215,9 @@ const COPIES: &[Copied] = &[
     (Module::Majority, true, 1, 1),
 ];
 
-/// A relayed copy is delivered by lazy and by eager broadcast, and relayed by eager; best effort does neither. All-ack
-/// relays it, and delivers it if the origin, which is not known to hold it, was noticed. Majority-ack relays it, and
-/// delivers it at once, since two of the three members hold it.
+/// A relayed copy is delivered by lazy and by eager broadcast, and relayed by eager. Best effort does neither. All-ack relays it, and
+/// delivers it if its origin, which is not known to hold it, was noticed. Majority-ack relays it, and delivers it at once, since two of the
+/// three members hold it.
 #[test]
 fn a_relayed_copy_tells_the_kinds_apart(rt: HostRuntime) -> Result<(), Fail> {
     for case in COPIES {
@@ -229,7 +229,7 @@ fn a_relayed_copy_tells_the_kinds_apart(rt: HostRuntime) -> Result<(), Fail> {
     Ok(())
 }
 
-/// Appends what these calls sent, and what came up, which is of the origin.
+/// Appends the messages that these calls sent, and those that came up. Each must have come up from its origin.
 pub fn add_effects(
     rt: &impl Abort,
     each: &[Outcome],
@@ -243,8 +243,8 @@ pub fn add_effects(
     Ok(())
 }
 
-/// Returns true if a lazy stack sends two messages in the order in which they come, the second one first, and hands up `told`, after
-/// the origin's notice.
+/// Returns whether a lazy stack that noticed the origin sends two messages in the order in which they come, the second one first, and
+/// passes up `told`.
 fn is_turned(
     rt: &impl Abort,
     alloc: Global,
@@ -259,8 +259,7 @@ fn is_turned(
     Ok(sends.as_slice() == [SECOND, FIRST].as_slice() && ups.as_slice() == told)
 }
 
-/// Under a fifo kind the second message waits for the first. A lazy stack that starts after the origin's notice also
-/// relays the first.
+/// Under a fifo kind the second message waits for the first. A lazy stack that starts after the origin's notice also relays the first.
 #[test]
 fn fifo_lazy_waits_and_relays(rt: HostRuntime) -> Result<(), Fail> {
     let waits = is_turned(&rt, rt.alloc(), Order::Fifo, &[FIRST, SECOND])?;
@@ -270,7 +269,7 @@ fn fifo_lazy_waits_and_relays(rt: HostRuntime) -> Result<(), Fail> {
     Ok(())
 }
 
-/// Each stack stands at its node.
+/// Each stack returns the node that it was made for.
 #[test]
 fn each_stack_stands_at_its_node(rt: HostRuntime) -> Result<(), Fail> {
     for module in MODULES {

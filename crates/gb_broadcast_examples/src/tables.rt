@@ -6,7 +6,7 @@ use std::alloc::Global;
 use std::rt::HostRuntime;
 use std::test::Fail;
 
-/// Returns what a table says of the first message, and of one that comes after `count` others.
+/// Returns what a table answers for the first message, and for one that comes after `count` others.
 fn said_after(alloc: Global, count: usize) -> Result<(Option<usize>, Option<usize>), OutOfMemory> {
     let mut table = Table::new(alloc);
     let (first, other) = (message(0, 1), message(0, 2));
@@ -16,7 +16,7 @@ fn said_after(alloc: Global, count: usize) -> Result<(Option<usize>, Option<usiz
     Ok((table.told(first), table.told(other)))
 }
 
-// With more messages it answers `None` for each, so that all messages are searched.
+// A table of more messages answers `None` for each of them, so that all messages are searched.
 #[test]
 fn a_table_speaks_of_65_535_messages(rt: HostRuntime) -> Result<(), Fail> {
     let last = said_after(rt.alloc(), 65_534)?;

@@ -19,7 +19,7 @@ equal_or_not (a ∷ x) (b ∷ y) =
       ]
     ]
 
--- two different texts with one tag under a key
+-- two different texts with the same tag under a key come with a collision
 tags_collide : (key x y : List ℕ) → x ≢ y → hmac_of key x ≡ hmac_of key y → Collide (inner_text key x) (inner_text key y) ⊎ Collide (outer_text key x) (outer_text key y)
 tags_collide key x y differ same =
     elim (equal_or_not (sha256 (inner_text key x)) (sha256 (inner_text key y))) [

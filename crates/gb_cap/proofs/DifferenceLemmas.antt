@@ -1,10 +1,10 @@
--- The number of places where two texts differ.
+-- The number of indices at which two texts differ.
 use Rattle.gb_types.specs.Common.{◌≡◌, ℕ, ◌+◌, ◌<◌, true, false, cond, nat_eq, List, [], ◌∷◌, length, take, get_or, ◌↔◌, refl, sym, ap, ◌∙◌, arith, not, zip, count_by, eqb-true, eq-eqb, sum_by-cons, count_by_more_no, count_by_more_yes}
 use Rattle.std.proofs.lemmas.Slice.Zip.{get_or-zip, length-zip}
 use mir.Val.{bool_byte}
 use Rattle.gb_cap.specs.Compare.{are_unlike}
 
--- one place more
+-- the number with one more index
 pub count_more : (xs ys : List ℕ) (i count : ℕ) → length xs ≡ length ys → i < length xs → count ≡ count_by are_unlike (take i (zip xs ys))
     → count + bool_byte (not (nat_eq (get_or xs i 0) (get_or ys i 0))) ≡ count_by are_unlike (take (i + 1) (zip xs ys))
 count_more xs ys i count len below so_far =
@@ -35,7 +35,7 @@ no_difference (x ∷ xs) =
     let rest = no_difference xs in
     omega (arith, parts, here, rest)
 
--- no place is one where they differ exactly where they are equal
+-- the number is 0 if and only if the texts are equal
 pub counts_same : (xs ys : List ℕ) (count : ℕ) → length xs ≡ length ys → count ≡ count_by are_unlike (zip xs ys) → (count ≡ 0) ↔ (xs ≡ ys)
 counts_same xs ys count len is = (
   λ none. none_unlike xs ys len (sym is ∙ none),

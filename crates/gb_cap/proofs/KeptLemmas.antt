@@ -1,9 +1,9 @@
--- Tokens and keys that are kept in maps, as they were made once: what holds of each entry.
+-- Tokens and keys that are kept in maps, as they were first made: a property of each entry.
 use Rattle.gb_types.specs.Common.{◌≡◌, zero, suc, List, [], ◌∷◌, refl, sym, subst, true, false, arith, Bool, cond, Some, All, Result, Ok, Err, OnOk, OnErr, All-cons, All-nil}
 use Rattle.std.specs.Map.{lookup}
 use Rattle.indexmap.specs.IndexMap.{insert_entry}
 
--- what is found by a key holds of it
+-- a value that is found by a key has the property
 pub kept_found : {K X : Type 0} (P : K → X → Type 0) (test : K → Bool) (key : K) (es : List (K × X)) (value : X) → ((k : K) → test k ≡ true → key ≡ k) → All (λ e. P e.0 e.1) es → lookup test es ≡ Some value → P key value
 kept_found P test key [] value same are is = absurd (cc)
 kept_found P test key (e ∷ es) value same are is = by (test e.0) refl is (kept_found P test key es value same (λ k d l. are (suc k) d (omega arith)))
@@ -15,7 +15,7 @@ kept_found P test key (e ∷ es) value same are is = by (test e.0) refl is (kept
         subst (λ k. P k value) (sym (same e.0 on)) (subst (P e.0) is_it here)
     by false off found later = later found
 
--- after an entry was put in that holds
+-- all entries still have the property after an entry with it was inserted
 pub kept_inserted : {K X : Type 0} (P : K → X → Type 0) (eq : K → K → Bool) (key : K) (es : List (K × X)) (value : X) → ((k : K) → eq key k ≡ true → key ≡ k) → All (λ e. P e.0 e.1) es → P key value → All (λ e. P e.0 e.1) (insert_entry eq es key value)
 kept_inserted P eq key [] value same are is = All-cons (λ e. P e.0 e.1) (key, value) [] is (All-nil (λ e. P e.0 e.1))
 kept_inserted P eq key (e ∷ es) value same are is =
@@ -26,7 +26,7 @@ kept_inserted P eq key (e ∷ es) value same are is =
     by rest true on later = All-cons (λ d. P d.0 d.1) (e.0, value) es (subst (λ k. P k value) (same e.0 on) is) rest
     by rest false off later = All-cons (λ d. P d.0 d.1) e (insert_entry eq es key value) (are zero e (omega arith)) later
 
--- the same where memory was there for it or not
+-- the same whether there was memory for the entry or not
 pub kept_after : {T E K X : Type 0} (P : K → X → Type 0) (r : Result T E) (eq : K → K → Bool) (key : K) (old new : List (K × X)) (value : X) → OnOk r (new ≡ insert_entry eq old key value) → OnErr r (new ≡ old) → ((k : K) → eq key k ≡ true → key ≡ k) → All (λ e. P e.0 e.1) old → P key value → All (λ e. P e.0 e.1) new
 kept_after P (Ok v) eq key old new value ok err same are is = subst (λ es. All (λ e. P e.0 e.1) es) (sym ok) (kept_inserted P eq key old value same are is)
 kept_after P (Err e) eq key old new value ok err same are is = subst (λ es. All (λ e. P e.0 e.1) es) (sym err) are

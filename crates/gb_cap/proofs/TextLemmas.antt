@@ -1,4 +1,4 @@
--- Two needs with one text are one need.
+-- Two needs with the same text are the same need.
 use Rattle.gb_types.specs.Common.{◌≡◌, ℕ, ◌<◌, ◌^◌, refl, sym, ap, ◌∙◌, w16, to_be_bytes, from_be_bytes}
 use Rattle.std.proofs.lemmas.Nat.{from_be_bytes-to_be_bytes_2}
 use Rattle.gb_types.proofs.SameLemmas.{same_number}

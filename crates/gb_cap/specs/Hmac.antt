@@ -11,11 +11,11 @@ filled key = key ++ replicate (64 - length key) 0
 abbrev pub padded : ℕ → List ℕ → List ℕ
 padded pad key = map (λ b. bit_xor b pad) (filled key)
 
--- H((K xor opad) || H((K xor ipad) || text)) (RFC 2104, section 2)
+-- the HMAC of a text: H((K xor opad) || H((K xor ipad) || text)) (RFC 2104, section 2)
 abbrev pub hmac_of : List ℕ → List ℕ → List ℕ
 hmac_of key text = sha256 (padded 0x5c key ++ sha256 (padded 0x36 key ++ text))
 
--- the two texts that are hashed for a tag
+-- the inner text of a tag, whose hash is in the outer text
 abbrev pub inner_text : List ℕ → List ℕ → List ℕ
 inner_text key text = padded 0x36 key ++ text
 

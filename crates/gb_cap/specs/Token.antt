@@ -25,11 +25,11 @@ Fits (Member tenant group node) = (tenant < 2 ^ 16) × (group < 2 ^ 16)
 abbrev pub Collide : List ℕ → List ℕ → Type 0
 Collide x y = (x ≢ y) × (sha256 x ≡ sha256 y)
 
--- two needs with one text are one need
+-- two needs with the same text are the same need
 abbrev pub TextsTellNeedsApart : Type 0
 TextsTellNeedsApart = (a b : Need) → Fits a → Fits b → text_of a ≡ text_of b → a ≡ b
 
--- If two different needs have one token under a key, the hash collides at these two texts or at those.
+-- If two different needs have the same token under a key, the hash collides at these two texts or at those.
 abbrev pub SharedTokensCollide : Type 0
 SharedTokensCollide = (key : List ℕ) (a b : Need) → Fits a → Fits b → a ≢ b → token_of key a ≡ token_of key b
     → Collide (inner_text key (text_of a)) (inner_text key (text_of b)) ⊎ Collide (outer_text key (text_of a)) (outer_text key (text_of b))

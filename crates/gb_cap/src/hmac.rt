@@ -38,7 +38,7 @@ fn padded_key(key: &[u8], pad: u8) -> [u8; 64]
     block
 }
 
-/// Returns a hasher that has taken the key under a pad.
+/// Returns a hasher that has hashed the key under a pad.
 fn started(key: &[u8], pad: u8) -> Sha256
     requires { length key.now ≤ 64 }
     ensures { Holds256 result (padded pad key.now) }
@@ -48,14 +48,14 @@ fn started(key: &[u8], pad: u8) -> Sha256
     hasher
 }
 
-/// Returns a copy of the hasher. No clone of it fails; `unwrap_or_default` was measured to copy less than `unwrap`.
+/// Returns a copy of the hasher. The copy never fails; `unwrap_or_default` was measured to copy less than `unwrap`.
 fn copied(hasher: &Sha256) -> Sha256
     ensures { result ≡ hasher.now }
 {
     hasher.clone().unwrap_or_default()
 }
 
-/// Returns the hash of the outer text and of the inner hash.
+/// Returns the outer hash: that of the outer hasher's text, followed by the inner hash.
 fn finished(mut inner: Sha256, mut outer: Sha256, text: &[u8]) -> Mac
     ensures { (m n : List ℕ) → Holds256 inner m → Holds256 outer n → result ≡ sha256 (n ++ sha256 (m ++ text.now)) }
 {
@@ -72,15 +72,15 @@ pub fn hmac(key: &[u8], text: &[u8]) -> Mac
     finished(started(key, INNER), started(key, OUTER), text)
 }
 
-/// A key whose pads are hashed once, for many messages: a message costs two compressions of SHA-256
-/// less than by `hmac`. Contracts see the key.
+/// A key whose pads are hashed once, for many messages: a message costs two compressions of SHA-256 less than with `hmac`. Contracts see
+/// the key.
 pub struct HmacKey {
     key: Key,
     inner: Sha256,
     outer: Sha256,
 }
 
-// Not derived: what is derived is proved anew in each crate that ends one.
+// Not derived, because a derived `Drop` is proved anew in each crate that drops one.
 impl Drop for HmacKey {
     fn drop(self) {
         let HmacKey {

@@ -1,6 +1,6 @@
-//! Capabilities: keyed hashes of messages (HMAC-SHA-256) and the tokens made from them. Whoever holds the token of a need may do
-//! what the need names. There is no table of keys here, and no hash function of our own: SHA-256 is the crate `sha2`. Read
-//! `token::Need` and `hmac::HmacKey` first.
+//! Capabilities: keyed hashes of messages (HMAC-SHA-256) and the tokens made from them. Whoever holds the token of a need may do what the
+//! need names. This crate has no table of keys, and no hash function of its own: SHA-256 is the crate `sha2`. Read `token::Need` and
+//! `hmac::HmacKey` first.
 #![tactic(auto)]
 
 pub mod compare;

@@ -9,11 +9,11 @@ use gb_types::NodeId;
 /// The holder of a token may do what its need names.
 pub type Token = Mac;
 
-/// The right that a token is for.
+/// The right that a token gives.
 #[derive(Clone, Copy)]
 pub enum Need {
-    /// To admit tenants to a node. Its token is made under the node's administrator key, those of the
-    /// other needs under the tenant's key.
+    /// To admit tenants to a node. Its token is made under the node's administrator key; the tokens of the other needs are made under the
+    /// tenant's key.
     Admin,
     /// To make, open, shut and drop groups of this tenant.
     Tenant(u16),
@@ -50,7 +50,7 @@ impl HmacKey {
         }
     }
 
-    /// Returns true if `token` is the one for the need under this key, and false otherwise. The time that it takes says nothing of where
+    /// Returns true if `token` is the one for the need under this key, and false otherwise. The time that this takes does not reveal where
     /// the two differ.
     pub fn admits(&self, need: Need, token: &Token) -> bool
         ensures { IsTrue result ↔ (token.now ≡ token_of self.now need) }
@@ -66,7 +66,7 @@ pub fn token(key: &Key, need: Need) -> Token
     HmacKey::new(key).token(need)
 }
 
-/// Returns true if `token` is the one for the need under `key`, and false otherwise. The time that it takes says nothing of where the two
+/// Returns true if `token` is the one for the need under `key`, and false otherwise. The time that this takes does not reveal where the two
 /// differ.
 pub fn admits(key: &Key, need: Need, token: &Token) -> bool
     ensures { IsTrue result ↔ (token.now ≡ token_of key.now need) }
@@ -74,7 +74,7 @@ pub fn admits(key: &Key, need: Need, token: &Token) -> bool
     HmacKey::new(key).admits(need, token)
 }
 
-/// A law, with nothing to run: two needs with the same text, which is what is hashed for a token, are the same need.
+/// A law, with nothing to run: two needs with the same text, which is the text that is hashed for a token, are the same need.
 pub fn texts_tell_needs_apart()
     ensures { TextsTellNeedsApart }
 {}

@@ -1,4 +1,4 @@
--- What the words of a request need, and what a reader of words answers.
+-- The need of a request by its words, and the result of a reader of words.
 use Rattle.gb_types.specs.Common.{◌≡◌, ℕ, List, ◌∷◌, ◌∙◌, decimal, refl, sym, ap}
 use Rattle.gb_types.proofs.ReadLemmas.{Reads, found, only, reads_one}
 use Rattle.gb_spelling.specs.Common.{IsShort, group_word}
@@ -34,7 +34,7 @@ member_reads words t g rest address node are reads =
     let address_is : address ≡ spelt.0 = only (AreAddressWords t g) address spelt.0 reads (spelt.3, cc, spelt.4, cc) in
     ap (λ (a : Addr). Member a.tenant a.group node) address_is ∙ sym spelt.2)
 
--- what is neither said nor fetched needs what the tenant may do
+-- a command that is neither say nor fetch needs the tenant's right
 pub needs_tenant : (head : CommandHead) (node : NodeId) (need : Need) (words : List (List ℕ)) → (head ≡ Say → ⊥) → (head ≡ Fetch → ⊥) → NeedsTenant need words ≡ Needs (Group head) node need words
 needs_tenant Make node need words no_say no_fetch = refl
 needs_tenant Open node need words no_say no_fetch = refl

@@ -1,4 +1,4 @@
--- What the text of a log is, word for word.
+-- The text of a log, word for word.
 use Rattle.gb_types.specs.Common.{◌≡◌, ℕ, zero, suc, ◌+◌, ◌^◌, ◌<◌, get_or, take, List, [], ◌∷◌, ◌++◌, false, eqb, length, map, codes, refl, ap, sym, ◌∙◌, arith, decimal, append_assoc, append-nil, Option, Some, None, IfSome, IfNone, All, flat_map, slice_split, join_with_byte, ne_eqb, map-append, All-nil, All-cons, All-head, All-tail, refusal_number, refusal_name}
 use Rattle.std.proofs.lemmas.List.Splits.{slice_split_none, slice_split_at, join_with_byte-slice_split}
 use Rattle.gb_types.specs.declared.{entry.Entry.Entry, refusal.Refusal.Refusal, reply.Reply.TheVariants.Log, reply.Reply.TheVariants.Refused}
@@ -8,7 +8,7 @@ use Rattle.gb_spelling.proofs.{CutLemmas.Without, CutLemmas.without-append, CutL
 use Rattle.gb_client.specs.Answers.{parts_of, log_words, refusal_words}
 use denote.Ref.{Bor}
 
--- no byte of a part is the one at which is split
+-- no byte of a part is the one that separates parts
 whole : (c : ℕ) (xs : List ℕ) → Without c xs → All (λ byte. eqb byte c ≡ false) xs
 whole c [] h = All-nil (λ byte. eqb byte c ≡ false)
 whole c (x ∷ xs) h = All-cons (λ byte. eqb byte c ≡ false) x xs (ne_eqb x c h.0) (whole c xs h.1)
@@ -35,7 +35,7 @@ entry_split e f =
     (without-decimal 58 e.seq (λ r. omega (arith, r)) (let lt = f.0 in omega arith))
     (without-payload_word 58 refl (λ h. absurd (omega (arith, h))) e.payload f.1)
 
--- a word with three parts between its colons is these
+-- a word whose parts between its colons are these three is these three with colons between them
 pub three_parts : (word a b d : List ℕ) → slice_split (λ byte. eqb byte 58) word ≡ a ∷ b ∷ d ∷ [] → word ≡ a ++ 58 ∷ (b ++ 58 ∷ d)
 three_parts word a b d is = sym (join_with_byte-slice_split 58 word) ∙ ap (join_with_byte 58) is
 
@@ -79,7 +79,7 @@ log_of_words text es are =
     let parted : reply_spelling (Log es) ≡ codes "log" ++ 32 ∷ (decimal (length es) ++ spaced es) = simp append_assoc in
     sym (join_with_byte-slice_split 32 text) ∙ (ap (join_with_byte 32) are ∙ (ap (λ rest. codes "log" ++ 32 ∷ rest) (join_spaced (decimal (length es)) es) ∙ sym parted))
 
--- ---- what a reader found, from the parts to the text
+-- ---- the result of a reader, from the parts to the text
 
 pub entry_found : (word : List ℕ) (parts : List (Bor (List ℕ))) (found : Option Entry) → slice_split (λ byte. eqb byte 58) word ≡ map (λ part. part.now) parts
     → IfSome found (λ e. map (λ part. part.now) parts ≡ parts_of e) → IfSome found (λ e. word ≡ entry_text e)
@@ -151,7 +151,7 @@ refusal_words_are why =
 
 -- ---- words that are read one by one
 
--- the entry whose text stands at a place
+-- the entry whose text is at an index
 pub entry_at : (es : List Entry) (words : List (Bor (List ℕ))) (i : ℕ) (d : Bor (List ℕ)) → All FitsEntry es → map entry_text es ≡ map (λ word. word.now) words → i < length words
     → (e : Entry) × FitsEntry e × ((get_or words i d).now ≡ entry_text e)
 entry_at es [] i d fits are lt = absurd (omega arith)
@@ -167,7 +167,7 @@ next_taken [] i d lt = absurd (omega arith)
 next_taken (w ∷ ws) zero d lt = refl
 next_taken (w ∷ ws) (suc i) d lt = ap (λ rest. w.now ∷ rest) (next_taken ws i d (omega arith))
 
--- one more entry was read
+-- the entries after one more was read
 pub texts_more : (old new : List Entry) (e : Entry) (words : List (Bor (List ℕ))) (i : ℕ) (d : Bor (List ℕ)) → map entry_text old ≡ take i (map (λ word. word.now) words)
     → new ≡ old ++ e ∷ [] → (get_or words i d).now ≡ entry_text e → i < length words → map entry_text new ≡ take (i + 1) (map (λ word. word.now) words)
 texts_more old new e words i d before pushed here lt =
@@ -178,7 +178,7 @@ texts_more old new e words i d before pushed here lt =
     ∙ (ap (λ text. take i (map (λ word. word.now) words) ++ text ∷ []) (sym here)
     ∙ (next_taken words i d lt ∙ ap (λ n. take n (map (λ word. word.now) words)) next))))
 
--- one more word was taken
+-- the words after one more was taken
 pub bytes_more : (old new : List (Bor (List ℕ))) (b : Bor (List ℕ)) (words : List (Bor (List ℕ))) (i : ℕ) (d : Bor (List ℕ)) → map (λ word. word.now) old ≡ take i (map (λ word. word.now) words)
     → new ≡ old ++ b ∷ [] → b.now ≡ (get_or words i d).now → i < length words → map (λ word. word.now) new ≡ take (i + 1) (map (λ word. word.now) words)
 bytes_more old new b words i d before pushed here lt =

@@ -5,7 +5,7 @@ use denote.Ref.{Bor}
 pub words_behind : (words : List (Bor (List ℕ))) → flat_map (λ word. codes " " ++ word) (map (λ word. word.now) words) ≡ flat_map (λ word. codes " " ++ word.now) words
 words_behind words = flat_map-map (λ word. codes " " ++ word) (λ word. word.now) words
 
--- the next word
+-- appending the next word leaves the words behind it to append
 pub next_word : (out more : List ℕ) (words : List (Bor (List ℕ))) (i : ℕ) (word : Bor (List ℕ)) → i < length words → word ≡ get_or words i word → more ≡ out ++ (codes " " ++ word.now)
     → more ++ flat_map (λ w. codes " " ++ w.now) (drop (i + 1) words) ≡ out ++ flat_map (λ w. codes " " ++ w.now) (drop i words)
 next_word out more words i word lt at is =

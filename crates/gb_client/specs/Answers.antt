@@ -1,4 +1,4 @@
--- What a reply comes to.
+-- The exit statuses of the client, and the texts of replies.
 use Rattle.std.specs.Prelude.{ℕ, List, [], ◌∷◌, ◌++◌, codes, decimal, length, map}
 use Rattle.std.specs.List.{flat_map}
 use Rattle.gb_types.specs.declared.{entry.Entry.Entry, refusal.Refusal.Refusal, reply.Reply.Reply, reply.Reply.TheVariants.Refused}
@@ -12,7 +12,7 @@ abbrev pub reply_status : Reply → ℕ
 reply_status (Refused why) = 1
 reply_status other = 0
 
--- the exit status for a fault: 2 for wrong words or secrets or a text that is no exported log, 4 where it was asked and no reply came, else 3
+-- the exit status for a fault: 2 for wrong words or secrets or a text that is no exported log, 4 if a request got no reply, else 3
 abbrev pub status_of_fault : ClientFault → ℕ
 status_of_fault Words = 2
 status_of_fault Missing = 2
@@ -24,7 +24,7 @@ status_of_fault NoReply = 3
 status_of_fault Output = 3
 status_of_fault OutOfMemory = 3
 
--- the entries of a log in lines, with payloads in digits
+-- the entries of a log on lines, with payloads in digits
 abbrev pub lines_of : List Entry → List ℕ
 lines_of = flat_map (λ e. entry_text e ++ 10 ∷ [])
 

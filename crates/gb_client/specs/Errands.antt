@@ -1,4 +1,4 @@
--- Which nodes a client may ask.
+-- The nodes that a client may ask.
 use Rattle.std.specs.Prelude.{List, [], ◌∷◌}
 use Rattle.gb_types.specs.declared.node.NodeId.{NodeId}
 use Rattle.gb_client.specs.declared.task.Errand.{Errand}

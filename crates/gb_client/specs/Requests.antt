@@ -1,4 +1,4 @@
--- What a client asks.
+-- The requests of a client.
 use Rattle.std.specs.Prelude.{◌≡◌, ℕ, List, ◌∷◌, ◌++◌, codes, decimal, drop}
 use Rattle.std.specs.List.{flat_map}
 use Rattle.hex.specs.Hex.{encode_lower}
@@ -14,21 +14,21 @@ use Rattle.gb_session.specs.Head.{head_word}
 abbrev pub body_of : Head → List ℕ → List (List ℕ) → List ℕ
 body_of head token words = head_word head ++ codes " " ++ encode_lower token ++ flat_map (λ word. codes " " ++ word) words
 
--- a fetch with `await` in the place of its first word, and how many milliseconds are waited behind the others
+-- a fetch with `await` as its first word, and with the longest wait in milliseconds as its last
 abbrev pub await_of : List ℕ → ℕ → List ℕ
 await_of fetch wait = codes "await" ++ drop 5 fetch ++ codes " " ++ decimal wait
 
--- words that begin with a tenant ask for what the tenant may do
+-- words that begin with a tenant need the right of that tenant
 abbrev pub NeedsTenant : Need → List (List ℕ) → Type 0
 NeedsTenant need words = (tenant : ℕ) × (rest : List (List ℕ)) × (need ≡ Tenant tenant) × IsShort tenant × (words ≡ decimal tenant ∷ rest)
 
--- words that begin with a tenant and a group ask for what the group's member at the node may do, which is the same for all generations of the group
+-- words that begin with a tenant and a group need the right of the group's member at the node, the same for all generations of the group
 abbrev pub NeedsMember : NodeId → Need → List (List ℕ) → Type 0
 NeedsMember node need words =
     (address : Addr) × (rest : List (List ℕ)) × (need ≡ Member address.tenant address.group node) × IsShort address.tenant × IsGroup address
     × (words ≡ decimal address.tenant ∷ group_word address ∷ rest)
 
--- what the token of a request with this head and these words at a node is asked for
+-- the need of the token of a request with this head and these words at a node
 abbrev pub Needs : Head → NodeId → Need → List (List ℕ) → Type 0
 Needs heads.Tenant node need words = need ≡ Admin
 Needs (heads.Group Say) node need words = NeedsMember node need words

@@ -1,4 +1,4 @@
--- The keys and the token that a client is given.
+-- The keys and the token of a client.
 use Rattle.std.specs.Prelude.{◌≡◌, ◌≤◌, ◌<◌, ◌+◌, ℕ, ◌==◌, List, codes, length, drop, take, fold, nat_eq, Option, Some, None, if◌then◌else◌, option_map, option_and_then}
 use Rattle.std.specs.List.{starts_with, slice_split}
 use Rattle.gb_spelling.specs.TokenWord.{token_of as word_token}
@@ -16,14 +16,14 @@ with_line s line =
     else (if starts_with nat_eq line (codes "token ") then option_map (λ token. record s { token = Some token }) (word_token (drop 6 line))
     else None)))
 
--- the secrets with those of one more line, where there are any
+-- the secrets with those of one more line, if there are any
 abbrev pub with_next : Option Secrets → List ℕ → Option Secrets
 with_next found line = option_and_then (λ s. with_line s line) found
 
 abbrev pub no_secrets : Secrets
 no_secrets = record { admin = None; tenant = None; token = None }
 
--- the secrets of lines, one by one; none where a line is bad
+-- the secrets of lines, one by one; none if a line is bad
 abbrev pub secrets_in : List (List ℕ) → Option Secrets
 secrets_in lines = fold with_next (Some no_secrets) lines
 
@@ -35,18 +35,18 @@ lines_in text = slice_split (λ byte. byte == 10) text
 abbrev pub secrets_of : List ℕ → Option Secrets
 secrets_of text = secrets_in (lines_in text)
 
--- the first bad line stands at this place: the lines before it have secrets, and with it there are none
+-- the first bad line has this index: the lines before it have secrets, and with it there are none
 abbrev pub IsBadPlace : List (List ℕ) → ℕ → Type 0
 IsBadPlace lines place = (before : Secrets) × (secrets_in (take place lines) ≡ Some before) × (secrets_in (take (place + 1) lines) ≡ None)
 
--- why a text is refused as one of secrets: it is too long, or its line of this number, from 1, is the first bad one; lack of memory says nothing of it
+-- the reason why a text of secrets is refused: it is too long, or line `number`, from 1, is the first bad one; or lack of memory
 abbrev pub IsSecretsFault : List ℕ → SecretsFault → Type 0
 IsSecretsFault text Unread = ⊥
 IsSecretsFault text TooLong = 65536 < length text
 IsSecretsFault text (Line number) = (length text ≤ 65536) × ((place : ℕ) × (number ≡ place + 1) × IsBadPlace (lines_in text) place)
 IsSecretsFault text OutOfMemory = Unit {0}
 
--- the exit status of the client where secrets are refused
+-- the exit status of the client if secrets are refused
 abbrev pub secrets_status : SecretsFault → ℕ
 secrets_status Unread = 2
 secrets_status TooLong = 2
@@ -59,7 +59,7 @@ key_for s Admin = s.admin
 key_for s (Tenant tenant) = s.tenant
 key_for s (Member tenant group node) = s.tenant
 
--- the token for a need: the one that was given, or else the one under the key
+-- the token for a need: the one that is given, or else the one under the key
 abbrev pub token_for : Secrets → Need → Option (List ℕ)
 token_for s need = given s.token
   where

@@ -1,4 +1,4 @@
-//! Replies of a node, as a client reads them: which reply a text is, and the exit status for it.
+//! Replies of a node, as a client reads them: the reply that a text spells, and the exit status for it.
 ghost use Rattle.std.specs.Prelude.{◌≡◌, ◌==◌, ◌<◌, ◌^◌, ℕ, List, true, false, decimal, All, IfOk, IfSome, IfNone, map};
 ghost use Rattle.std.specs.List.{slice_split};
 ghost use Rattle.gb_types.specs.declared.{limits.TheConstants.NODES, entry.Entry.Entry as TheEntry, refusal.Refusal.Refusal as TheRefusal, reply.Reply.Reply as TheReply};
@@ -26,7 +26,7 @@ pub fn status_of(reply: &Reply) -> u8
     }
 }
 
-// The refusal with this number.
+// Returns the refusal with this number. `None` if there is none.
 fn refusal_numbered(number: u64) -> Option<Refusal>
     ensures { (why : TheRefusal) → number ≡ refusal_number why → result ≡ Some why }
 {
@@ -51,7 +51,7 @@ fn refusal_numbered(number: u64) -> Option<Refusal>
     }
 }
 
-// The only refusal whose words these may be, by its number.
+// Returns the only refusal whose words these may be, by its number. `None` if there is none.
 fn refusal_like(words: &[&[u8]]) -> Option<Refusal>
     ensures { (why : TheRefusal) → map (λ word. word.now) words.now ≡ refusal_words why → result ≡ Some why }
 {
@@ -71,7 +71,7 @@ fn is_text_of(alloc: Global, text: &[u8], reply: &Reply) -> Result<bool, OutOfMe
     Ok(spelling.as_slice() == text)
 }
 
-// Returns the refusal whose text this is, or None if it is none's.
+// Returns the refusal whose text this is. `None` if it is the text of no refusal.
 fn read_refusal(alloc: Global, text: &[u8]) -> Result<Option<Refusal>, OutOfMemory>
     ensures some { IfOk result (λ found. IfSome found (λ why. text.now ≡ reply_spelling (Reply.Refused why))) }
     ensures none { IfOk result (λ found. IfNone found ((why : TheRefusal) → text.now ≡ reply_spelling (Reply.Refused why) → ⊥)) }
@@ -96,7 +96,7 @@ fn is_word_of(alloc: Global, word: &[u8], payload: &[u8]) -> Result<bool, OutOfM
     Ok(written.as_slice() == word)
 }
 
-// Returns the bytes that a word of a log spells, in lower case, or None if it spells none.
+// Returns the bytes that a word of a log spells, in lower case. `None` if it spells none.
 fn read_written(alloc: Global, word: &[u8]) -> Result<Option<Payload>, OutOfMemory>
     ensures some { IfOk result (λ found. IfSome found (λ payload. word.now ≡ payload_word payload)) }
     ensures none { IfOk result (λ found. IfNone found ((payload : List ℕ) → IsBytes payload → word.now ≡ payload_word payload → ⊥)) }
@@ -117,7 +117,7 @@ fn split_colons(alloc: Global, word: &[u8]) -> Result<Vec<&[u8]>, OutOfMemory>
     Ok(word.split(|byte| *byte == b':').collect(alloc)?)
 }
 
-// Returns the node whose number a word spells, or None if it spells none.
+// Returns the node whose number a word spells. `None` if it spells none.
 fn read_node(word: &[u8]) -> Option<NodeId>
     ensures some { IfSome result (λ node. word.now ≡ decimal node.number) }
     ensures none { IfNone result ((n : ℕ) → n < NODES → word.now ≡ decimal n → ⊥) }
@@ -126,7 +126,7 @@ fn read_node(word: &[u8]) -> Option<NodeId>
     Some(NodeId::new(number as u8))
 }
 
-// Returns the entry whose three parts these are, or None if they are none's.
+// Returns the entry whose three parts these are. `None` if they are the parts of no entry.
 fn entry_of(alloc: Global, parts: &[&[u8]]) -> Result<Option<Entry>, OutOfMemory>
     ensures some { IfOk result (λ found. IfSome found (λ entry. map (λ part. part.now) parts.now ≡ parts_of entry)) }
     ensures none { IfOk result (λ found. IfNone found ((entry : TheEntry) → FitsEntry entry
@@ -151,7 +151,7 @@ fn entry_of(alloc: Global, parts: &[&[u8]]) -> Result<Option<Entry>, OutOfMemory
     }))
 }
 
-// Returns the entry that a word of a log spells, `ORIGIN:SEQ:PAYLOAD`, or None if it spells none.
+// Returns the entry that a word of a log spells, `ORIGIN:SEQ:PAYLOAD`. `None` if it spells none.
 fn read_entry(alloc: Global, word: &[u8]) -> Result<Option<Entry>, OutOfMemory>
     ensures some { IfOk result (λ found. IfSome found (λ entry. word.now ≡ entry_text entry)) }
     ensures none { IfOk result (λ found. IfNone found ((entry : TheEntry) → FitsEntry entry → word.now ≡ entry_text entry → ⊥)) }
@@ -160,7 +160,7 @@ fn read_entry(alloc: Global, word: &[u8]) -> Result<Option<Entry>, OutOfMemory>
     entry_of(alloc, parts.as_slice())
 }
 
-// Returns the entries that words spell, one each, or None if one spells none.
+// Returns the entries that the words spell, one each. `None` if one of them spells none.
 fn read_entries(alloc: Global, words: &[&[u8]]) -> Result<Option<Entries>, OutOfMemory>
     ensures some { IfOk result (λ found. IfSome found (λ entries. map entry_text entries ≡ map (λ word. word.now) words.now)) }
     ensures none { IfOk result (λ found. IfNone found ((entries : List TheEntry) → All FitsEntry entries
@@ -176,7 +176,7 @@ fn read_entries(alloc: Global, words: &[&[u8]]) -> Result<Option<Entries>, OutOf
     Ok(Some(entries))
 }
 
-// Returns the entries of the log whose words these are, or None if they are none's.
+// Returns the entries of the log whose words these are. `None` if they are the words of no log.
 fn log_of(alloc: Global, words: &[&[u8]]) -> Result<Option<Entries>, OutOfMemory>
     ensures some { IfOk result (λ found. IfSome found (λ entries. map (λ word. word.now) words.now ≡ log_words entries)) }
     ensures none { IfOk result (λ found. IfNone found ((entries : List TheEntry) → FitsReply (Reply.Log entries)
@@ -191,7 +191,7 @@ fn log_of(alloc: Global, words: &[&[u8]]) -> Result<Option<Entries>, OutOfMemory
     read_entries(alloc, words)
 }
 
-// Returns the entries of the log whose text this is, or None if it is none's.
+// Returns the entries of the log whose text this is. `None` if it is the text of no log.
 fn read_log(alloc: Global, text: &[u8]) -> Result<Option<Entries>, OutOfMemory>
     ensures some { IfOk result (λ found. IfSome found (λ entries. text.now ≡ reply_spelling (Reply.Log entries))) }
     ensures none { IfOk result (λ found. IfNone found ((entries : List TheEntry) → FitsReply (Reply.Log entries)
@@ -201,7 +201,7 @@ fn read_log(alloc: Global, text: &[u8]) -> Result<Option<Entries>, OutOfMemory>
     log_of(alloc, words.as_slice())
 }
 
-// Returns the number of `said SEQ`, or None if the text is anything else.
+// Returns the number in `said SEQ`. `None` if the text is anything else.
 fn read_said(text: &[u8]) -> Option<u16>
     ensures some { IfSome result (λ seq. text.now ≡ reply_spelling (Reply.Said seq)) }
     ensures none { IfNone result ((seq : ℕ) → seq < 2 ^ 16 → text.now ≡ reply_spelling (Reply.Said seq) → ⊥) }

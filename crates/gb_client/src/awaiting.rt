@@ -14,7 +14,7 @@ use std::alloc::Global;
 // The bytes of the word `fetch`.
 const FETCH: usize = 5;
 
-// Returns the body of a fetch with `await` in the place of its first word, and how long is waited behind the others.
+// Returns the body of a fetch with `await` as its first word, and with the longest wait as its last.
 fn await_body(alloc: Global, fetch: &[u8], wait: u32) -> Result<Vec<u8>, OutOfMemory>
     ensures { IfOk result (λ body. body.items ≡ await_of fetch.now wait) }
 {
@@ -25,7 +25,7 @@ fn await_body(alloc: Global, fetch: &[u8], wait: u32) -> Result<Vec<u8>, OutOfMe
     Ok(body)
 }
 
-// Returns what the body of a message awaits, or None if it awaits nothing.
+// Returns the fetches that the body of a message awaits. `None` if it awaits none.
 fn awaited_by(alloc: Global, body: &[u8]) -> Result<Option<Awaited>, OutOfMemory>
     ensures { IfOk result (λ found. IfSome found (IsAwaitText body.now)) }
 {

@@ -1,4 +1,4 @@
-//! Why the words of a request spell no request: which word is wrong, and what it takes.
+//! The reason why the words of a request spell no request: the wrong word, and the words that are right there.
 use crate::task::Asked;
 use gb_session::Head;
 use gb_spelling::CommandHead;
@@ -9,7 +9,7 @@ use gb_spelling::request_words::{read_group, read_u16, read_u32};
 use gb_types::OutOfMemory;
 use std::alloc::Global;
 
-/// What a word takes.
+/// The words that are right in a slot.
 #[derive(Clone, Copy, PartialEq, Eq)]
 pub enum Takes {
     /// A number of two bytes.
@@ -26,7 +26,7 @@ pub enum Takes {
     Text,
 }
 
-/// A word behind a subcommand: its name, and what it takes.
+/// A slot for a word behind a subcommand: its name, and the words that are right there.
 #[derive(Clone, Copy)]
 pub struct Slot {
     pub name: &'static str,
@@ -155,7 +155,7 @@ static FETCH: &[Slot] = &[
     },
 ];
 
-// The words of a request.
+// Returns the slots for the words of a request.
 fn slots_of(head: Head, is_text: bool) -> &'static [Slot] {
     match head {
         Head::Tenant => TENANT,
@@ -167,7 +167,7 @@ fn slots_of(head: Head, is_text: bool) -> &'static [Slot] {
     }
 }
 
-// Returns true if a word is what its place takes.
+// Returns true if a word is right in its slot.
 fn is_right(alloc: Global, takes: Takes, word: &[u8]) -> Result<bool, OutOfMemory> {
     Ok(match takes {
         Takes::Short => read_u16(word).is_some(),
@@ -180,7 +180,7 @@ fn is_right(alloc: Global, takes: Takes, word: &[u8]) -> Result<bool, OutOfMemor
     })
 }
 
-// What a word takes, in words.
+// Returns the description of the words that are right in a slot.
 fn takes_words(takes: Takes) -> &'static str {
     match takes {
         Takes::Short => "a number from 0 to 65535 without leading zeros",
@@ -197,7 +197,7 @@ fn takes_words(takes: Takes) -> &'static str {
     }
 }
 
-// Returns the place of the first word that is not what it takes, or None if all are.
+// Returns the index of the first wrong word. `None` if all are right.
 fn first_wrong(
     alloc: Global,
     slots: &[Slot],
@@ -217,7 +217,7 @@ fn put(out: &mut Vec<u8>, text: &str) -> Result<(), OutOfMemory> {
     Ok(())
 }
 
-// Says which word is wrong, and what it takes.
+// Appends a sentence that names the wrong word, and the words that are right there.
 fn put_wrong(out: &mut Vec<u8>, slot: Slot, word: &str) -> Result<(), OutOfMemory> {
     put(out, slot.name)?;
     put(out, " is '")?;
@@ -226,7 +226,7 @@ fn put_wrong(out: &mut Vec<u8>, slot: Slot, word: &str) -> Result<(), OutOfMemor
     put(out, takes_words(slot.takes))
 }
 
-// Says why words that are each what they take spell no request.
+// Appends a sentence about words that are each right and spell no request.
 fn put_whole(out: &mut Vec<u8>, head: Head) -> Result<(), OutOfMemory> {
     put(
         out,
@@ -239,9 +239,9 @@ fn put_whole(out: &mut Vec<u8>, head: Head) -> Result<(), OutOfMemory> {
     )
 }
 
-/// Returns a sentence, without a line feed, that says why the words of `asked` spell no request. It names the first word that is wrong,
-/// and what that word takes. If none is wrong by itself, it says of a say that the payload is too long, and of any other request that its
-/// words spell none. `Err` if memory runs out.
+/// Returns a sentence, without a line feed, with the reason why the words of `asked` spell no request. It names the first wrong word,
+/// and the words that are right there. If no word is wrong by itself, it reports of a say that the payload is too long, and of any other
+/// request that its words spell none. `Err` if memory runs out.
 pub fn blame(alloc: Global, asked: &Asked<'_>) -> Result<Vec<u8>, OutOfMemory> {
     let mut out = Vec::new(alloc);
     let slots = slots_of(asked.head, asked.is_text);

@@ -13,7 +13,7 @@ pub const REPLY: u32 = 262_144;
 
 const _: () = prove!(REPLY == 262_144);
 
-// Why a message was not carried: the time for it passed, or the connection failed.
+// Returns the reason why a message was not carried: the time for it passed, or the connection failed.
 fn fault_of(error: &Error) -> ClientFault
     ensures { (result ≡ ClientFault.Late) ⊎ (result ≡ ClientFault.Lost) }
 {
@@ -23,7 +23,7 @@ fn fault_of(error: &Error) -> ClientFault
     }
 }
 
-// Writes bytes.
+// Writes these bytes.
 fn put<W: Write>(writer: &mut W, bytes: &[u8]) -> Result<(), ClientFault>
     ensures ok { OnOk result (Appends (W.contents writer.old) (W.contents writer.new) bytes.now) }
     ensures err { IfErr result (λ why. (why ≡ ClientFault.Late) ⊎ (why ≡ ClientFault.Lost)) }
@@ -34,7 +34,7 @@ fn put<W: Write>(writer: &mut W, bytes: &[u8]) -> Result<(), ClientFault>
     }
 }
 
-// Reads bytes into a space, which they fill.
+// Reads bytes until the space is full.
 fn fill<R: Read>(reader: &mut R, space: &mut [u8]) -> Result<(), ClientFault>
     ensures ok { OnOk result (Consumes (R.remaining reader.old) (R.remaining reader.new) space.new) }
     ensures err { IfErr result (λ why. (why ≡ ClientFault.Late) ⊎ (why ≡ ClientFault.Lost)) }
@@ -61,7 +61,7 @@ pub fn send<W: Write>(writer: &mut W, body: &[u8]) -> Result<(), ClientFault>
     }
 }
 
-// The number that four bytes are.
+// Returns the number that four bytes spell, the high byte first.
 fn number_of(head: &[u8]) -> u32
     requires { length head.now ≡ 4 }
     ensures { result ≡ from_be_bytes w32 (take 4 head.now) }
@@ -74,7 +74,7 @@ fn number_of(head: &[u8]) -> u32
     }
 }
 
-// The number that four bytes are.
+// Returns the length that four bytes spell.
 fn length_of(head: &[u8]) -> u32
     requires { length head.now ≡ 4 }
     ensures { to_be_bytes w32 result ≡ head.now }
@@ -82,7 +82,7 @@ fn length_of(head: &[u8]) -> u32
     number_of(head)
 }
 
-// Reads the length of a message.
+// Reads the length of a message, and returns it.
 fn receive_length<R: Read>(reader: &mut R) -> Result<u32, ClientFault>
     ensures { IfOk result (λ length. Consumes (R.remaining reader.old) (R.remaining reader.new) (to_be_bytes w32 length)) }
 {
@@ -91,7 +91,7 @@ fn receive_length<R: Read>(reader: &mut R) -> Result<u32, ClientFault>
     Ok(length_of(&head))
 }
 
-// Reads a body of `length` bytes.
+// Reads a body of `length` bytes, and returns it.
 fn receive_body<R: Read>(alloc: Global, reader: &mut R, length: u32) -> Result<Vec<u8>, ClientFault>
     ensures bytes { IfOk result (λ body. Consumes (R.remaining reader.old) (R.remaining reader.new) body.items) }
     ensures len { IfOk result (λ body. vec_len body ≡ length) }

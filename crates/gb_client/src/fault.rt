@@ -1,4 +1,4 @@
-//! Why the client gives up.
+//! The reasons why the client fails.
 ghost use Rattle.std.specs.Prelude.{◌≡◌};
 ghost use Rattle.gb_client.specs.Answers.{status_of_fault};
 
@@ -6,7 +6,7 @@ use gb_types::OutOfMemory;
 use std::alloc::{AllocError, AllocFailed};
 use thiserror::Error;
 
-/// Why nothing was asked, or no reply came, or none was shown.
+/// The reason why nothing was asked, or no reply came, or none was shown.
 #[derive(Clone, Copy, Debug, PartialEq, Eq, Error)]
 pub enum ClientFault {
     /// The words behind the subcommand spell no request, or no token can be made of them.
@@ -15,7 +15,7 @@ pub enum ClientFault {
     /// A key or token that is needed is not among the secrets.
     #[error("a key that is needed is not among the secrets")]
     Missing,
-    /// What is to be imported is not the whole text of an exported log.
+    /// The text to be imported is not the whole text of an exported log.
     #[error("standard input is not the whole text of an exported log, whose last line is end K for K entries; nothing was said")]
     NoExport,
     /// There is no connection to the node, so nothing was asked.
@@ -27,10 +27,10 @@ pub enum ClientFault {
     /// The reply was not there in time, so the outcome is unknown.
     #[error("no reply in time, so the outcome is unknown: fetch before you ask again")]
     Late,
-    /// What came is no reply to what was asked.
+    /// The bytes that came are no reply to the request.
     #[error("what came is no reply to what was asked")]
     NoReply,
-    /// What there was to print could not be written.
+    /// The output could not be written.
     #[error("standard output could not be written")]
     Output,
     /// A request for memory was refused.
@@ -38,9 +38,9 @@ pub enum ClientFault {
     OutOfMemory,
 }
 
-/// Returns the exit status of the client for a fault. 2: the words are wrong, a secret is missing, or what is to be imported is no
-/// exported log. 3: there was no connection, what came is no reply to the request, output could not be written, or memory ran out. 4: the
-/// request was sent, and its outcome is unknown.
+/// Returns the exit status of the client for a fault. 2: the words are wrong, a secret is missing, or the text to be imported is no
+/// exported log. 3: there was no connection, the bytes that came are no reply to the request, output could not be written, or memory ran
+/// out. 4: the request was sent, and its outcome is unknown.
 pub fn fault_status(fault: ClientFault) -> u8
     ensures { result ≡ status_of_fault fault }
 {

@@ -1,7 +1,6 @@
-//! A client of the service, for people and scripts: from what it is told to do to a request, from a request to its reply,
-//! from a reply to what is printed and to an exit status. It holds no state, opens no socket and reads no command line:
-//! gb_client_words does the last, and the program `gb_ctl` the rest. Read `request::request_text` first, then
-//! `task::Task`.
+//! A client of the service, for people and scripts: it makes requests from tasks, reads their replies, and returns the text to print and
+//! an exit status. It holds no state, opens no socket and reads no command line: gb_client_words reads the command line, and
+//! gb_client_run opens the sockets. Read `request::request_text` first, then `task::Task`.
 #![tactic(auto)]
 
 pub mod answer;

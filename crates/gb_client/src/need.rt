@@ -1,4 +1,4 @@
-//! Which right the token of a request must be for.
+//! The right that the token of a request must be for.
 ghost use Rattle.std.specs.Prelude.{◌≡◌, ◌↔◌, Some, map};
 ghost use Rattle.gb_cap.specs.declared.token.Need.{Need as TheNeed};
 ghost use Rattle.gb_session.specs.declared.head.Head.TheVariants.{Group};
@@ -10,7 +10,7 @@ use gb_spelling::CommandHead;
 use gb_spelling::request_words::{read_address, read_u16};
 use gb_types::NodeId;
 
-// Words that begin with a tenant.
+// Returns the need of words that begin with a tenant. `None` if they do not.
 fn tenant_need(words: &[&[u8]]) -> Option<Need>
     ensures { (need : TheNeed) → (result ≡ Some need) ↔ NeedsTenant need (map (λ word. word.now) words.now) }
 {
@@ -21,7 +21,7 @@ fn tenant_need(words: &[&[u8]]) -> Option<Need>
     Some(Need::Tenant(tenant))
 }
 
-// Words that begin with a tenant and a group.
+// Returns the need of words that begin with a tenant and a group. `None` if they do not.
 fn member_need(node: NodeId, words: &[&[u8]]) -> Option<Need>
     ensures { (need : TheNeed) → (result ≡ Some need) ↔ NeedsMember node need (map (λ word. word.now) words.now) }
 {
@@ -36,7 +36,7 @@ fn member_need(node: NodeId, words: &[&[u8]]) -> Option<Need>
     })
 }
 
-// The need of a command in a group.
+// Returns the need of a command in a group. `None` if its words do not begin as they should.
 fn command_need(head: CommandHead, node: NodeId, words: &[&[u8]]) -> Option<Need>
     ensures { (need : TheNeed) → (result ≡ Some need) ↔ Needs (Group head) node need (map (λ word. word.now) words.now) }
 {

@@ -1,4 +1,4 @@
-//! What an administrator asks of a node, as the bodies of messages, and what the node answers, as it is read.
+//! The bodies of the messages of an administrator to a node, and the reading of the node's answers.
 ghost use Rattle.std.specs.Prelude.{◌≡◌, ◌++◌, ◌≤◌, codes, decimal, vec_len, IfOk};
 ghost use Rattle.hex.specs.Hex.{encode_lower};
 ghost use Rattle.gb_session.specs.declared.grammar.TheConstants.{BODY};
@@ -9,12 +9,12 @@ use gb_spelling::words::split_words;
 use gb_types::{Addr, OutOfMemory};
 use std::alloc::Global;
 
-/// How many groups a page of a list has at most.
+/// The most groups of a page of a list.
 pub const ROWS: u32 = 64;
 
 const _: () = prove!(ROWS == 64);
 
-// A word and a token behind it.
+// Returns the body of a word and a token behind it.
 fn with_token(alloc: Global, word: &[u8], token: &[u8; 32]) -> Result<Vec<u8>, OutOfMemory>
     ensures { IfOk result (λ body. body.items ≡ word.now ++ codes " " ++ encode_lower token.now) }
 {
@@ -57,7 +57,7 @@ pub fn list_body(alloc: Global, token: &[u8; 32], from: u32) -> Result<Vec<u8>, 
 #[derive(Clone, Copy)]
 pub struct Row<'a> {
     pub address: Addr,
-    /// What it was made with: KIND, MEMBERS, MSGS, BYTES and WINDOW; of a dropped group `-`, `-` and 0.
+    /// The words that made it: KIND, MEMBERS, MSGS, BYTES and WINDOW; of a dropped group `-`, `-` and 0.
     pub spec: [&'a [u8]; 5],
     /// `made`, `open`, `shut` or `dropped`.
     pub phase: &'a [u8],
@@ -111,7 +111,7 @@ pub fn read_row<'a>(alloc: Global, text: &'a [u8]) -> Result<Option<Row<'a>>, Ou
     }))
 }
 
-// Returns the rows that words spell, one each, or None if one spells none.
+// Returns the rows that the words spell, one each. `None` if one of them spells none.
 fn read_rows<'a>(alloc: Global, words: &[&'a [u8]]) -> Result<Option<Vec<Row<'a>>>, OutOfMemory> {
     let mut rows = Vec::new(alloc);
     for word in words {

@@ -33,7 +33,7 @@ fn put_words(out: &mut Vec<u8>, words: &[&[u8]]) -> Result<(), OutOfMemory>
     Ok(())
 }
 
-// A head, a token and the words behind them, with single spaces between them.
+// Returns the body of a head, a token and the words behind them, with single spaces between them.
 #[tactic(auto, using(crate::proofs::RequestLemmas::words_behind))]
 fn body(
     alloc: Global,

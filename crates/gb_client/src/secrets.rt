@@ -1,4 +1,4 @@
-//! The secrets that a client is given: keys of which it makes tokens, or a token.
+//! The secrets of a client: keys from which it makes tokens, or a token.
 ghost use Rattle.std.specs.Prelude.{◌≡◌, ◌≤◌, ◌<◌, None, Some, IfOk, IfErr, length, map};
 
 use crate::fault::ClientFault;
@@ -9,14 +9,14 @@ use gb_types::OutOfMemory;
 use std::alloc::Global;
 use thiserror::Error;
 
-/// What a client knows to make tokens of, or to give as a token.
+/// The keys from which a client makes tokens, or the token that it sends.
 #[derive(Clone, Copy)]
 pub struct Secrets {
     /// The administrator's key.
     pub admin: Option<[u8; 32]>,
     /// The tenant's key.
     pub tenant: Option<[u8; 32]>,
-    /// The token to give, whatever is asked.
+    /// The token that it sends with every request.
     pub token: Option<[u8; 32]>,
 }
 
@@ -26,7 +26,7 @@ pub const SECRETS: usize = 65_536;
 // Contracts name this value.
 const _: () = prove!(SECRETS == 65_536);
 
-/// Why secrets are refused.
+/// The reason why secrets are refused.
 #[derive(Clone, Copy, Debug, PartialEq, Eq, Error)]
 pub enum SecretsFault {
     /// Their text cannot be read.
@@ -56,7 +56,7 @@ impl From<OutOfMemory> for SecretsFault {
 
 ghost use Rattle.gb_client.specs.Secrets.{lines_in, with_line, secrets_in, secrets_of, secrets_status, token_for, IsBadPlace, IsSecretsFault};
 
-// The secrets with those of one more line. None where the line is bad.
+// Returns the secrets with those of one more line. `None` if the line is bad.
 fn add_line(secrets: Secrets, line: &[u8]) -> Option<Secrets>
     ensures { result ≡ with_line secrets line.now }
 {
@@ -79,7 +79,7 @@ fn add_line(secrets: Secrets, line: &[u8]) -> Option<Secrets>
     None
 }
 
-// The secrets of some lines. `Err` with the place of the first bad one.
+// Returns the secrets of these lines. `Err` with the index of the first bad line.
 fn add_lines(lines: &[&[u8]]) -> Result<Secrets, usize>
     ensures ok { IfOk result (λ secrets. secrets_in (map (λ line. line.now) lines.now) ≡ Some secrets) }
     ensures bad { IfErr result (IsBadPlace (map (λ line. line.now) lines.now)) }
@@ -99,7 +99,7 @@ fn add_lines(lines: &[&[u8]]) -> Result<Secrets, usize>
     Ok(secrets)
 }
 
-// The lines of a text, without their line feeds.
+// Returns the lines of a text, without their line feeds.
 fn split_lines(alloc: Global, text: &[u8]) -> Result<Vec<&[u8]>, OutOfMemory>
     ensures { IfOk result (λ lines. map (λ line. line.now) lines.items ≡ lines_in text.now) }
 {
@@ -108,7 +108,7 @@ fn split_lines(alloc: Global, text: &[u8]) -> Result<Vec<&[u8]>, OutOfMemory>
 
 /// Returns the secrets that `text` has, in lines `admin KEY`, `tenant KEY` and `token TOKEN`, each with 64 hexadecimal digits. Empty
 /// lines are skipped, and of two lines with one word the later counts. `Err` with `TooLong` if the text has more than 65,536 bytes, with
-/// `Line` if another line stands there, and with `OutOfMemory`.
+/// `Line` if it has another line, and with `OutOfMemory`.
 pub fn read_secrets(alloc: Global, text: &[u8]) -> Result<Secrets, SecretsFault>
     ensures ok { IfOk result (λ secrets. (length text.now ≤ 65536) × (secrets_of text.now ≡ Some secrets)) }
     ensures fault { IfErr result (IsSecretsFault text.now) }

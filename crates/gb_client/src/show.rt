@@ -10,7 +10,7 @@ use gb_spelling::reply_text::put_reply;
 use gb_types::{Entry, OutOfMemory, Reply};
 use std::alloc::Global;
 
-// Whether some bytes are text without control characters, so that a terminal takes none of them as a command.
+// Returns true if the bytes are text without control characters, so that a terminal takes none of them as a command.
 fn is_plain(bytes: &[u8]) -> bool {
     match str::from_utf8(bytes) {
         Ok(text) => text.chars().all(|c| !c.is_control()),
@@ -18,7 +18,7 @@ fn is_plain(bytes: &[u8]) -> bool {
     }
 }
 
-// Appends a payload: in quotes, where it is to be text and is; else in digits.
+// Appends a payload: in quotes if `is_text` and it is plain text, and otherwise in digits.
 fn put_shown(out: &mut Vec<u8>, payload: &[u8], is_text: bool) -> Result<(), OutOfMemory>
     ensures { is_text ≡ false → OnOk result (out.new.items ≡ out.old.items ++ payload_word payload.now) }
 {
@@ -31,7 +31,7 @@ fn put_shown(out: &mut Vec<u8>, payload: &[u8], is_text: bool) -> Result<(), Out
     Ok(())
 }
 
-// Appends an entry in a line of its own.
+// Appends an entry on a line of its own.
 fn put_entry(out: &mut Vec<u8>, entry: &Entry, is_text: bool) -> Result<(), OutOfMemory>
     ensures { is_text ≡ false → OnOk result (out.new.items ≡ out.old.items ++ (entry_text entry.now ++ 10 ∷ [])) }
 {
@@ -44,8 +44,8 @@ fn put_entry(out: &mut Vec<u8>, entry: &Entry, is_text: bool) -> Result<(), OutO
     Ok(())
 }
 
-/// Returns a line `ORIGIN:SEQ:PAYLOAD` for each entry. If `is_text`, a payload that is UTF-8 without control characters stands in quotes;
-/// each other payload stands in hexadecimal digits. `Err` if memory runs out.
+/// Returns a line `ORIGIN:SEQ:PAYLOAD` for each entry. If `is_text`, a payload that is UTF-8 without control characters is in quotes;
+/// each other payload is in hexadecimal digits. `Err` if memory runs out.
 pub fn entry_lines(alloc: Global, entries: &[Entry], is_text: bool) -> Result<Vec<u8>, OutOfMemory>
     ensures { is_text ≡ false → IfOk result (λ lines. lines.items ≡ lines_of entries.now) }
 {
@@ -56,7 +56,7 @@ pub fn entry_lines(alloc: Global, entries: &[Entry], is_text: bool) -> Result<Ve
     Ok(out)
 }
 
-// The text of a reply, with a line feed.
+// Returns the text of a reply, with a line feed.
 fn plain_line(alloc: Global, reply: &Reply) -> Result<Vec<u8>, OutOfMemory>
     ensures { IfOk result (λ line. line.items ≡ reply_spelling reply.now ++ 10 ∷ []) }
 {
@@ -66,7 +66,7 @@ fn plain_line(alloc: Global, reply: &Reply) -> Result<Vec<u8>, OutOfMemory>
     Ok(out)
 }
 
-// How many entries a log has, and each in a line of its own, with payloads as text.
+// Returns the line with the number of entries of a log, and a line for each entry, with payloads as text.
 fn log_lines(alloc: Global, entries: &[Entry]) -> Result<Vec<u8>, OutOfMemory> {
     let mut out = Vec::from_slice(alloc, b"log ")?;
     put_number(&mut out, entries.len() as u64)?;

@@ -1,4 +1,4 @@
-//! What a client is told to do, and the bodies of the requests that this takes.
+//! The tasks of a client, and the bodies of their requests.
 ghost use Rattle.std.specs.Prelude.{◌≡◌, ◌≤◌, ◌<◌, ◌+◌, ℕ, List, [], ◌∷◌, Some, codes, decimal, map, vec_len, IfOk, IfSome, IfNone};
 ghost use Rattle.hex.specs.Hex.{encode_lower};
 ghost use Rattle.gb_spelling.specs.Common.{payload_word};
@@ -19,12 +19,12 @@ use gb_spelling::payload_word::put_payload;
 use gb_types::{Addr, NodeId, OutOfMemory};
 use std::alloc::Global;
 
-/// A request as it is told: a head, and the words behind it, without the token and without a new tenant's key.
+/// A request in the words of a command line: a head, and the words behind it, without the token and without a new tenant's key.
 #[derive(Drop)]
 pub struct Asked<'a> {
     pub head: Head,
     pub words: Vec<&'a str>,
-    /// Whether payloads are text: one that is said, and those that are shown.
+    /// True if payloads are text, both those that are said and those that are shown.
     pub is_text: bool,
 }
 
@@ -33,12 +33,12 @@ pub const LISTED: u16 = 0;
 
 const _: () = prove!(LISTED == 0);
 
-/// Which server is asked.
+/// The server that is asked.
 #[derive(Clone, Copy)]
 pub struct Server {
-    /// Its base port, up to 65,000; `LISTED` where a list has its nodes.
+    /// Its base port, up to 65,000, or `LISTED` if a list has its nodes.
     pub port: u16,
-    /// How many seconds a reply may take.
+    /// The most seconds that a reply may take.
     pub wait: u32,
     ghost bounded: { port ≤ 65000 },
 }
@@ -65,21 +65,21 @@ impl Server {
     }
 }
 
-/// Which entries of a log are said again.
+/// The choice of the entries of a log that are said again.
 #[derive(Clone, Copy)]
 pub struct Choice {
-    /// Whether those of all members are, and not only those of the node's own.
+    /// True if the entries of all members are said again, and not only those of the node's own.
     pub is_all: bool,
-    /// How many of these were said before, and are skipped.
+    /// The number of these that were said before, and are skipped.
     pub from: u32,
 }
 
-/// What a client is to do at a server.
+/// An errand of a client at a server.
 #[derive(Drop)]
 pub enum Errand<'a> {
     /// Make one request at a node.
     Ask(NodeId, Asked<'a>),
-    /// Fetch what comes into a group's log at a node, from a place on; without end, or at most this number of times.
+    /// Fetch the new entries of a group's log at a node, from an index on; without end, or at most this number of times.
     Follow(NodeId, Asked<'a>, u32, Option<u32>),
     /// Print a group's log at a node as a text that can be read again.
     Export(NodeId, Asked<'a>),
@@ -89,7 +89,7 @@ pub enum Errand<'a> {
     Group(Vec<NodeId>, Asked<'a>),
     /// Drop a group at the nodes.
     Drop(Vec<NodeId>, Asked<'a>),
-    /// Compare what a group was made with at the nodes.
+    /// Compare the words that made a group at the nodes.
     Check(Vec<NodeId>, Addr),
     /// Print the figures of a node.
     Status(NodeId),
@@ -120,7 +120,7 @@ impl Errand<'_> {
     }
 }
 
-/// What a client is told to do.
+/// A task of a client.
 #[derive(Drop)]
 pub enum Task<'a> {
     /// Print the token for this need.
@@ -149,7 +149,7 @@ pub fn ask(
     request_text(alloc, head, &token, words)
 }
 
-// The words behind a new tenant's number, with its key in front of them.
+// Returns the body of a request to add a tenant: `words`, with the tenant's key behind its number.
 fn ask_tenant(
     alloc: Global,
     secrets: &Secrets,
@@ -174,7 +174,7 @@ fn ask_tenant(
     ask(alloc, secrets, node, Head::Tenant, &told)
 }
 
-// A message that is told as text.
+// Returns the body of a say whose payload is given as text.
 fn ask_text(
     alloc: Global,
     secrets: &Secrets,
@@ -198,7 +198,7 @@ fn ask_text(
     ask(alloc, secrets, node, Head::Group(CommandHead::Say), &told)
 }
 
-// Words, as bytes.
+// Returns the words as bytes.
 fn bytes_of<'a>(alloc: Global, words: &[&'a str]) -> Result<Vec<&'a [u8]>, ClientFault>
     ensures { IfOk result (λ bytes. map (λ word. word.now) bytes.items ≡ map (λ word. word.now) words.now) }
 {
@@ -209,7 +209,7 @@ fn bytes_of<'a>(alloc: Global, words: &[&'a str]) -> Result<Vec<&'a [u8]>, Clien
     Ok(bytes)
 }
 
-/// Returns the body of the request that `asked` describes, at `node`, with the token that `secrets` have for it. For a new tenant the
+/// Returns the body of the request `asked` at `node`, with the token that `secrets` have for it. For a new tenant the
 /// tenant's key is taken from `secrets`, and a payload that is given as text is spelt in hexadecimal digits. `Err` with `Words` if the
 /// words spell no request, with `Missing` if the secrets have no key or token for it, and with `OutOfMemory`.
 pub fn request_of(
@@ -230,8 +230,8 @@ pub fn request_of(
     }
 }
 
-/// Returns the body of the request that fetches at most 16 entries of a group's log at `node`, from the place `from` on. The words of
-/// `asked` are the tenant and the group, and its head is not looked at. `Err` with `Words` if they are anything else, with `Missing` if
+/// Returns the body of the request that fetches at most 16 entries of a group's log at `node`, from index `from` on. The words of
+/// `asked` are the tenant and the group; its head is ignored. `Err` with `Words` if they are anything else, with `Missing` if
 /// the secrets have no token for it, and with `OutOfMemory`.
 pub fn fetch_of(
     alloc: Global,

@@ -1,4 +1,4 @@
-//! Worked words with a directory file: which of its tenants is looked up, and where each node is then asked.
+//! Worked words with a directory file: the tenant that is looked up, and the host and port of each node.
 use clap::ArgMatches;
 use gb_client::{ClientFault, Errand, Server, Task};
 use gb_client_run::listed::{list, listed_at};
@@ -19,7 +19,7 @@ nodes = [\"10.0.0.9:1\"]\n\
 7 = \"west\"\n\
 8 = \"east\"\n";
 
-// Appends the place that a list has for a node of its server.
+// Appends the host and the port that a list has for a node of its server.
 fn put_place(
     alloc: Global,
     text: &mut String,
@@ -38,7 +38,7 @@ fn put_place(
     Ok(())
 }
 
-// Returns where the nodes of an errand are, each in turn.
+// Returns the hosts and ports of the nodes of an errand, each in turn.
 fn places(
     alloc: Global,
     lookup: Lookup<'_>,
@@ -64,7 +64,7 @@ fn places(
     }
 }
 
-// Returns what a plan asks, in a line.
+// Returns the nodes and the request of a plan, on one line.
 fn planned(alloc: Global, plan: &Plan<'_>) -> Result<String, ClientFault> {
     match (plan.lookup, &plan.task) {
         (Some(lookup), Task::At(server, errand)) => places(alloc, lookup, *server, errand),
@@ -74,7 +74,7 @@ fn planned(alloc: Global, plan: &Plan<'_>) -> Result<String, ClientFault> {
     }
 }
 
-// The same, or what is told of words that are no plan.
+// Returns the line of the plan of these matches, or the complaint if they are no plan.
 fn matched(alloc: Global, matches: &ArgMatches<'_>) -> Result<String, ClientFault> {
     match plan_of(alloc, matches) {
         Ok(plan) => planned(alloc, &plan),
@@ -82,7 +82,7 @@ fn matched(alloc: Global, matches: &ArgMatches<'_>) -> Result<String, ClientFaul
     }
 }
 
-// The same of a line, behind the program's name.
+// Returns the line of the plan of a command line, which begins with the program's name, or the complaint if it is none.
 fn told(alloc: Global, line: &str) -> Result<String, ClientFault> {
     let words: Vec<&str> = line.split(' ').collect(alloc)?;
     match command(alloc)?.try_get_matches_from(&words) {
@@ -91,7 +91,7 @@ fn told(alloc: Global, line: &str) -> Result<String, ClientFault> {
     }
 }
 
-// Lines, and what is planned for them.
+// Command lines, and the lines of their plans.
 const LINES: &[(&str, &str)] = &[
     (
         "gb_ctl --directory d --node 1 fetch 7 1 0 16",

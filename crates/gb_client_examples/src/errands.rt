@@ -1,4 +1,4 @@
-//! Worked errands of the client: what its words ask of nodes that reply by a table, and what is printed of it.
+//! Worked errands of the client: the requests of its words at nodes that reply by a table, and the text that it prints.
 use clap::ArgMatches;
 use gb_client::{ClientFault, Secrets};
 use gb_client_run::running::run_task;
@@ -7,16 +7,16 @@ use gb_client_words::words::{command, plan_of};
 use std::alloc::Global;
 use std::process::Abort;
 
-/// The node that is asked, what it is asked, with a `*` for the token, and the reply; `!` for none in time, `?` for no connection.
+/// The node that is asked, the body with a `*` for the token, and the reply; `!` for no reply in time, `?` for no connection.
 pub type Turn = (u16, &'static str, &'static str);
 
-/// The nodes that are asked, all of them, what is printed, and the exit status.
+/// All requests to nodes, the printed text, and the exit status.
 pub type Ending = (&'static [Turn], &'static str, u8);
 
-/// The words of a line, and how they end where the nodes reply so.
+/// The words of a line, and their ending for each table of replies.
 type Errand = (&'static str, &'static [Ending]);
 
-/// Nodes that reply by a table, as long as they are asked by it.
+/// Nodes that reply by a table, as long as the requests are those of the table.
 #[derive(Drop)]
 struct Script {
     turns: &'static [Turn],
@@ -64,7 +64,7 @@ const GONE: &str = "groups 1 7:1:-:-:0:0:0:dropped:0";
 
 const MAKE: &str = "make * 7 1 beb 0,1 8 4096 4";
 
-// What is asked of a group's nodes.
+// Requests to a group's nodes.
 static GROUPS: &[Errand] = &[
     (
         "group --nodes 0,1 7 1 beb 8 4096 4",
@@ -148,7 +148,7 @@ static GROUPS: &[Errand] = &[
     ),
 ];
 
-// What an administrator asks.
+// Requests of an administrator.
 static OPERATIONS: &[Errand] = &[
     (
         "check --nodes 0,1 7 1",
@@ -264,7 +264,7 @@ const SIXTEEN: &str =
 const LONG_LINES: &str =
     "0:1:00\n1:1:01\n0:2:02\n0:3:03\n0:4:04\n0:5:05\n0:6:06\n0:7:07\n0:8:08\n0:9:09\n0:10:0a\n0:11:0b\n0:12:0c\n0:13:0d\n0:14:0e\n0:15:0f\n0:16:10\nend 17\n";
 
-// A log that is exported; the last one has more entries than one fetch brings.
+// A log that is exported; the last one has more entries than one fetch returns.
 static EXPORTS: &[Errand] = &[
     (
         "--node 2 export 7 1",
@@ -371,10 +371,10 @@ static IMPORTS: &[Errand] = &[
 // A log with no entries.
 static EMPTY_IMPORT: &[Errand] = &[("--node 1 --secrets s import 7 1", &[(&[], "said 0\n", 0)])];
 
-// Nothing is said of what is no exported log.
+// A text that is no exported log makes the client say nothing.
 static NO_IMPORT: &[Errand] = &[("--node 0 --secrets s import 7 1", &[(&[], "", 2)])];
 
-// What is no exported log.
+// Texts that are no exported log.
 static NO_EXPORTS: &[&str] = &[
     "",
     "0:1:6869\n",
@@ -392,7 +392,7 @@ static NO_EXPORTS: &[&str] = &[
     "0:1:6A\nend 1\n",
 ];
 
-// No time passes between two tries.
+// Pauses between two tries that take no time.
 #[derive(Clone, Copy)]
 struct AtOnce;
 
@@ -400,7 +400,7 @@ impl Pauses for AtOnce {
     fn pause(&self) {}
 }
 
-// Runs what a plan says at nodes, with these secrets and a text on standard input. The exit status.
+// Runs a plan at nodes, with these secrets and a text on standard input. Returns the exit status.
 fn run_plan<N: Nodes>(
     alloc: Global,
     matches: &ArgMatches<'_>,
@@ -429,7 +429,7 @@ fn run_plan<N: Nodes>(
 
 const FIRST_WORDS: &[&str] = &["gb_ctl", "--port", "42000"];
 
-/// Reads the words of a line, and runs what they say at nodes, with these secrets and a text on standard input. Returns the exit status;
+/// Reads the words of a line, and runs their plan at nodes, with these secrets and a text on standard input. Returns the exit status.
 /// `Err` if the words are no plan.
 fn run_line<N: Nodes>(
     alloc: Global,
@@ -451,8 +451,8 @@ fn run_line<N: Nodes>(
     }
 }
 
-/// Whether the words of a line end so, with these secrets and a text on standard input: all nodes are asked, this is printed, and the
-/// status is this. What is told has to be `told`, where one is given.
+/// Returns true if a run of these words has this ending, with these secrets and a text on standard input: exactly the requests of the
+/// ending, its printed text and its status. If `told` is given, the complaint must be this text.
 pub fn ends_so(
     alloc: Global,
     words: &str,
@@ -484,7 +484,7 @@ pub fn ends_so(
         && is_told
 }
 
-// Compares how each errand ends, with both keys and a text on standard input.
+// Checks the ending of each errand, with both keys and a text on standard input.
 fn compare(rt: &impl Abort, alloc: Global, errands: &[Errand], text: &str) {
     for (words, endings) in errands {
         for ending in *endings {
@@ -540,7 +540,7 @@ impl Nodes for Full {
     }
 }
 
-// Whether a say is tried 20 times more in a second, and no longer.
+// Returns true if a say is tried 20 times more for a wait of one second, and not more often.
 fn ends_in_time(alloc: Global) -> bool {
     let mut nodes = Full { asked: 0 };
     let (mut out, mut told) = (Vec::new(alloc), Vec::new(alloc));

@@ -1,5 +1,5 @@
-//! Worked logs that are followed: what is asked of a node, from which place on, and what is printed of its replies. And the longest log,
-//! as a reply that is read and printed.
+//! Worked logs that are followed: the requests to a node, the first index, and the text that is printed for its replies. And the longest
+//! log, as a reply that is read and printed.
 use gb_client::answer::read_reply;
 use gb_client::exchange::receive;
 use gb_client::show::reply_lines;
@@ -12,7 +12,7 @@ use gb_types::{NodeId, OutOfMemory};
 use std::alloc::Global;
 use std::test::Fail;
 
-/// The replies of a node, from which place on and how many times it is asked, the places that it is asked from, what is printed, and the
+/// The replies of a node, the first index and the number of requests, the indices that they ask for, the printed text, and the
 /// exit status.
 struct Case {
     replies: &'static [&'static [u8]],
@@ -53,7 +53,7 @@ const SECRETS: Secrets = Secrets {
     token: Some([0x44; 32]),
 };
 
-// Appends a message, with its length in front.
+// Appends a message, with its length before it.
 fn put_message(stream: &mut Vec<u8>, body: &[u8]) -> Result<(), OutOfMemory> {
     let length = u32::try_from(body.len()).unwrap_or(u32::MAX);
     stream.extend_from_slice(&length.to_be_bytes())?;
@@ -61,7 +61,7 @@ fn put_message(stream: &mut Vec<u8>, body: &[u8]) -> Result<(), OutOfMemory> {
     Ok(())
 }
 
-// The stream of these replies.
+// Returns the stream of these replies.
 fn stream_of(alloc: Global, replies: &[&[u8]]) -> Result<Vec<u8>, OutOfMemory> {
     let mut stream = Vec::new(alloc);
     for reply in replies {
@@ -70,7 +70,7 @@ fn stream_of(alloc: Global, replies: &[&[u8]]) -> Result<Vec<u8>, OutOfMemory> {
     Ok(stream)
 }
 
-// Returns true if the body asks for entries of group 7/1 from this place on, and waits for 30 seconds.
+// Returns true if the body asks for entries of group 7/1 from this index on, and waits for 30 seconds.
 fn is_asked(alloc: Global, body: &[u8], place: &[u8]) -> Result<bool, ClientFault> {
     let words = split_words(alloc, body)?;
     Ok(match words.as_slice() {
@@ -79,7 +79,7 @@ fn is_asked(alloc: Global, body: &[u8], place: &[u8]) -> Result<bool, ClientFaul
     })
 }
 
-// Returns true if these messages ask for entries from these places on, in turn, and for nothing else.
+// Returns true if these messages ask for entries from these indices on, in turn, and for nothing else.
 fn are_asked(alloc: Global, messages: &[u8], places: &[&[u8]]) -> Result<bool, ClientFault> {
     let mut left = messages;
     for place in places {
@@ -91,7 +91,7 @@ fn are_asked(alloc: Global, messages: &[u8], places: &[&[u8]]) -> Result<bool, C
     Ok(left.is_empty())
 }
 
-// Returns true if following the log of group 7/1 at node 2 comes out so.
+// Returns true if following the log of group 7/1 at node 2 has the results of the case.
 fn holds(alloc: Global, case: &Case) -> Result<bool, ClientFault> {
     let mut words = Vec::new(alloc);
     words.push("7")?;
@@ -132,7 +132,7 @@ fn a_followed_log_is_printed_once(rt: HostRuntime) -> Result<(), Fail> {
 /// The payload of each entry of the longest log, in digits.
 const PAYLOAD: &[u8] = &[b'6'; 8_192];
 
-// The text of a log of this number of entries, each with the longest payload.
+// Returns the text of a log of this number of entries, each with the longest payload.
 fn longest_log(alloc: Global, count: usize) -> Result<Vec<u8>, OutOfMemory> {
     let mut text = Vec::from_slice(alloc, b"log 16")?;
     for _ in 0..count {

@@ -1,5 +1,5 @@
-//! The client, as tests: what it asks of nodes and what it prints of their replies, how its runs end, logs that are followed, directory
-//! files, texts of secrets, and connections that were closed. This crate has tests only.
+//! The client, as tests: its requests to nodes, the text that it prints for their replies, the ends of its runs, logs that are followed,
+//! directory files, texts of secrets, and connections that were closed. This crate has tests only.
 #![tactic(auto)]
 
 #[cfg(test)]

@@ -1,4 +1,4 @@
-//! Worked replies, and what is shown of them; messages of a session.
+//! Worked replies, and their printed text; messages of a session.
 use gb_client::ClientFault;
 use gb_client::answer::{read_reply, status_of};
 use gb_client::exchange::{receive, send};
@@ -10,7 +10,7 @@ use std::test::Fail;
 
 const LOG: &[u8] = b"log 3 0:1:68692031 1:2:00ff 1:3:-";
 
-/// The reply with this text.
+/// Returns the reply with this text.
 fn reply_of(alloc: Global, text: &[u8]) -> Result<Reply, ClientFault> {
     match read_reply(alloc, text)? {
         Some(reply) => Ok(reply),
@@ -18,14 +18,14 @@ fn reply_of(alloc: Global, text: &[u8]) -> Result<Reply, ClientFault> {
     }
 }
 
-/// Whether these lines are shown of a reply.
+/// Returns true if these are the printed lines of a reply.
 fn shows(alloc: Global, text: &[u8], is_text: bool, lines: &[u8]) -> Result<bool, ClientFault> {
     let reply = reply_of(alloc, text)?;
     let shown = reply_lines(alloc, &reply, is_text)?;
     Ok(shown.as_slice() == lines)
 }
 
-/// Whether these lines are shown of a log's entries.
+/// Returns true if these are the printed lines of a log's entries.
 fn shows_entries(alloc: Global, text: &[u8], lines: &[u8]) -> Result<bool, ClientFault> {
     match &reply_of(alloc, text)? {
         Reply::Log(entries) => {
@@ -36,7 +36,7 @@ fn shows_entries(alloc: Global, text: &[u8], lines: &[u8]) -> Result<bool, Clien
     }
 }
 
-/// Texts, and the exit status for each; 3: it is no reply.
+/// Texts, and the exit status for each; 3 if the text is no reply.
 const STATUSES: &[(&[u8], u8)] = &[
     (b"ok", 0),
     (b"said 1", 0),
@@ -73,7 +73,7 @@ const STATUSES: &[(&[u8], u8)] = &[
     (b"refused ", 3),
 ];
 
-/// The exit status for a text.
+/// Returns the exit status for a text.
 fn status(alloc: Global, text: &[u8]) -> Result<u8, ClientFault> {
     match read_reply(alloc, text)? {
         Some(reply) => Ok(status_of(&reply)),
@@ -81,7 +81,7 @@ fn status(alloc: Global, text: &[u8]) -> Result<u8, ClientFault> {
     }
 }
 
-/// Logs, and what is shown of them as text: a control character, in one byte or in two, is never shown as it is.
+/// Logs, and their printed lines as text: a control character, in one byte or in two, is never printed as it is.
 const SHOWN: &[(&[u8], &[u8])] = &[
     (LOG, b"log 3\n0:1:\"hi 1\"\n1:2:00ff\n1:3:\"\"\n"),
     (b"log 1 0:1:1b5b324a", b"log 1\n0:1:1b5b324a\n"),
@@ -115,7 +115,7 @@ fn what_is_no_reply_is_told(rt: HostRuntime) -> Result<(), Fail> {
     Ok(())
 }
 
-/// Texts of lists, and how many groups each page has; none: it is no list.
+/// Texts of lists, and the number of groups of each page; `None` if the text is no list.
 const PAGES: &[(&[u8], Option<usize>)] = &[
     (b"groups 0", Some(0)),
     (b"groups 2 7:1:beb:0,1:8:4096:4:open:3", Some(1)),
@@ -131,7 +131,7 @@ const PAGES: &[(&[u8], Option<usize>)] = &[
     (b"ok", None),
 ];
 
-/// How many groups a page has, or none if it is no page.
+/// Returns the number of groups of a page, or `None` if the text is no page.
 fn rows_of(alloc: Global, text: &[u8]) -> Result<Option<usize>, OutOfMemory> {
     match read_page(alloc, text)? {
         Some(page) => Ok(Some(page.rows.len())),
@@ -152,7 +152,7 @@ fn lists_and_figures_are_read(rt: HostRuntime) -> Result<(), Fail> {
     Ok(())
 }
 
-/// Texts, and whether they are a node's figures.
+/// Texts, and true for those that are a node's figures.
 const FIGURES: &[(&[u8], bool)] = &[
     (b"status", true),
     (b"status groups=3 lost=18446744073709551615", true),
@@ -164,21 +164,21 @@ const FIGURES: &[(&[u8], bool)] = &[
     (b"status groups=03", false),
 ];
 
-/// Whether a message is sent with its length in front.
+/// Returns true if a message is sent with its length before it.
 fn is_sent(alloc: Global) -> Result<bool, ClientFault> {
     let mut out = Vec::new(alloc);
     send(&mut out, b"open 7 1")?;
     Ok(out.as_slice() == b"\x00\x00\x00\x08open 7 1".as_slice())
 }
 
-/// Whether the bytes begin with a message that is received so.
+/// Returns true if the bytes begin with a message whose body is this.
 fn is_received(alloc: Global, bytes: &[u8], message: &[u8]) -> Result<bool, ClientFault> {
     let mut reader = bytes;
     let found = receive(alloc, &mut reader)?;
     Ok(found.as_slice() == message)
 }
 
-/// Whether the bytes begin with no message.
+/// Returns true if the bytes begin with no message.
 fn is_refused(alloc: Global, bytes: &[u8]) -> bool {
     let mut reader = bytes;
     receive(alloc, &mut reader).is_err()
@@ -205,13 +205,13 @@ fn long_message(alloc: Global, count: u32) -> Result<Vec<u8>, ClientFault> {
     Ok(bytes)
 }
 
-/// Returns whether a message whose body has `count` bytes is received whole.
+/// Returns true if a message whose body has `count` bytes is received whole.
 fn is_long_received(alloc: Global, count: u32) -> Result<bool, ClientFault> {
     let bytes = long_message(alloc, count)?;
     is_received(alloc, &bytes, bytes.get(4..).unwrap_or_default())
 }
 
-/// Returns whether a message whose body has `count` bytes is refused, though all of it is there.
+/// Returns true if a message whose body has `count` bytes is refused, though all of it is there.
 fn is_long_refused(alloc: Global, count: u32) -> Result<bool, ClientFault> {
     let bytes = long_message(alloc, count)?;
     Ok(is_refused(alloc, &bytes))
@@ -219,7 +219,7 @@ fn is_long_refused(alloc: Global, count: u32) -> Result<bool, ClientFault> {
 
 #[test]
 fn a_reply_is_as_long_as_it_may_be(rt: HostRuntime) -> Result<(), Fail> {
-    // A log of 16 entries with payloads of 4,096 bytes.
+    // The first size is that of a log of 16 entries with payloads of 4,096 bytes.
     for count in [131_222, 262_144] {
         let received = is_long_received(rt.alloc(), count)?;
         assert!(rt; received);

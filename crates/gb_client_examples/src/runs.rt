@@ -1,8 +1,8 @@
-//! Whole runs of the client: what is printed, what is told where complaints go, and the exit status.
+//! Whole runs of the client: the printed text, the complaint, and the exit status.
 use crate::errands::{Ending, ends_so};
 use gb_client::Secrets;
 
-/// The words of a line, how they end, and what is told.
+/// The words of a line, their ending, and the complaint.
 type Case = (&'static str, Ending, &'static str);
 
 const SECRETS: Secrets = Secrets {

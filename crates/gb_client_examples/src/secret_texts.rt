@@ -1,4 +1,4 @@
-//! Texts of secrets: which of their lines is wrong, how long they may be, and what is said where they are refused.
+//! Texts of secrets: the line that is wrong, their greatest length, and the complaint if they are refused.
 use gb_client::secrets::{SecretsFault, read_secrets};
 use gb_client_run::secrets::{refuse_secrets, secrets_from};
 use std::alloc::Global;
@@ -37,7 +37,7 @@ static TEXTS: [(&str, Option<usize>); 12] = [
     ("\nkey", Some(2)),
 ];
 
-// Returns the number of the line for which a text of secrets is refused. 0: it is refused for something else.
+// Returns the number of the line for which a text of secrets is refused, or 0 if it is refused for another reason. `None` if it is taken.
 fn wrong_line(alloc: Global, text: &[u8]) -> Option<usize> {
     match read_secrets(alloc, text) {
         Ok(_) => None,
@@ -54,7 +54,7 @@ fn the_first_wrong_line_is_found(rt: HostRuntime) {
     }
 }
 
-// Returns the exit status for secrets that are read from bytes, and what is said of them. 0: they are not refused.
+// Returns the exit status for secrets that are read from bytes, and the complaint. The status is 0 if they are not refused.
 fn ending(alloc: Global, bytes: &[u8]) -> (u8, Vec<u8>) {
     let mut complaints = Vec::new(alloc);
     let status = match secrets_from(alloc, bytes) {
@@ -64,7 +64,7 @@ fn ending(alloc: Global, bytes: &[u8]) -> (u8, Vec<u8>) {
     (status, complaints)
 }
 
-// Returns true if secrets of this number of empty lines end so.
+// Returns true if secrets of this number of empty lines have this exit status and this complaint.
 fn ends(alloc: Global, lines: usize, status: u8, line: &[u8]) -> bool {
     let Ok(text) = vec![in alloc; b'\n'; lines] else {
         return false;

@@ -3,7 +3,7 @@ use gb_client_run::sockets::{connect, is_closed};
 use std::io::{Read, Write};
 use std::net::{Ipv4Addr, Net, SocketAddr, SocketAddrV4, TcpListener, TcpStream};
 
-// Returns true if a connection is seen as open while its other end is, also where a byte waits, and as closed behind that.
+// Returns true if a connection is found open while its other end is, also while a byte waits, and closed after that.
 fn is_seen<H: Net<Listener = TcpListener, Stream = TcpStream>>(
     rt: &H,
     listener: &TcpListener,
@@ -22,7 +22,7 @@ fn is_seen<H: Net<Listener = TcpListener, Stream = TcpStream>>(
     Some(is_open && has_more && has_ended && is_closed(&stream))
 }
 
-// Returns true if a connection to a free port of this machine is seen so.
+// Returns true if a connection to a free port of this machine is found so by `is_seen`. `None` if there is no such connection.
 fn is_seen_somewhere<H: Net<Listener = TcpListener, Stream = TcpStream>>(rt: &H) -> Option<bool> {
     let any = SocketAddr::V4(SocketAddrV4::new(Ipv4Addr::LOCALHOST, 0));
     let listener = TcpListener::bind(rt, any).ok()?;

@@ -1,11 +1,11 @@
--- What was asked, one after the other.
+-- Messages that were asked, one after the other.
 use Rattle.gb_types.specs.Common.{◌≡◌, ◌⊎◌, inl, inr, ℕ, List, [], ◌∷◌, ◌++◌, ◌+◌, ◌<◌, ◌∙◌, ap, take, length, get_or, subst, sym, take_more, All-nil, All-cons, All-append, All-weaker}
 use Rattle.gb_types.specs.declared.node.NodeId.{NodeId}
 use Rattle.gb_client.specs.declared.{secrets.Secrets.Secrets, task.Asked.Asked}
 use Rattle.gb_client_run.specs.Asked.{Exchange, HasAsked}
 use Rattle.gb_client_run.specs.Groups.{Has, IsDone, HasDoneAt, HasDoneAll}
 
--- what was asked, and then more
+-- messages that were asked, and then more, are asked one after the other
 pub HasAsked-join : {S : Type 0} (asks : S → ℕ → List ℕ → List ℕ → S → Type 0) (a b c : S) (xs ys : List Exchange) → HasAsked asks a xs b → HasAsked asks b ys c → HasAsked asks a (ys ++ xs) c
 HasAsked-join asks a b c xs [] first then = subst (HasAsked asks a xs) (sym then) first
 HasAsked-join asks a b c xs (y ∷ ys) first (mid, before, here) = (mid, HasAsked-join asks a b mid xs ys first before, here)
@@ -22,7 +22,7 @@ Has-front P [] ys here = elim here [ ]
 Has-front P (x ∷ xs) ys (inl here) = inl here
 Has-front P (x ∷ xs) ys (inr there) = inr (Has-front P xs ys there)
 
--- and then at one more
+-- a request that was done at some nodes and then at one more is done at all of them
 pub done_at_one_more : {S : Type 0} (asks : S → ℕ → List ℕ → List ℕ → S → Type 0) (secrets : Secrets) (base : ℕ) (asked : Asked) (words : List (List ℕ)) (nodes : List NodeId) (node : NodeId) (old mid new : S)
     → HasDoneAll asks secrets base asked words nodes old mid → HasDoneAt asks secrets base asked words node mid new
     → HasDoneAll asks secrets base asked words (nodes ++ node ∷ []) old new
@@ -34,7 +34,7 @@ done_at_one_more asks secrets base asked words nodes node old mid new before her
       (All-cons (λ n. Has (IsDone secrets base asked words n) (told ++ before.told)) node [] (Has-front (IsDone secrets base asked words node) told before.told here.is_done) (All-nil (λ n. Has (IsDone secrets base asked words n) (told ++ before.told))));
 }
 
--- a request was made at a node and done, and then others were asked
+-- a request stays done at a node while others are asked
 pub done_then : {S : Type 0} (asks : S → ℕ → List ℕ → List ℕ → S → Type 0) (secrets : Secrets) (base : ℕ) (asked : Asked) (words : List (List ℕ)) (node : NodeId) (old mid new : S) (x : Exchange) (told : List Exchange)
     → asks old x.port x.body x.reply mid → IsDone secrets base asked words node x → HasAsked asks mid told new → HasDoneAt asks secrets base asked words node old new
 done_then asks secrets base asked words node old mid new x told here is then = record {
@@ -43,11 +43,11 @@ done_then asks secrets base asked words node old mid new x told here is then = r
   is_done = Has-behind (IsDone secrets base asked words node) told (x ∷ []) (inl is);
 }
 
--- messages were asked and answered, and then others
+-- messages that were asked and answered, and then others, are asked one after the other
 pub asked_more : {S : Type 0} (asks : S → ℕ → List ℕ → List ℕ → S → Type 0) (a b c : S) → (told : List Exchange) × HasAsked asks a told b → (told : List Exchange) × HasAsked asks b told c → (told : List Exchange) × HasAsked asks a told c
 asked_more asks a b c first then = (then.0 ++ first.0, HasAsked-join asks a b c first.0 then.0 first.1 then.1)
 
--- and then at the next of them
+-- a request that was done at the first nodes and then at the next is done at one node more
 pub done_at_next : {S : Type 0} (asks : S → ℕ → List ℕ → List ℕ → S → Type 0) (secrets : Secrets) (base : ℕ) (asked : Asked) (words : List (List ℕ)) (members : List NodeId) (i : ℕ) (node d : NodeId) (old mid new : S)
     → i < length members → node ≡ get_or members i d → HasDoneAll asks secrets base asked words (take i members) old mid → HasDoneAt asks secrets base asked words node mid new
     → HasDoneAll asks secrets base asked words (take (i + 1) members) old new

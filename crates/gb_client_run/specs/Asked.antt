@@ -1,4 +1,4 @@
--- What was asked of nodes, and what came back.
+-- The messages that nodes were asked, and their replies.
 use Rattle.std.specs.Prelude.{◌≡◌, ℕ, ◌+◌, Bool, true, false, List, [], ◌∷◌}
 use Rattle.gb_spelling.specs.declared.command_words.CommandHead.TheVariants.{Say, Fetch}
 use Rattle.gb_types.specs.declared.{node.NodeId.NodeId, reply.Reply.Reply}
@@ -23,7 +23,7 @@ abbrev pub is_logged : Head → Bool
 is_logged (heads.Group Fetch) = true
 is_logged other = false
 
--- whether this may be the reply to a request with this head
+-- this may be the reply to a request with this head
 abbrev pub answers : Head → Reply → Bool
 answers head Done = is_done head
 answers head (Said seq) = is_said head
@@ -36,12 +36,12 @@ pub record Exchange : Type 0 where
   pub body : List ℕ
   pub reply : List ℕ
 
--- these messages were asked and answered, one after the other, the newest first; `asks` says what each may be answered
+-- these messages were asked and answered, one after the other, the newest first; `asks` has the replies that each may get
 abbrev pub HasAsked : {S : Type 0} → (S → ℕ → List ℕ → List ℕ → S → Type 0) → S → List Exchange → S → Type 0
 HasAsked asks old [] new = new ≡ old
 HasAsked {S} asks old (x ∷ xs) new = (mid : S) × HasAsked asks old xs mid × asks mid x.port x.body x.reply new
 
--- a message asked this of a node's sessions, whose port is 64 above that of the node's packets, with the token that the secrets have
+-- a message asked this of a node's sessions, at the port 64 above that of the node's packets, with the token of the secrets
 abbrev pub AsksNode : Secrets → ℕ → NodeId → Asked → List (List ℕ) → Exchange → Type 0
 AsksNode secrets base node asked words x =
     (x.port ≡ base + 64 + node.number) × IsAsked secrets node asked.head (words_told secrets asked.head asked.is_text words) x.body

@@ -1,4 +1,4 @@
--- What is asked and printed while a log is exported.
+-- The messages that are asked and the text that is printed while a log is exported.
 use Rattle.std.specs.Prelude.{◌≡◌, ℕ, ◌+◌, List, [], ◌∷◌, ◌++◌, Option, Some, None, codes, decimal, length}
 use Rattle.std.specs.Io.KnownBytes.{Appends}
 use Rattle.gb_spelling.specs.declared.command_words.CommandHead.TheVariants.{Fetch}
@@ -11,25 +11,25 @@ use Rattle.gb_client_run.specs.ExportText.{end_line}
 use Rattle.gb_client_run.specs.Asked.{Exchange}
 use Rattle.gb_client_run.specs.Following.{end_status}
 
--- a message asked a node's sessions for 16 entries at most of the log of the group that two words name, from a place on
+-- a message asked a node's sessions for at most 16 entries of the log of the group that two words name, from index `place` on
 abbrev pub AsksFetch : Secrets → ℕ → NodeId → List (List ℕ) → ℕ → Exchange → Type 0
 AsksFetch secrets base node words place x =
     (x.port ≡ base + 64 + node.number)
     × ((tenant : List ℕ) × (group : List ℕ) × (words ≡ tenant ∷ group ∷ []) × Asks secrets node (Group Fetch) (tenant ∷ group ∷ decimal place ∷ codes "16" ∷ []) x.body)
 
--- such a fetch was made, and this is the reply to it
+-- such a fetch was asked, and this is the reply to it
 pub record HasFetched {S : Type 0} (asks : S → ℕ → List ℕ → List ℕ → S → Type 0) (secrets : Secrets) (base : ℕ) (node : NodeId) (words : List (List ℕ)) (place : ℕ) (old new : S) (reply : Reply) : Type 0 where
   pub exchange : Exchange
   pub asked_so : AsksFetch secrets base node words place exchange
   pub told : asks old exchange.port exchange.body exchange.reply new
   pub reply_is : exchange.reply ≡ reply_spelling reply
 
--- the entries of logs in order; the newest log stands first
+-- the entries of logs in order; the newest log is the first of the list
 abbrev pub entries_of : List (List Entry) → List Entry
 entries_of [] = []
 entries_of (entries ∷ older) = entries_of older ++ entries
 
--- these logs were fetched one after the other, the newest first, each from the place behind the entries of those before it
+-- these logs were fetched one after the other, the newest first, each from the index behind the entries of those before it
 abbrev pub HasRead : {S : Type 0} → (S → ℕ → List ℕ → List ℕ → S → Type 0) → Secrets → ℕ → NodeId → List (List ℕ) → S → List (List Entry) → S → Type 0
 HasRead asks secrets base node words old [] new = new ≡ old
 HasRead {S} asks secrets base node words old (entries ∷ older) new =
@@ -40,13 +40,13 @@ abbrev pub last_reply : Option Refusal → Reply
 last_reply None = Log []
 last_reply (Some why) = Refused why
 
--- the last line for it: how many entries there are, or the refusal
+-- the last line for it: the number of entries, or the refusal
 abbrev pub last_line : ℕ → Option Refusal → List ℕ
 last_line count None = end_line count
 last_line count (Some why) = reply_spelling (Refused why) ++ 10 ∷ []
 
--- A log was fetched from its beginning until nothing more came or the node refused. All entries that came were printed, in order and
--- each once, and behind them their count or the refusal, and nothing else. The status is 0 only where nothing more came.
+-- A log was fetched from its first entry until nothing more came or the node refused. All entries that came were printed, in order and
+-- each once, then their count or the refusal, and nothing else. The status is 0 only if nothing more came.
 pub record HasExported {S : Type 0} (asks : S → ℕ → List ℕ → List ℕ → S → Type 0) (secrets : Secrets) (base : ℕ) (node : NodeId) (words : List (List ℕ)) (old new : S) (before after : Option (List ℕ)) (status : ℕ) : Type 0 where
   pub logs : List (List Entry)
   pub refusal : Option Refusal

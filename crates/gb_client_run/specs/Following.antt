@@ -1,4 +1,4 @@
--- What is read and printed while a log is followed.
+-- The replies that are read and the text that is printed while a log is followed.
 use Rattle.std.specs.Prelude.{◌≡◌, ℕ, Bool, false, List, [], ◌∷◌, ◌++◌, Option, Some, None}
 use Rattle.std.specs.{Io.KnownBytes.Appends, Io.KnownBytes.Consumes, List.flat_map}
 use Rattle.gb_types.specs.declared.{entry.Entry.Entry, refusal.Refusal.Refusal, reply.Reply.TheVariants.Log, reply.Reply.TheVariants.Refused}
@@ -14,7 +14,7 @@ log_messages = flat_map (λ entries. framed (reply_spelling (Log entries)))
 abbrev pub log_lines : List (List Entry) → List ℕ
 log_lines = flat_map lines_of
 
--- the message of a refusal, its line, and the exit status for it; without one there is none, and the status is 0
+-- the message of a refusal; empty without a refusal
 abbrev pub end_message : Option Refusal → List ℕ
 end_message None = []
 end_message (Some why) = framed (reply_spelling (Refused why))
@@ -27,8 +27,8 @@ abbrev pub end_status : Option Refusal → ℕ
 end_status None = 0
 end_status (Some why) = 1
 
--- Logs were read, and the lines of their entries were printed, all of them, in order and nothing else; where a refusal was read it was
--- printed, it was the last, and the status is 1.
+-- Logs were read, and the lines of their entries were printed, all of them, in order and nothing else. If a refusal was read, it was
+-- printed, it was the last reply, and the status is 1.
 pub record HasFollowed (is_text : Bool) (input rest before after : Option (List ℕ)) (status : ℕ) : Type 0 where
   pub logs : List (List Entry)
   pub refusal : Option Refusal

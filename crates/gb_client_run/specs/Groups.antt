@@ -1,4 +1,4 @@
--- What is asked of a group's nodes.
+-- The requests that a group's nodes are asked.
 use Rattle.std.specs.Prelude.{◌≡◌, ◌⊎◌, ℕ, List, [], ◌∷◌, ◌++◌, All}
 use Rattle.gb_types.specs.declared.{node.NodeId.NodeId, refusal.Refusal.Refusal}
 use Rattle.gb_types.specs.declared.reply.Reply.TheVariants as replies
@@ -14,12 +14,12 @@ abbrev pub IsDone : Secrets → ℕ → Asked → List (List ℕ) → NodeId →
 IsDone secrets base asked words node x =
     AsksNode secrets base node asked words x × ((x.reply ≡ reply_spelling replies.Done) ⊎ ((why : Refusal) × (x.reply ≡ reply_spelling (replies.Refused why))))
 
--- it holds of one of these
+-- the property holds of one of these
 abbrev pub Has : (Exchange → Type 0) → List Exchange → Type 0
 Has P [] = ⊥
 Has P (x ∷ xs) = P x ⊎ Has P xs
 
--- messages were asked and answered, and with them a request was made at a node and done
+-- messages were asked and answered, among them a request at a node, which was done
 pub record HasDoneAt {S : Type 0} (asks : S → ℕ → List ℕ → List ℕ → S → Type 0) (secrets : Secrets) (base : ℕ) (asked : Asked) (words : List (List ℕ)) (node : NodeId) (old new : S) : Type 0 where
   pub told : List Exchange
   pub has_asked : HasAsked asks old told new
@@ -29,19 +29,19 @@ pub record HasDoneAt {S : Type 0} (asks : S → ℕ → List ℕ → List ℕ �
 abbrev pub AreDone : Secrets → ℕ → Asked → List (List ℕ) → List NodeId → List Exchange → Type 0
 AreDone secrets base asked words nodes told = All (λ node. Has (IsDone secrets base asked words node) told) nodes
 
--- messages were asked and answered, and with them a request was made at each of these nodes and done
+-- messages were asked and answered, among them a request at each of these nodes, which was done
 pub record HasDoneAll {S : Type 0} (asks : S → ℕ → List ℕ → List ℕ → S → Type 0) (secrets : Secrets) (base : ℕ) (asked : Asked) (words : List (List ℕ)) (nodes : List NodeId) (old new : S) : Type 0 where
   pub told : List Exchange
   pub has_asked : HasAsked asks old told new
   pub are_done : AreDone secrets base asked words nodes told
 
--- a group was made at all nodes, and only then opened at all
+-- a group was made at all nodes, and only then opened at each
 pub record HasMadeAndOpened {S : Type 0} (asks : S → ℕ → List ℕ → List ℕ → S → Type 0) (secrets : Secrets) (base : ℕ) (make opening : Asked) (make_words open_words : List (List ℕ)) (nodes : List NodeId) (old new : S) : Type 0 where
   pub between : S
   pub made : HasDoneAll asks secrets base make make_words nodes old between
   pub opened : HasDoneAll asks secrets base opening open_words nodes between new
 
--- the exit status for what came of a request
+-- the exit status for the result of a request
 abbrev pub outcome_status : Outcome → ℕ
 outcome_status Done = 0
 outcome_status Before = 0

@@ -1,4 +1,4 @@
--- What a run of the client does, and how it ends.
+-- The effects of a run of the client, and its exit status.
 use Rattle.std.specs.Prelude.{◌≡◌, ℕ, false, List, [], ◌∷◌, ◌++◌, map, Option, Some, Result, Ok, Err}
 use Rattle.std.specs.Io.KnownBytes.{Appends}
 use Rattle.hex.specs.Hex.{encode_lower}
@@ -13,7 +13,7 @@ use Rattle.gb_client_run.specs.Exporting.{HasExported}
 use Rattle.gb_client_run.specs.Following.{HasFollowed}
 use Rattle.gb_client_run.specs.Importing.{HasImported}
 
--- the exit status for what came of a run: the status that it came to, or that of the fault that ended it
+-- the exit status of a run: its result, or the status of the fault that ended it
 abbrev pub run_status : Result ℕ ClientFault → ℕ
 run_status (Ok status) = status
 run_status (Err fault) = status_of_fault fault
@@ -22,7 +22,7 @@ run_status (Err fault) = status_of_fault fault
 abbrev pub words_of : Asked → List (List ℕ)
 words_of asked = map (λ word. word.now) asked.words.items
 
--- a request was made at a node; its reply was printed, and decides the status
+-- a request was made at a node; its reply was printed, and determines the status
 abbrev pub HasAskedOnce : {S : Type 0} → (S → ℕ → List ℕ → List ℕ → S → Type 0) → Secrets → ℕ → NodeId → Asked → S → S → Option (List ℕ) → Option (List ℕ) → ℕ → Type 0
 HasAskedOnce asks secrets base node asked old new before after status =
     (reply : Reply) × HasReplied asks secrets base node asked (words_of asked) old new reply
@@ -34,7 +34,7 @@ abbrev pub HasShownToken : Secrets → Need → Option (List ℕ) → Option (Li
 HasShownToken secrets need before after status =
     (token : List ℕ) × (token_for secrets need ≡ Some token) × Appends before after (encode_lower token ++ 10 ∷ []) × (status ≡ 0)
 
--- an errand over nodes came to this status; a log is followed and imported in another way, and of the others nothing is said here
+-- an errand over nodes had this status; no log is followed or imported so, and nothing is stated about the errands not named here
 abbrev pub HasObeyed : {S : Type 0} → (S → ℕ → List ℕ → List ℕ → S → Type 0) → Secrets → ℕ → Errand → S → S → Option (List ℕ) → Option (List ℕ) → ℕ → Type 0
 HasObeyed asks secrets base (errands.Ask node asked) old new before after status = HasAskedOnce asks secrets base node asked old new before after status
 HasObeyed asks secrets base (errands.Export node asked) old new before after status = HasExported asks secrets base node (words_of asked) old new before after status
@@ -42,7 +42,7 @@ HasObeyed asks secrets base (errands.Follow node asked from times) old new befor
 HasObeyed asks secrets base (errands.Import node asked choice) old new before after status = ⊥
 HasObeyed asks secrets base other old new before after status = Unit {0}
 
--- the same of any errand at a server
+-- an errand at a server had this status; nothing is stated about the errands not named here
 abbrev pub HasDoneErrand : {S : Type 0} → (S → ℕ → List ℕ → List ℕ → S → Type 0) → Secrets → ℕ → List ℕ → Errand → S → S → Option (List ℕ) → Option (List ℕ) → Option (List ℕ) → Option (List ℕ) → ℕ → Type 0
 HasDoneErrand asks secrets base log (errands.Ask node asked) old new input rest before after status = HasAskedOnce asks secrets base node asked old new before after status
 HasDoneErrand asks secrets base log (errands.Export node asked) old new input rest before after status = HasExported asks secrets base node (words_of asked) old new before after status
@@ -51,7 +51,7 @@ HasDoneErrand asks secrets base log (errands.Import node asked choice) old new i
     HasImported asks secrets base node (words_of asked) choice log old new before after status
 HasDoneErrand asks secrets base log other old new input rest before after status = Unit {0}
 
--- a task came to this status
+-- a task had this status
 abbrev pub HasRun : {S : Type 0} → (S → ℕ → List ℕ → List ℕ → S → Type 0) → Secrets → List ℕ → Task → S → S → Option (List ℕ) → Option (List ℕ) → Option (List ℕ) → Option (List ℕ) → ℕ → Type 0
 HasRun asks secrets log (Token need) old new input rest before after status = HasShownToken secrets need before after status
 HasRun asks secrets log (At server errand) old new input rest before after status =

@@ -1,4 +1,4 @@
-//! Whether a group was made alike at its nodes, by what each node lists of it.
+//! Checks that a group was made alike at all its nodes, by the row that each node lists of it.
 use crate::listing::{Found, find};
 use crate::nodes::Nodes;
 use crate::printing::print;
@@ -12,7 +12,7 @@ use gb_types::{Addr, NodeId};
 use std::alloc::Global;
 use std::io::Write;
 
-// The word for the nodes of a group.
+// Returns the word for the nodes of a group, as a request has it.
 fn members_word(alloc: Global, nodes: &[NodeId]) -> Result<Vec<u8>, ClientFault> {
     let mut word = Vec::new(alloc);
     for node in nodes {
@@ -24,7 +24,7 @@ fn members_word(alloc: Global, nodes: &[NodeId]) -> Result<Vec<u8>, ClientFault>
     Ok(word)
 }
 
-// Prints what a node lists of a group.
+// Prints the entry of a node's list for a group.
 fn print_found<W: Write>(
     alloc: Global,
     node: NodeId,
@@ -43,7 +43,7 @@ fn print_found<W: Write>(
     print(writer, &line)
 }
 
-// What a node lists of a group, which is printed, and the exit status for it.
+// Asks a node for its list, prints the entry for a group, and returns that entry and the exit status for it.
 fn look<N: Nodes, W: Write>(
     alloc: Global,
     nodes: &mut N,
@@ -67,7 +67,7 @@ fn look<N: Nodes, W: Write>(
     }
 }
 
-/// Asks each node of `members` in turn what it lists of the group `addr`, and prints a line for each and then `alike` or `not alike`.
+/// Asks each node of `members` in turn for its row of the group `addr`, and prints a line for each and then `alike` or `not alike`.
 /// Returns the exit status: 0 if each node made the group, with `members` as its members, of one kind and with the same limits. If some
 /// nodes show no row of the group, it is that of the last of them: 1 if it lists no such group or refuses, otherwise the status of the
 /// fault. In any other case it is 1. `Err` with `Missing` if there is no administrator's key or token, with `Output` if a line could not

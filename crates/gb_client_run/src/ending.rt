@@ -1,4 +1,4 @@
-//! How a run of the client ends: its exit status, and what is told where complaints go.
+//! The end of a run of the client: its exit status, and the line that goes to the stream of complaints.
 ghost use Rattle.std.specs.{Prelude.◌≡◌, Prelude.IfOk, Io.KnownBytes.Keeps};
 ghost use Rattle.gb_client_run.specs.Running.{run_status};
 
@@ -8,7 +8,7 @@ use gb_client::{Asked, ClientFault, Errand, Task};
 use std::alloc::Global;
 use std::io::Write;
 
-// The request of a task whose words may be wrong.
+// Returns the request of a task whose words may be wrong.
 fn asked_of<'a, 'b>(task: &'a Task<'b>) -> Option<&'a Asked<'b>> {
     match task {
         Task::At(_, Errand::Ask(_, asked)) => Some(asked),
@@ -21,7 +21,7 @@ fn asked_of<'a, 'b>(task: &'a Task<'b>) -> Option<&'a Asked<'b>> {
     }
 }
 
-// Tells which word of a request is wrong.
+// Writes a line that names the wrong word of a request.
 fn tell_words<E: Write>(alloc: Global, asked: &Asked<'_>, complaints: &mut E) {
     if let Ok(text) = blame(alloc, asked) {
         let _ = complaints.write_all(b"gb_ctl: ");
@@ -30,7 +30,7 @@ fn tell_words<E: Write>(alloc: Global, asked: &Asked<'_>, complaints: &mut E) {
     }
 }
 
-// Tells why nothing came of a run. What cannot be written is not told.
+// Writes a line with the fault that ended a run. A line that cannot be written is left out.
 fn complain<E: Write>(
     alloc: Global,
     task: Option<&Task<'_>>,
@@ -49,9 +49,9 @@ fn complain<E: Write>(
     }
 }
 
-/// Ends a run of the client, in which `outcome` came of `task`. Returns the exit status: that of `outcome`, or `fault_status` of its
-/// fault. Tells the fault in a line to `complaints`, `gb_ctl: WHY`; for `Words` it names the wrong word of the task's request. Without a
-/// fault nothing is written. A line that cannot be written, or for which there is no memory, is left out.
+/// Ends a run of the client, in which `task` had the result `outcome`. Returns the exit status: that of `outcome`, or `fault_status` of
+/// its fault. Writes the fault in a line to `complaints`, `gb_ctl: WHY`; for `Words` it names the wrong word of the task's request.
+/// Without a fault nothing is written. A line that cannot be written, or for which there is no memory, is left out.
 pub fn end_run<E: Write>(
     alloc: Global,
     task: Option<&Task<'_>>,
@@ -70,7 +70,7 @@ pub fn end_run<E: Write>(
     }
 }
 
-/// Ends a run of the client that a directory file ended, `name`: tells in a line to `complaints` what is wrong with it, `why`, and
+/// Ends a run of the client because of the directory file `name`. Writes the reason `why` in a line to `complaints`, and
 /// returns the exit status 2. A line that cannot be written is left out.
 pub fn refuse_file<E: Write>(name: &str, why: &str, complaints: &mut E) -> u8
     ensures { result ≡ 2 }

@@ -29,7 +29,7 @@ pub fn export_text(alloc: Global, entries: &[Entry]) -> Result<Vec<u8>, OutOfMem
     Ok(text)
 }
 
-// Returns the text of the reply that has the entries of an export, if it is one: their count stands in the last of its lines.
+// Returns the text of the log reply that has the entries of an export, with the count of its last line. `None` without such a line.
 fn log_text(alloc: Global, text: &[u8]) -> Result<Option<Vec<u8>>, OutOfMemory> {
     let lines: Vec<&[u8]> = text.split(|byte| *byte == b'\n').collect(alloc)?;
     let [entries @ .., last, _] = lines.as_slice() else {

@@ -17,7 +17,7 @@ use gb_types::{Entry, Reply};
 use std::alloc::Global;
 use std::io::Write;
 
-// The reply of a member to a fetch from a place on. `NoReply`: what came is no reply.
+// Returns the reply of a member to a fetch from index `from` on. `Err` with `NoReply` if the bytes that came are no such reply.
 fn fetch_from<N: Nodes>(
     alloc: Global,
     nodes: &mut N,
@@ -42,7 +42,7 @@ fn fetch_from<N: Nodes>(
     }
 }
 
-// How many entries there are with these. `NoReply`: more than a place can name.
+// Returns the number of entries with these. `Err` with `NoReply` if there are more than an index can name.
 fn count_with(count: u32, entries: &[Entry]) -> Result<u32, ClientFault>
     ensures { IfOk result (λ more. more ≡ count + length entries.now) }
 {
@@ -55,7 +55,7 @@ fn count_with(count: u32, entries: &[Entry]) -> Result<u32, ClientFault>
     }
 }
 
-// Prints entries, each in a line.
+// Prints entries, each on a line.
 fn print_entries<W: Write>(
     alloc: Global,
     entries: &[Entry],
@@ -67,7 +67,7 @@ fn print_entries<W: Write>(
     print(writer, &lines)
 }
 
-// Prints the last line of a log's text.
+// Prints the last line of an exported log.
 fn print_end<W: Write>(alloc: Global, count: u32, writer: &mut W) -> Result<(), ClientFault>
     ensures { OnOk result (Appends (W.contents writer.old) (W.contents writer.new) (end_line count)) }
 {
@@ -77,8 +77,8 @@ fn print_end<W: Write>(alloc: Global, count: u32, writer: &mut W) -> Result<(), 
 
 /// Fetches the log of the group at `member`, 16 entries at a time from the first one until no more come, and prints it as a text that
 /// can be read again: a line `ORIGIN:SEQ:PAYLOAD` for each entry, and `end COUNT`. Returns the exit status: 0, or 1 if the node refused;
-/// then the refusal is printed in place of the last line. `Err` with the fault if a fetch could not be asked or had no reply, with
-/// `NoReply` if what came is no log, and with `Output` if a line could not be printed.
+/// then the refusal is printed instead of the last line. `Err` with the fault if a fetch could not be asked or had no reply, with
+/// `NoReply` if the reply is no log, and with `Output` if a line could not be printed.
 pub fn export<N: Nodes, W: Write>(
     alloc: Global,
     nodes: &mut N,

@@ -15,12 +15,12 @@ use gb_types::{NodeId, Reply};
 use std::alloc::Global;
 use std::io::{Read, Write};
 
-/// How many milliseconds a node is let wait at most for something new.
+/// The longest time, in milliseconds, for which a node may wait for a new entry.
 pub const WAIT: u32 = 30_000;
 
 const _: () = prove!(WAIT == 30_000);
 
-// The next reply of a node to a fetch that waits.
+// Returns the next reply of a node to a fetch that waits.
 fn next_reply<R: Read>(alloc: Global, reader: &mut R) -> Result<Reply, ClientFault>
     ensures { IfOk result (λ reply. Consumes (R.remaining reader.old) (R.remaining reader.new) (framed (reply_spelling reply))) }
 {
@@ -31,7 +31,7 @@ fn next_reply<R: Read>(alloc: Global, reader: &mut R) -> Result<Reply, ClientFau
     }
 }
 
-// Asks a node what stands in a log from a place on, and lets it wait.
+// Asks a node for the entries of a log from index `from` on. The node may wait until it has one.
 fn ask_next<S: Write>(
     alloc: Global,
     sender: &mut S,
@@ -45,10 +45,10 @@ fn ask_next<S: Write>(
     send(sender, &body)
 }
 
-/// Asks `node` on one connection for the log of the group that `asked` names, from the place `from` on, and prints its entries as they
+/// Asks `node` on one connection for the log of the group that `asked` names, from index `from` on, and prints its entries as they
 /// come. The node may wait with each reply for at most `WAIT` milliseconds, until it has an entry. Goes on for `times` replies, or
 /// without end if that is `None`, or until the node refuses; a refusal is printed too. Returns the exit status: 0, or 1 after a refusal.
-/// `Err` with the fault if a fetch could not be asked or had no reply, with `NoReply` if what came is no log, and with `Output` if a line
+/// `Err` with the fault if a fetch could not be asked or had no reply, with `NoReply` if the reply is no log, and with `Output` if a line
 /// could not be printed.
 pub fn follow<R: Read, S: Write, W: Write>(
     alloc: Global,

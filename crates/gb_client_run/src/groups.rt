@@ -22,17 +22,17 @@ use gb_types::{Addr, NodeId, Refusal, Reply};
 use std::alloc::Global;
 use std::io::Write;
 
-/// What came of a request at a node.
+/// The result of a request at a node.
 #[derive(Clone, Copy, PartialEq, Eq)]
 pub enum Outcome {
     Done,
-    /// It was done before: the node refused, and lists the group as it is wanted.
+    /// It was done before: the node refused, and lists the group as the request wants it.
     Before,
     Refused(Refusal),
     Failed(ClientFault),
 }
 
-// Returns true if a node that refuses a request so may have done it before.
+// Returns true if a node that refuses a request with this refusal may have done the request before.
 fn may_be_done(head: Head, refusal: Refusal) -> bool {
     matches!(
         (head, refusal),
@@ -42,7 +42,7 @@ fn may_be_done(head: Head, refusal: Refusal) -> bool {
     )
 }
 
-// Returns true if what a request asks has been done at a node that lists the group so.
+// Returns true if the request has been done at a node that lists the group with this row.
 fn is_settled(alloc: Global, asked: &Asked<'_>, row: &Row<'_>) -> Result<bool, ClientFault> {
     match asked.head {
         Head::Group(CommandHead::Make) => is_made_so(alloc, row.text, asked.words.as_slice()),
@@ -60,7 +60,7 @@ fn address_of(asked: &Asked<'_>) -> Option<Addr> {
     read_address(tenant.as_bytes(), group.as_bytes())
 }
 
-// Returns true if what was found of a group is as a request asks it.
+// Returns true if the list's entry for a group is as the request wants the group.
 fn is_found(alloc: Global, asked: &Asked<'_>, found: &Found) -> Result<bool, ClientFault> {
     let Found::Row(text) = found else {
         return Ok(false);
@@ -91,7 +91,7 @@ fn was_done<N: Nodes>(
     is_found(alloc, asked, &found)
 }
 
-// What came of a request that a node refused: it had been done before, where the node lists the group so.
+// Returns the result of a request that a node refused: it had been done before if the node lists the group as the request wants it.
 fn settle<N: Nodes>(
     alloc: Global,
     nodes: &mut N,
@@ -112,7 +112,7 @@ fn settle<N: Nodes>(
     }
 }
 
-// Makes a request at a node.
+// Makes a request at a node, and returns the result.
 fn ask_at<N: Nodes>(
     alloc: Global,
     nodes: &mut N,
@@ -131,7 +131,7 @@ fn ask_at<N: Nodes>(
     }
 }
 
-// What has been done at a node, in a word.
+// Returns the word for a request that was done.
 fn done_word(head: Head) -> &'static [u8] {
     match head {
         Head::Group(CommandHead::Make) => b"made",
@@ -140,7 +140,7 @@ fn done_word(head: Head) -> &'static [u8] {
     }
 }
 
-// Appends what came of a request.
+// Appends the result of a request.
 fn put_outcome(
     alloc: Global,
     line: &mut Vec<u8>,
@@ -168,7 +168,7 @@ fn put_outcome(
     Ok(())
 }
 
-// The line of a node: what came of a request there.
+// Returns the line of a node: the result of a request there.
 fn outcome_line(
     alloc: Global,
     node: NodeId,
@@ -182,7 +182,7 @@ fn outcome_line(
     Ok(line)
 }
 
-// Prints of each node that it was not asked.
+// Prints, for each of these nodes, that it was not asked.
 fn print_not_asked<W: Write>(
     alloc: Global,
     nodes: &[NodeId],
@@ -197,7 +197,7 @@ fn print_not_asked<W: Write>(
     Ok(())
 }
 
-// The exit status for what came of a request.
+// Returns the exit status for the result of a request.
 fn outcome_status(outcome: Outcome) -> u8
     ensures { result ≡ outcome_status outcome }
 {
@@ -208,7 +208,7 @@ fn outcome_status(outcome: Outcome) -> u8
     }
 }
 
-// Makes a request at a node, and prints what came of it. Words and secrets that are wrong are a fault: they are so at every node.
+// Makes a request at a node, and prints the result. Wrong words and secrets are a fault, since they are wrong at every node.
 fn print_at<N: Nodes, W: Write>(
     alloc: Global,
     nodes: &mut N,
@@ -229,7 +229,7 @@ fn print_at<N: Nodes, W: Write>(
     Ok(outcome_status(outcome))
 }
 
-/// Makes the request `asked` (make, open or drop) at each node of `members` in turn, and prints a line for each with what it answered.
+/// Makes the request `asked` (make, open or drop) at each node of `members` in turn, and prints a line for each with its answer.
 /// Stops at the first node that refuses or fails, and prints that the others were not asked. A node that refuses because it did so
 /// before, as its list of groups shows, counts as done. Returns the exit status: 0 if it is done at all nodes, otherwise 1 after a
 /// refusal, or the status of the fault, 3 or 4. `Err` if words or secrets are wrong, since they are so at every node, and if a line could
@@ -256,7 +256,7 @@ pub fn ask_each<N: Nodes, W: Write>(
 }
 
 /// Makes a group at each node of `members` by the request `make`, then opens it at each by `opening`, and prints a line for each node
-/// with what it answered. It opens the group only if all nodes have made it, since a message is lost at a node that has not made it yet;
+/// with its answer. It opens the group only if all nodes have made it, since a message is lost at a node that has not made it yet;
 /// otherwise it prints `opened at no node`. Returns the exit status, as `ask_each` does: 0 if the group is made and open at all nodes.
 /// `Err` if words or secrets are wrong, and if a line could not be printed.
 pub fn make_group<N: Nodes, W: Write>(
@@ -279,7 +279,7 @@ pub fn make_group<N: Nodes, W: Write>(
     ask_each(alloc, nodes, target, members, opening, writer)
 }
 
-/// Drops a group at each node of `members` by the request `asked`, and prints a line for each with what it answered. Each node is asked,
+/// Drops a group at each node of `members` by the request `asked`, and prints a line for each with its answer. Each node is asked,
 /// even if another one refuses or fails. Returns the exit status: 0 if the group is dropped at all nodes, otherwise that of the last node
 /// where it is not: 1 after a refusal, or the status of the fault, 3 or 4. `Err` if words or secrets are wrong, and if a line could not
 /// be printed.

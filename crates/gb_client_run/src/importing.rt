@@ -1,4 +1,4 @@
-//! Importing an exported log: its entries are said again at a node.
+//! Importing an exported log: a client says its entries again at a node.
 ghost use Rattle.std.specs.Prelude.{◌≡◌, ◌≤◌, drop, filter, length, map, vec_len, IfOk};
 ghost use Rattle.gb_session.specs.declared.grammar.TheConstants.{BODY};
 ghost use Rattle.gb_client_run.specs.Importing.{SaysSo, HasTold, HasSaid, HasSaidOn, HasImported, reply_of, may_pass, said_line, count_line, is_chosen};
@@ -18,25 +18,25 @@ use gb_types::{Entries, Entry, NodeId, OutOfMemory, Refusal, Reply};
 use std::alloc::Global;
 use std::io::Write;
 
-/// How many times in a second a say is tried again.
+/// The number of tries of a say in a second.
 pub const TRIES: u32 = 20;
 
 const _: () = prove!(TRIES == 20);
 
-/// What waits a while between two tries.
+/// The trait of pauses between two tries.
 pub trait Pauses {
     /// Waits for the time between two tries of a say, and returns.
     fn pause(&self);
 }
 
-// Returns true if a say that was refused so may be taken later: other members have yet to acknowledge, or there was no memory.
+// Returns true if a say with this refusal may be taken later: other members have yet to acknowledge, or there was no memory.
 fn may_pass(refusal: Refusal) -> bool
     ensures { result ≡ may_pass refusal }
 {
     matches!(refusal, Refusal::Window | Refusal::OutOfMemory)
 }
 
-/// What came of a say.
+/// The result of a say.
 #[derive(Clone, Copy, PartialEq, Eq)]
 pub enum Told {
     /// It was said, with this number.
@@ -44,7 +44,7 @@ pub enum Told {
     Refused(Refusal),
 }
 
-// The body of a say of a payload.
+// Returns the body of a request to say a payload.
 fn say_of(alloc: Global, member: Member<'_>, payload: &[u8]) -> Result<Vec<u8>, ClientFault>
     ensures asked { IfOk result (λ body. SaysSo member.entry.target.secrets.now member.entry.node
         (map (λ word. word.now) member.entry.asked.now.words.items) payload.now body.items) }
@@ -64,7 +64,7 @@ fn say_of(alloc: Global, member: Member<'_>, payload: &[u8]) -> Result<Vec<u8>, 
     )
 }
 
-// What a reply tells of a say. `NoReply`: it is none to it.
+// Returns the result of a say that this reply reports. `Err` with `NoReply` if it is no reply to a say.
 fn told_by(reply: &Reply) -> Result<Told, ClientFault>
     ensures { IfOk result (λ told. reply.now ≡ reply_of told) }
 {
@@ -75,7 +75,7 @@ fn told_by(reply: &Reply) -> Result<Told, ClientFault>
     }
 }
 
-// What a node tells of a say of a payload. `NoReply`: what came is no reply to it.
+// Asks a node to say a payload, and returns the result. `Err` with `NoReply` if the bytes that came are no reply to a say.
 fn say_once<N: Nodes>(
     alloc: Global,
     nodes: &mut N,
@@ -95,7 +95,7 @@ fn say_once<N: Nodes>(
     Ok(told)
 }
 
-// Says a payload, and again after a pause as long as the refusal may pass, at most `tries` times more.
+// Says a payload. While the refusal may pass, says it again after a pause, at most `tries` times more. Returns the last result.
 fn say<N: Nodes, P: Pauses>(
     alloc: Global,
     nodes: &mut N,
@@ -118,7 +118,7 @@ fn say<N: Nodes, P: Pauses>(
     Ok(told)
 }
 
-// The line of an entry that was said again: the entry as it was, and its new number.
+// Returns the line of an entry that was said again: the entry as it was, and its new number.
 fn said_line(alloc: Global, entry: &Entry, seq: u16) -> Result<Vec<u8>, OutOfMemory>
     ensures { IfOk result (λ line. line.items ≡ said_line (record { entry = entry.now; seq = seq })) }
 {
@@ -132,7 +132,7 @@ fn said_line(alloc: Global, entry: &Entry, seq: u16) -> Result<Vec<u8>, OutOfMem
     Ok(line)
 }
 
-// The last line: how many are said by now.
+// Returns the last line, with the number of entries that are said by now.
 fn count_line(alloc: Global, count: usize) -> Result<Vec<u8>, OutOfMemory>
     ensures { IfOk result (λ line. line.items ≡ count_line count) }
 {
@@ -142,18 +142,18 @@ fn count_line(alloc: Global, count: usize) -> Result<Vec<u8>, OutOfMemory>
     Ok(line)
 }
 
-/// How the saying of entries ended.
+/// The end of an import.
 #[derive(Clone, Copy, PartialEq, Eq)]
 pub enum End {
     /// All were said.
     Whole,
     /// The next one was refused.
     Refused(Refusal),
-    /// What came of the next one is not known, or it was not asked for.
+    /// The result of the next one is not known, or it was not asked for.
     Failed(ClientFault),
 }
 
-// Says entries, in order, and prints each, until one is refused or fails. Returns how many were said, and how it ended.
+// Says entries, in order, and prints each, until one is refused or fails. Returns the number of entries that were said, and the end.
 fn say_all<N: Nodes, P: Pauses, W: Write>(
     alloc: Global,
     nodes: &mut N,
@@ -185,14 +185,14 @@ fn say_all<N: Nodes, P: Pauses, W: Write>(
     Ok((entries.len(), End::Whole))
 }
 
-// Returns true if an entry is said again at a node.
+// Returns true if an entry is one that is said again at a node.
 fn is_chosen(entry: &Entry, node: NodeId, is_all: bool) -> bool
     ensures { result ≡ is_chosen is_all node entry.now }
 {
     is_all || entry.origin.number == node.number
 }
 
-// The entries that are said again at a node.
+// Returns the entries that are said again at a node.
 fn chosen_of(
     alloc: Global,
     entries: &[Entry],
@@ -211,7 +211,7 @@ fn chosen_of(
     Ok(chosen)
 }
 
-// The entries behind the first ones.
+// Returns the entries from index `from` on.
 fn behind(entries: &[Entry], from: u32) -> &[Entry]
     ensures { result.now ≡ drop from entries.now }
 {

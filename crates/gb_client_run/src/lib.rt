@@ -1,4 +1,4 @@
-//! What a client does at a server: it asks nodes, by any connections, and prints what comes of it, by any writer. Read
+//! The work of a client at a server: it asks nodes, over any connections, and prints the results, to any writer. Read
 //! `nodes::Nodes` first, then `running::run_task`, `once::ask_once`, `following::follow`, `exporting::export` and `groups::make_group`.
 #![tactic(auto)]
 

@@ -1,4 +1,4 @@
-//! Where the nodes of a tenant's cluster are, looked up in a directory file.
+//! The hosts and ports of the nodes of a tenant's cluster, from a directory file.
 ghost use Rattle.std.specs.Prelude.{◌≡◌, ◌+◌, All, Contains, map, IfSome, IfOk, IfErr};
 ghost use Rattle.toml.specs.View.{view};
 ghost use Rattle.gb_client_run.specs.Listing.{IsPlaceOf, IsListFault};
@@ -9,7 +9,7 @@ use gb_types::NodeId;
 use std::alloc::{AllocFailed, Global};
 use toml::Value;
 
-/// Where the sessions of a node are.
+/// The host and the port of the sessions of a node.
 #[derive(Clone, Copy)]
 pub struct Listed<'a> {
     pub node: NodeId,
@@ -17,12 +17,12 @@ pub struct Listed<'a> {
     pub port: u16,
 }
 
-/// Why nodes are not listed.
+/// The reason why nodes cannot be listed.
 #[derive(Clone, Copy, PartialEq, Eq)]
 pub enum ListFault {
     /// A request for memory was refused.
     OutOfMemory,
-    /// The directory does not say where this node is.
+    /// The directory has no host and port for this node.
     Node(NodeId, DirectoryFault),
 }
 
@@ -36,7 +36,7 @@ impl<T: Drop> From<AllocFailed<T>> for ListFault {
     }
 }
 
-// Returns where a node of a tenant's cluster is.
+// Returns the host and the port of a node of a tenant's cluster.
 fn listed_node<'a>(file: &'a Value, tenant: u16, node: NodeId) -> Result<Listed<'a>, ListFault>
     ensures ok { IfOk result (λ listed. (listed.node ≡ node) × IsPlaceOf (view file.now) tenant listed) }
     ensures err { IfErr result (IsListFault (view file.now) tenant) }
@@ -52,7 +52,7 @@ fn listed_node<'a>(file: &'a Value, tenant: u16, node: NodeId) -> Result<Listed<
 }
 
 /// Returns for each of `nodes`, in that order, the host and port where clients reach its sessions, as the parsed directory file `file` has
-/// them for the tenant's cluster. `Err` with `Node`, the node and the reason, for the first node that the file has no such place for, and
+/// them for the tenant's cluster. `Err` with `Node`, the node and the reason, for the first node without a host and port in the file, and
 /// with `OutOfMemory`.
 #[tactic(auto, using(crate::proofs::ListingLemmas::nodes_more, crate::proofs::ListingLemmas::places_more))]
 pub fn list<'a>(
@@ -73,7 +73,7 @@ pub fn list<'a>(
     Ok(list)
 }
 
-/// Returns the entry of `list` that `port` stands for: port 64 + I stands for node I. `None` if the list has no such node.
+/// Returns the entry of `list` for `port`: port 64 + I is that of node I. `None` if the list has no such node.
 #[tactic(auto, using(crate::proofs::ListingLemmas::is_among))]
 pub fn listed_at<'a>(list: &[Listed<'a>], port: u16) -> Option<Listed<'a>>
     ensures named { IfSome result (λ listed. port ≡ 64 + listed.node.number) }

@@ -15,7 +15,7 @@ use gb_types::{Addr, NodeId, Reply};
 use std::alloc::Global;
 use std::io::Write;
 
-// Prints what came where something else was awaited: a refusal. The exit status.
+// Prints a refusal that came instead of the awaited reply. Returns the exit status.
 fn print_refusal<W: Write>(alloc: Global, text: &[u8], writer: &mut W) -> Result<u8, ClientFault> {
     match read_reply(alloc, text)? {
         Some(reply) if matches!(reply, Reply::Refused(_)) => {
@@ -28,7 +28,7 @@ fn print_refusal<W: Write>(alloc: Global, text: &[u8], writer: &mut W) -> Result
 
 /// Asks `node` for its figures, with the administrator's token of `target`, and prints them in a line to `writer`, or the node's refusal.
 /// Takes memory for the request and the reply. Returns the exit status: 0, or 1 after a refusal. `Err` with the fault if the node could not
-/// be asked or had no reply, with `NoReply` if what came is neither, with `Output` if the line could not be printed, and with
+/// be asked or had no reply, with `NoReply` if the reply is neither, with `Output` if the line could not be printed, and with
 /// `OutOfMemory`.
 pub fn print_status<N: Nodes, W: Write>(
     alloc: Global,
@@ -49,7 +49,7 @@ pub fn print_status<N: Nodes, W: Write>(
 }
 
 /// Asks `node` to end its server, and prints the reply, `ok` or a refusal. Returns the exit status: 0, or 1 after a refusal. `Err` with
-/// the fault if the node could not be asked or had no reply, with `NoReply` if what came is neither, and with `Output` if the line could
+/// the fault if the node could not be asked or had no reply, with `NoReply` if the reply is neither, and with `Output` if the line could
 /// not be printed.
 pub fn shut_down<N: Nodes, W: Write>(
     alloc: Global,
@@ -86,7 +86,7 @@ pub fn page_text<N: Nodes>(
     Ok(text)
 }
 
-// The lines of a page: how many groups there are in all, where it is the first, and each row.
+// Returns the lines of a page: the number of all groups if the page is the first, and a line for each row.
 fn page_lines(alloc: Global, page: &Page<'_>, is_first: bool) -> Result<Vec<u8>, ClientFault> {
     let mut lines = Vec::new(alloc);
     if is_first {
@@ -102,8 +102,8 @@ fn page_lines(alloc: Global, page: &Page<'_>, is_first: bool) -> Result<Vec<u8>,
 }
 
 /// Asks `node` for its list of groups, page by page, and prints `groups COUNT` and a line for each group, or the node's refusal. Returns
-/// the exit status: 0, or 1 after a refusal. `Err` with the fault if the node could not be asked or had no reply, with `NoReply` if what
-/// came is neither, and with `Output` if a line could not be printed.
+/// the exit status: 0, or 1 after a refusal. `Err` with the fault if the node could not be asked or had no reply, with `NoReply` if a
+/// reply is neither, and with `Output` if a line could not be printed.
 pub fn print_list<N: Nodes, W: Write>(
     alloc: Global,
     nodes: &mut N,
@@ -127,7 +127,7 @@ pub fn print_list<N: Nodes, W: Write>(
     Ok(0)
 }
 
-/// What a node lists of a group.
+/// The entry of a node's list for a group.
 #[derive(Drop)]
 pub enum Found {
     /// Its row.
@@ -138,7 +138,7 @@ pub enum Found {
     Refused(Vec<u8>),
 }
 
-// The text of the row of a group in a page.
+// Returns the text of the row of a group in a page.
 fn row_in<'a>(page: &Page<'a>, addr: Addr) -> Option<&'a [u8]> {
     for row in page.rows.as_slice() {
         if row.address == addr {
@@ -148,7 +148,7 @@ fn row_in<'a>(page: &Page<'a>, addr: Addr) -> Option<&'a [u8]> {
     None
 }
 
-// What a refusal to list comes to, from its text. `NoReply`: it is none.
+// Returns the refusal to list that this text is. `Err` with `NoReply` if it is no refusal.
 fn refusal_of(alloc: Global, text: &[u8]) -> Result<Found, ClientFault> {
     match read_reply(alloc, text)? {
         Some(reply) if matches!(reply, Reply::Refused(_)) => {
@@ -159,7 +159,7 @@ fn refusal_of(alloc: Global, text: &[u8]) -> Result<Found, ClientFault> {
     }
 }
 
-// What was found, and whether nothing more is to be asked; how many groups were looked at.
+// Looks for a group in a page that begins at index `from`. Returns the list's entry if the search is over, and the index behind the page.
 fn look_in(
     alloc: Global,
     text: &[u8],
@@ -183,7 +183,7 @@ fn look_in(
 
 /// Asks `node`, with the administrator's token, for its list of groups, page by page, until it names the group `addr`. Returns `Row` with
 /// the group's row, `None` if the node lists no such group, or `Refused` with the text of the node's refusal. `Err` with the fault if the
-/// node could not be asked or had no reply, and with `NoReply` if what came is no page and no refusal.
+/// node could not be asked or had no reply, and with `NoReply` if a reply is no page and no refusal.
 pub fn find<N: Nodes>(
     alloc: Global,
     nodes: &mut N,

@@ -1,4 +1,4 @@
-//! The nodes of a server, as a client asks them: a message to a port of the server, and the reply.
+//! The nodes of a server, as a client asks them: the client sends a message to a port of the server, and receives the reply.
 ghost use Rattle.std.specs.Prelude.{◌≤◌, length, IfOk};
 ghost use Rattle.gb_session.specs.declared.grammar.TheConstants.{BODY};
 
@@ -10,11 +10,11 @@ use std::alloc::Global;
 pub trait Nodes {
     ghost use Rattle.std.specs.Prelude.{ℕ, List};
 
-    // What the reply to a message at a port may be, and what it leaves.
+    // The replies that a message at a port may get, with the state after each.
     ghost asks: { Self → ℕ → List ℕ → List ℕ → Self → Type 0 };
 
     /// Sends `body` as a message to the sessions at `port`, waits, and returns the body of the reply. `Err` with `Connection` if nothing
-    /// was asked. `Err` with `Late` or `Lost` if it was asked and what came of it is not known.
+    /// was asked. `Err` with `Late` or `Lost` if it was asked and the result is not known.
     fn ask(&mut self, alloc: Global, port: u16, body: &[u8]) -> Result<Vec<u8>, ClientFault>
         requires { length body.now ≤ BODY }
         ensures { IfOk result (λ reply. asks self.old port body.now reply.items self.new) };

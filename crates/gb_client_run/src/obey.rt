@@ -1,4 +1,4 @@
-//! One errand at a server: what a client is told to do there is done, and what comes of it is printed.
+//! One errand at a server: the client does it there, and prints the result.
 ghost use Rattle.std.specs.Prelude.{IfOk};
 ghost use Rattle.gb_client_run.specs.Running.{HasObeyed};
 
@@ -16,7 +16,7 @@ use gb_types::NodeId;
 use std::alloc::Global;
 use std::io::Write;
 
-// The request that opens the group that another request names.
+// Returns the request that opens the group which the request `make` names.
 fn open_of<'a>(alloc: Global, make: &Asked<'a>) -> Result<Asked<'a>, ClientFault> {
     let [tenant, group, ..] = make.words.as_slice() else {
         return Err(ClientFault::Words);
@@ -31,7 +31,7 @@ fn open_of<'a>(alloc: Global, make: &Asked<'a>) -> Result<Asked<'a>, ClientFault
     })
 }
 
-// Makes a group by the words of `make`, and opens it.
+// Makes a group by the words of `make`, and opens it. Returns the exit status.
 fn obey_group<N: Nodes, W: Write>(
     alloc: Global,
     nodes: &mut N,
@@ -44,7 +44,7 @@ fn obey_group<N: Nodes, W: Write>(
     make_group(alloc, nodes, target, members, make, &open, writer)
 }
 
-/// Does one errand at the server of `target`, over `nodes`, and prints what comes of it to `writer`. Returns the exit status: 0 if it is
+/// Does one errand at the server of `target`, over `nodes`, and prints the result to `writer`. Returns the exit status: 0 if it is
 /// done, 1 if a node refused or nodes differ, and otherwise that of the fault at a node. `Err` with the fault that ended it, and with
 /// `Words` for `Follow` and `Import`, which are done by `following::follow`, with a connection of its own, and by `importing::import`,
 /// which takes a text.

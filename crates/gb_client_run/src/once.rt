@@ -32,8 +32,8 @@ pub fn answers(head: Head, reply: &Reply) -> bool
     }
 }
 
-/// Makes the request `asked` at `node` and returns the node's reply, which may be a refusal. `Err` with `NoReply` if what came is no
-/// reply to this request, and with the fault if it could not be asked or had no reply.
+/// Makes the request `asked` at `node` and returns the node's reply, which may be a refusal. `Err` with `NoReply` if the bytes that came
+/// are no reply to this request, and with the fault if it could not be asked or had no reply.
 pub fn reply_to<N: Nodes>(
     alloc: Global,
     nodes: &mut N,
@@ -56,8 +56,8 @@ pub fn reply_to<N: Nodes>(
 }
 
 /// Makes the request `asked` at `node` and prints the node's reply. Returns the exit status: 0, or 1 if the reply is a refusal. `Err`
-/// with `NoReply` if what came is no reply to this request, with `Output` if it could not be printed, and with the fault if it could not
-/// be asked or had no reply.
+/// with `NoReply` if the bytes that came are no reply to this request, with `Output` if it could not be printed, and with the fault if it
+/// could not be asked or had no reply.
 pub fn ask_once<N: Nodes, W: Write>(
     alloc: Global,
     nodes: &mut N,

@@ -10,7 +10,7 @@ use std::alloc::Global;
 use std::io::Write;
 
 /// Writes `text` to `writer` and flushes it, so that it is seen at once. `Err` with `Output` if it could not be written; then a part of
-/// it may be.
+/// it may have been.
 pub fn print<W: Write>(writer: &mut W, text: &[u8]) -> Result<(), ClientFault>
     ensures ok { OnOk result (Appends (W.contents writer.old) (W.contents writer.new) text.now) }
     ensures fault { IfErr result (λ why. why ≡ ClientFault.Output) }

@@ -1,8 +1,8 @@
-//! What a group was made with, as a node's list tells it in a row `T:G:KIND:MEMBERS:MSGS:BYTES:WINDOW:PHASE:LOG`.
+//! The words that made a group, read from the row of a node's list, `T:G:KIND:MEMBERS:MSGS:BYTES:WINDOW:PHASE:LOG`.
 use gb_client::ClientFault;
 use std::alloc::Global;
 
-// The parts of a row.
+// Returns the parts of a row, which colons separate.
 fn parts_of<'a>(alloc: Global, row: &'a [u8]) -> Result<Vec<&'a [u8]>, ClientFault> {
     Ok(row.split(|byte| *byte == b':').collect(alloc)?)
 }
@@ -28,7 +28,7 @@ pub fn is_made_so(alloc: Global, row: &[u8], words: &[&str]) -> Result<bool, Cli
     Ok(are_same(parts.as_slice(), words))
 }
 
-// What the group of a row was made with, a colon behind each word.
+// Returns the parts of a row that say what its group was made with, each followed by a colon.
 fn joined(alloc: Global, parts: &[&[u8]]) -> Result<Vec<u8>, ClientFault> {
     let mut text = Vec::new(alloc);
     for (place, part) in parts.iter().enumerate() {
@@ -40,7 +40,7 @@ fn joined(alloc: Global, parts: &[&[u8]]) -> Result<Vec<u8>, ClientFault> {
     Ok(text)
 }
 
-/// Returns what the group of `row` was made with: `KIND:MEMBERS:MSGS:BYTES:WINDOW:`, with a colon behind each. `None` if its members are
+/// Returns the words that made the group of `row`: `KIND:MEMBERS:MSGS:BYTES:WINDOW:`, each followed by a colon. `None` if its members are
 /// others than the word `members`, which is so for a dropped group, or if the row has not nine parts. `Err` with `OutOfMemory`.
 pub fn spec_in(alloc: Global, row: &[u8], members: &[u8]) -> Result<Option<Vec<u8>>, ClientFault> {
     let parts = parts_of(alloc, row)?;

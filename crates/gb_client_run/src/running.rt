@@ -17,7 +17,7 @@ use gb_client::{ClientFault, Errand, Secrets, Task};
 use std::alloc::Global;
 use std::io::{Read, Write};
 
-// Prints the token for a need. The exit status.
+// Prints the token for a need. Returns the exit status.
 fn show_token<W: Write>(
     alloc: Global,
     secrets: &Secrets,
@@ -32,7 +32,7 @@ fn show_token<W: Write>(
     Ok(0)
 }
 
-// Does an errand at a server. The exit status, or the fault that ended it.
+// Does an errand at a server. Returns the exit status. `Err` with the fault that ended it.
 #[tactic(auto, using(crate::proofs::RunningLemmas::obeyed_done))]
 fn do_errand<N: Nodes, P: Pauses, R: Read, S: Write, W: Write>(
     alloc: Global,
@@ -72,7 +72,7 @@ fn do_errand<N: Nodes, P: Pauses, R: Read, S: Write, W: Write>(
     }
 }
 
-// Does a task. The exit status, or the fault that ended it.
+// Does a task. Returns the exit status. `Err` with the fault that ended it.
 fn do_task<N: Nodes, P: Pauses, R: Read, S: Write, W: Write>(
     alloc: Global,
     nodes: &mut N,
@@ -102,8 +102,8 @@ fn do_task<N: Nodes, P: Pauses, R: Read, S: Write, W: Write>(
 }
 
 /// Does `task` from its beginning to its end. A token is printed, and an errand is done over `nodes`; but a log is followed on the
-/// connection of `reader` and `sender`, and `log` is the text that is imported, with `pauses` between two tries of a say. What comes of it
-/// is printed to `writer`, replies and refusals alike, and only a fault is told, in a line to `complaints`, as `ending::end_run` does.
+/// connection of `reader` and `sender`, and `log` is the text that is imported, with `pauses` between two tries of a say. The result, a reply
+/// or a refusal, is printed to `writer`. Only a fault is written, in a line, to `complaints`, as `ending::end_run` does.
 /// Returns the exit status of the client: 0 if it is done, 1 after a refusal or where nodes differ, and otherwise that of the fault.
 pub fn run_task<N: Nodes, P: Pauses, R: Read, S: Write, W: Write, E: Write>(
     alloc: Global,

@@ -1,4 +1,4 @@
-//! The secrets of the client, read from a file or from standard input, and what is said where they are refused.
+//! The secrets of the client, read from a file or from standard input, and the complaint where they are refused.
 ghost use Rattle.std.specs.Prelude.{◌≡◌, ◌≤◌, Some, IfOk, IfSome, length, take};
 ghost use Rattle.gb_client.specs.Secrets.{secrets_of, secrets_status};
 
@@ -7,7 +7,7 @@ use gb_client::secrets::{SECRETS, SecretsFault, read_secrets, secrets_status};
 use std::alloc::Global;
 use std::io::{Read, Write};
 
-// Reads a text, but no more of it than shows that it is too long.
+// Reads a text, and at most one byte more than the longest allowed text.
 #[tactic(auto, using(crate::proofs::SecretTextLemmas::first_bytes))]
 fn read_text<R: Read + Drop>(alloc: Global, reader: R) -> Result<Vec<u8>, SecretsFault>
     ensures { IfOk result (λ text. IfSome (R.remaining reader) (λ bytes. text.items ≡ take 65537 bytes)) }

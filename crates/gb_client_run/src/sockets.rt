@@ -1,4 +1,4 @@
-//! Nodes that are asked over sockets: of this machine, or where a directory file lists them.
+//! Nodes that are asked over sockets: on this machine, or at the hosts that a directory file lists.
 use crate::importing::{Pauses, TRIES};
 use crate::listed::{Listed, listed_at};
 use crate::nodes::Nodes;
@@ -10,7 +10,7 @@ use std::net::{Net, TcpStream};
 use std::thread;
 use std::time::{Clock, Duration};
 
-// Returns the host and the port that a port of a server stands for: that port of this machine, or what the list has.
+// Returns the host and the port for a port of a server: that port of this machine, or the entry of the list.
 fn place_of<'a>(list: Option<&'a [Listed<'a>]>, port: u16) -> Option<(&'a str, u16)> {
     match list {
         None => Some(("127.0.0.1", port)),
@@ -22,7 +22,7 @@ fn place_of<'a>(list: Option<&'a [Listed<'a>]>, port: u16) -> Option<(&'a str, u
 }
 
 /// Opens and returns a TCP connection to a port of a server, on which each read waits for at most `seconds` seconds. Without `list` the
-/// server is on this machine; otherwise port 64 + I stands for the host and the port that `list` has for node I. `Err` with `Connection`
+/// server is on this machine; otherwise port 64 + I means the host and the port that `list` has for node I. `Err` with `Connection`
 /// if the list has no such node, or if the connection could not be made.
 pub fn connect<H: Net<Stream = TcpStream>>(
     rt: &H,
@@ -43,8 +43,8 @@ pub fn connect<H: Net<Stream = TcpStream>>(
     Ok(stream)
 }
 
-/// Returns true if the other end closed the connection, or it broke, and nothing is left to read. Does not wait. A node closes a
-/// connection without a word if it has too many.
+/// Returns true if the other end closed the connection, or it broke, and nothing is left to read. Does not wait. A node that has too
+/// many connections closes one without a word.
 pub fn is_closed(stream: &TcpStream) -> bool {
     let mut space = [0u8; 1];
     if stream.set_nonblocking(true).is_err() {
@@ -66,8 +66,8 @@ pub struct Sockets<'a, H> {
 }
 
 impl<'a, H> Sockets<'a, H> {
-    /// Returns the nodes of a server, which are asked over TCP, with a new connection for each message. They are on this machine, or
-    /// where `list` has them. Each read of a reply may take `seconds` seconds. Opens nothing yet.
+    /// Returns the nodes of a server, which are asked over TCP, with a new connection for each message. They are on this machine, or at the
+    /// hosts that `list` has. Each read of a reply may take `seconds` seconds. Opens nothing yet.
     pub fn new(rt: &'a H, list: Option<&'a [Listed<'a>]>, seconds: u64) -> Sockets<'a, H> {
         Sockets { rt, list, seconds }
     }
@@ -76,12 +76,12 @@ impl<'a, H> Sockets<'a, H> {
 impl<H: Net<Stream = TcpStream>> Nodes for Sockets<'_, H> {
     ghost use Rattle.std.specs.Prelude.{⊤};
 
-    // No contract can say what a socket carries.
+    // No contract describes the bytes that a socket carries.
     ghost asks = { λ _ _ _ _ _. ⊤ };
 
     fn ask(&mut self, alloc: Global, port: u16, body: &[u8]) -> Result<Vec<u8>, ClientFault> {
         let mut stream = connect(self.rt, self.list, port, self.seconds)?;
-        // Of a message that could not be sent whole a node reads no request.
+        // A node reads no request from a message that was not sent whole.
         if is_closed(&stream) || send(&mut stream, body).is_err() {
             return Err(ClientFault::Connection);
         }
@@ -89,7 +89,7 @@ impl<H: Net<Stream = TcpStream>> Nodes for Sockets<'_, H> {
     }
 }
 
-// The milliseconds between two tries of a say: so long that there are `TRIES` of them in a second.
+// The milliseconds between two tries of a say: there are `TRIES` of them in a second.
 const PAUSE: u64 = 50;
 
 const _: () = prove!(PAUSE * TRIES as u64 == 1_000);

@@ -1,4 +1,4 @@
-//! Whom a client asks, and what it knows.
+//! The nodes that a client asks, and the secrets that it has.
 use gb_client::{Asked, Secrets, Server};
 use gb_types::NodeId;
 

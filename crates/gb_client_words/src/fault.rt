@@ -1,32 +1,32 @@
-//! Why the words of gb_ctl's command line ask for nothing, and the exit status for it.
+//! The reasons why the words of gb_ctl's command line are no plan, and the exit status for them.
 use std::alloc::{AllocError, AllocFailed};
 use thiserror::Error;
 
-/// Why words that `clap` took ask for nothing.
+/// The reason why words that `clap` took are no plan.
 #[derive(Clone, Copy, Debug, PartialEq, Eq, Error)]
 pub enum PlanFault {
     /// There is no subcommand.
     #[error("a subcommand is needed; --help has them")]
     NoSubcommand,
-    /// A server is to be asked, and it is not said at which port.
+    /// A server is to be asked, and its port is not given.
     #[error("--port P is needed before the subcommand: the server's base port, 1024 to 65000; or --directory FILE, which says where the nodes are")]
     NoPort,
-    /// It is said twice where the nodes are.
+    /// The nodes of the server are given twice.
     #[error("--port and --directory both say where the nodes are; give one of them")]
     TwoServers,
-    /// The subcommand names no tenant, whose cluster a directory file could say.
+    /// The subcommand names no tenant, which a directory file needs to find the cluster.
     #[error("--directory takes a subcommand that names a tenant; status, list and shutdown take --port P")]
     NoTenant,
-    /// A node is to be asked, and it is not said which.
+    /// A node is to be asked, and its number is not given.
     #[error("--node I is needed before the subcommand: the node's number, 0 to 31")]
     NoNode,
     /// A log is to be read from standard input, and so are the secrets.
     #[error("--secrets FILE is needed before import: its standard input has the log")]
     NoSecrets,
-    /// The nodes are not spelt as they are to be.
+    /// The nodes are not spelt as they should be.
     #[error("--nodes takes numbers of nodes from 0 to 31, rising, with commas between them, as 0,1,2")]
     Nodes,
-    /// What a token is asked for is not spelt as it is to be.
+    /// The need of a token is not spelt as it should be.
     #[error("token takes admin, tenant T or member T G")]
     Need,
     /// The tenant is no number of two bytes.

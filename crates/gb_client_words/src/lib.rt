@@ -1,5 +1,5 @@
-//! The command line of the client: from the words that a shell hands over to a plan, by `clap`. What a plan asks for, and
-//! what comes of it, is gb_client's. Read `words::plan_of` first.
+//! The command line of the client: it makes a plan from the words of a shell, by `clap`. The tasks of plans are those of
+//! gb_client, and gb_client_run executes them. Read `words::plan_of` first.
 #![tactic(auto)]
 
 pub mod fault;

@@ -21,33 +21,33 @@ pub struct Lookup<'a> {
     pub tenant: u16,
 }
 
-/// What the words of a command line ask for.
+/// The plan of the words of a command line.
 #[derive(Drop)]
 pub struct Plan<'a> {
-    /// The file with the secrets. None: they come from standard input.
+    /// The file with the secrets. `None` if they come from standard input.
     pub secrets: Option<&'a str>,
-    /// Where the nodes of the task's server are looked up. None: they are on this machine, at its ports.
+    /// The directory in which the nodes of the task's server are looked up. `None` if they are on this machine, at its ports.
     pub lookup: Option<Lookup<'a>>,
     pub task: Task<'a>,
 }
 
-// How an argument is given.
+// The form of an argument.
 enum Form {
-    // A required word in its place.
+    // A required word at its position.
     Word,
-    // A word in its place that may be left out.
+    // A word at its position that may be left out.
     OptionalWord,
     // `--NAME`, for payloads as text.
     Flag,
     // `--NAME VALUE`, which may be left out, with the name of its value.
     Named(&'static str),
-    // The same, which must be there.
+    // `--NAME VALUE`, which must be given, with the name of its value.
     Required(&'static str),
     // `--NAME VALUE`, which may be left out, with the name of its value and the least and the most number.
     Number(&'static str, i64, i64),
 }
 
-// An argument: its name, what it is, and how it is given.
+// An argument: its name, its help, and its form.
 struct ArgWords {
     name: &'static str,
     help: &'static str,
@@ -222,10 +222,10 @@ const WAIT: ArgWords = ArgWords {
     form: Form::Number("SECONDS", 1, 3_600),
 };
 
-// The options that stand before the subcommand.
+// The options before the subcommand.
 static OPTIONS: &[ArgWords] = &[PORT, DIRECTORY, NODE, SECRETS, WAIT];
 
-// What a subcommand asks for.
+// The purpose of a subcommand.
 #[derive(Clone, Copy)]
 enum Purpose {
     Token,
@@ -241,7 +241,7 @@ enum Purpose {
     Shutdown,
 }
 
-// A subcommand: its name, what it asks for and what it does, and what stands behind it.
+// A subcommand: its name, its purpose and its help, and its arguments.
 struct SubcommandWords {
     name: &'static str,
     purpose: Purpose,
@@ -348,12 +348,12 @@ static SUBCOMMANDS: &[SubcommandWords] = &[
     },
 ];
 
-// An argument that is an option with a value.
+// Returns an argument that is an option with a value.
 fn with_value<'a>(arg: Arg<'a>, name: &'static str, value_name: &'static str) -> Arg<'a> {
     arg.long(name).value_name(value_name).action(ArgAction::Set)
 }
 
-// The argument that a row of a table says.
+// Returns the argument of a row of a table.
 fn arg_of<'a>(alloc: Global, words: &ArgWords) -> Arg<'a> {
     let name = words.name;
     let bare = Arg::new(alloc, name).help(words.help);
@@ -369,7 +369,7 @@ fn arg_of<'a>(alloc: Global, words: &ArgWords) -> Arg<'a> {
     }
 }
 
-// A command with more arguments.
+// Returns a command with more arguments.
 fn with_args<'a>(
     alloc: Global,
     command: Command<'a>,
@@ -382,13 +382,13 @@ fn with_args<'a>(
     Ok(command)
 }
 
-// The subcommand that a row of the table says.
+// Returns the subcommand of a row of the table.
 fn subcommand_of<'a>(alloc: Global, words: &SubcommandWords) -> Result<Command<'a>, AllocError> {
     let bare = Command::new(alloc, words.name).about(words.about);
     with_args(alloc, bare, words.args)
 }
 
-// A command with more subcommands.
+// Returns a command with more subcommands.
 fn with_subcommands<'a>(
     alloc: Global,
     command: Command<'a>,
@@ -402,7 +402,7 @@ fn with_subcommands<'a>(
     Ok(command)
 }
 
-/// What the help says behind the options.
+/// The text of the help behind the options.
 static AFTER: &str =
     "Secrets are lines `admin KEY`, `tenant KEY` or `token TOKEN`, each with 64 hexadecimal digits. \
 The token of a request is the one that is given, or else is made of the key: of the administrator's for tenant, check, status, list and \
@@ -427,7 +427,7 @@ pub fn command<'a>(alloc: Global) -> Result<Command<'a>, AllocError> {
     with_subcommands(alloc, command, SUBCOMMANDS)
 }
 
-// The subcommand with this name.
+// Returns the subcommand with this name. `None` if there is none.
 fn subcommand_named(
     subcommands: &'static [SubcommandWords],
     name: &str,
@@ -440,7 +440,7 @@ fn subcommand_named(
     None
 }
 
-// The required words among these arguments that were given.
+// Returns the required words among these arguments, as they were given.
 fn given<'a>(
     alloc: Global,
     matches: &ArgMatches<'a>,
@@ -457,7 +457,7 @@ fn given<'a>(
     Ok(given)
 }
 
-// What a token is asked for.
+// Returns the need of a token.
 fn need<'a>(node: Option<NodeId>, matches: &ArgMatches<'a>) -> Result<Need, PlanFault> {
     let need = matches.get_str("NEED").ok_or(PlanFault::Need)?;
     let tenant = matches.get_str("T");
@@ -481,12 +481,12 @@ fn need<'a>(node: Option<NodeId>, matches: &ArgMatches<'a>) -> Result<Need, Plan
     }
 }
 
-// A number of an option, where that was given.
+// Returns the number that is given for an option. `None` if none is.
 fn number<'a>(matches: &ArgMatches<'a>, id: &str) -> Option<u32> {
     read_u32(matches.get_str(id)?.as_bytes())
 }
 
-// The nodes of an option. None where it was not given.
+// Returns the nodes that are given for an option. `None` if none are.
 fn nodes<'a>(alloc: Global, matches: &ArgMatches<'a>) -> Result<Option<Vec<NodeId>>, PlanFault> {
     let Some(word) = matches.get_str("nodes") else {
         return Ok(None);
@@ -499,7 +499,7 @@ fn nodes<'a>(alloc: Global, matches: &ArgMatches<'a>) -> Result<Option<Vec<NodeI
     Ok(Some(found))
 }
 
-// What is asked of a node, with the words that were given.
+// Returns a request to a node, with the words that were given.
 fn asked<'a>(
     alloc: Global,
     head: Head,
@@ -515,7 +515,7 @@ fn asked<'a>(
     })
 }
 
-// A group to make at nodes: the words of `make`, with the nodes as its members.
+// Returns the errand to make a group at nodes: the words of `make`, with the nodes as its members.
 fn group_task<'a>(
     alloc: Global,
     matches: &ArgMatches<'a>,
@@ -540,7 +540,7 @@ fn group_task<'a>(
     Ok(Errand::Group(nodes, asked))
 }
 
-// A group to drop: at nodes, or at one.
+// Returns the errand to drop a group at nodes, or the request to drop it at one.
 fn drop_task<'a>(
     alloc: Global,
     node: Option<NodeId>,
@@ -554,7 +554,7 @@ fn drop_task<'a>(
     }
 }
 
-// A group to compare at nodes.
+// Returns the errand to compare a group at nodes.
 fn check_task<'a>(alloc: Global, matches: &ArgMatches<'a>) -> Result<Errand<'a>, PlanFault> {
     let nodes = nodes(alloc, matches)?.ok_or(PlanFault::Nodes)?;
     let tenant = matches.get_str("T").ok_or(PlanFault::Tenant)?;
@@ -566,7 +566,7 @@ fn check_task<'a>(alloc: Global, matches: &ArgMatches<'a>) -> Result<Errand<'a>,
     Ok(Errand::Check(nodes, addr))
 }
 
-// What a subcommand asks of a server.
+// Returns the errand of a subcommand at a server.
 fn errand<'a>(
     alloc: Global,
     node: Option<NodeId>,
@@ -620,7 +620,7 @@ fn errand<'a>(
     })
 }
 
-// Where the nodes are looked up. None: they are on this machine, or none is asked.
+// Returns the directory in which the nodes are looked up. `None` if they are on this machine, or no node is asked.
 fn lookup_of<'a>(
     matches: &ArgMatches<'a>,
     purpose: Purpose,
@@ -642,7 +642,7 @@ fn lookup_of<'a>(
     Ok(Some(Lookup { file, tenant }))
 }
 
-// The base port of the server that is asked.
+// Returns the base port of the server that is asked.
 fn base_port<'a>(matches: &ArgMatches<'a>, lookup: &Option<Lookup<'a>>) -> Result<u16, PlanFault> {
     match lookup {
         Some(_) => Ok(LISTED),
@@ -650,7 +650,7 @@ fn base_port<'a>(matches: &ArgMatches<'a>, lookup: &Option<Lookup<'a>>) -> Resul
     }
 }
 
-// What a subcommand asks for.
+// Returns the task of a subcommand.
 fn task<'a>(
     alloc: Global,
     matches: &ArgMatches<'a>,
@@ -672,14 +672,14 @@ fn task<'a>(
     Ok(Task::At(server, errand))
 }
 
-// How many seconds a reply may take, if not told.
+// The seconds that a reply may take if the words give no number.
 const SECONDS: u32 = 10;
 
 const _: () = prove!(SECONDS == 10);
 
-/// Returns the plan that the words of a command line make: where the secrets are, where nodes are looked up, and the task. `matches` is
-/// what `clap` made of the words. Does no input or output. `Err` with the fault if a subcommand, a needed option or a needed word is
-/// missing, if two options exclude each other, or if a word is not spelt as it is to be, and with `OutOfMemory`.
+/// Returns the plan that the words of a command line make: the file of the secrets, the directory of the nodes, and the task. `matches` is
+/// the result of `clap` for the words. Does no input or output. `Err` with the fault if a subcommand, a needed option or a needed word is
+/// missing, if two options exclude each other, or if a word is not spelt as it should be, and with `OutOfMemory`.
 pub fn plan_of<'a>(alloc: Global, matches: &ArgMatches<'a>) -> Result<Plan<'a>, PlanFault> {
     let (name, inner) = matches.subcommand().ok_or(PlanFault::NoSubcommand)?;
     let subcommand = subcommand_named(SUBCOMMANDS, name).ok_or(PlanFault::NoSubcommand)?;

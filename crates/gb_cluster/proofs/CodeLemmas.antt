@@ -1,4 +1,4 @@
--- What the parts of the code yield together.
+-- The contracts of the parts of the code, together.
 use Rattle.gb_types.specs.Common.{◌≡◌, ℕ, zero, suc, ◌-◌, ◌<◌, ◌≤◌, inl, inr, true, false, Bool, List, [], ◌∷◌, length, map, get_or, Option, Some, None, refl, sym, ap, subst, ◌∙◌, arith, slice_get, slice_set, Contains, IsSome, MatchBool, if◌then◌else◌, range_with_len, cases_Bool, get_or_default, slice_get_past}
 use Rattle.gb_types.specs.declared.{node.NodeId.NodeId, plan.Plan.Plan}
 use Rattle.gb_node.specs.Common.{node_numbered, running_turn, stopped_answer, IsStarved, IsTurn, NodeValue, new_node}
@@ -11,7 +11,7 @@ use Rattle.gb_cluster.specs.declared.{answer.Answer.Answer, answer.Answer.TheVar
 use Rattle.gb_cluster.specs.Links.{PacketsAreHonest}
 use Rattle.gb_cluster.proofs.NodesLemmas.{stays}
 
--- An answer with what is sent is none of an event to which neither a stopped node nor a running one gives such an answer.
+-- An answer with the result of a send is not that of an event to which neither a stopped node nor a running one gives such an answer.
 silent : (v : NodeValue) (e : NodeEvent) (s : SentValue) (w : NodeValue) → (IsStarved e (stopped_answer e) (Sent s) → ⊥) → (IsStarved e (running_turn v e).answer (Sent s) → ⊥)
     → (stopped_answer e ≡ Sent s → ⊥) → ((running_turn v e).answer ≡ Sent s → ⊥) → IsTurn v e (Sent s) w → ⊥
 silent v e s w stopped_starved running_starved stopped running (inl starved) = elim (cases_Bool v.stopped) [
@@ -23,7 +23,7 @@ silent v e s w stopped_starved running_starved stopped running (inr went) = elim
   | inr h ↦ running (sym (went.0 ∙ ap (λ b. (if b then record { value = v; answer = stopped_answer e } else running_turn v e).answer) h))
 ]
 
--- only an event that sends to some node is answered with what is sent
+-- only an event that sends to some node has an answer with the result of a send
 pub sends_somewhere : (v : NodeValue) (e : NodeEvent) (s : SentValue) (w : NodeValue) → IsTurn v e (Sent s) w → IsSome (receiver_of e)
 sends_somewhere v (Pack b) s w turned = refl
 sends_somewhere v (Again b n) s w turned = refl
@@ -33,7 +33,7 @@ sends_somewhere v (Came bytes) s w turned = absurd (silent v (Came bytes) s w (�
 sends_somewhere v Tick s w turned = absurd (silent v Tick s w (λ x. x) (λ x. x) (λ x. cc) (λ x. cc) turned)
 sends_somewhere v Stop s w turned = absurd (silent v Stop s w (λ x. x) (λ x. x) (λ x. cc) (λ x. cc) turned)
 
--- the node that was read at an index takes an event
+-- the node at an index takes an event
 pub acted : (plan : Plan) (nodes : List NodeValue) (before after : List Posted) (a : NodeId) (i : ℕ) (event : NodeEvent) (answer : Answer) (old new : NodeValue) → i ≡ a.number → i < length nodes → old ≡ get_or nodes i old
     → IsNodeTurn old event before answer new after → IsAt (cluster plan nodes before) a event answer (cluster plan (slice_set nodes i new) after)
 acted plan nodes before after a i event answer old new place within read turned =
@@ -86,13 +86,13 @@ pub numbered_contains : (packets : List Posted) (k : ℕ) (p : Posted) → packe
 numbered_contains packets zero p e = absurd (cc)
 numbered_contains packets (suc k) p e = get_contains packets k p e
 
--- bytes that arrive as a packet were posted to the node where they arrive
+-- bytes that arrive as a packet were sent to the node where they arrive
 pub arrived_was_posted : (packets : List Posted) (k : ℕ) (p : Posted) (bytes : List ℕ) → packet_numbered packets k ≡ Some p → Came p.text ≡ Came bytes → Contains packets (record { to = p.to; text = bytes })
 arrived_was_posted packets k p bytes is same =
     let is_text : p.text ≡ bytes = cc in
     subst (λ t. Contains packets (record { to = p.to; text = t })) is_text (numbered_contains packets k p is)
 
--- a run goes on by a step
+-- a run is continued by a step
 abbrev RunsOn : Plan → ClusterValue → Event → Answer → List NodeStep → ClusterValue → Type 0
 RunsOn plan old event answer earlier new = (run : List NodeStep) × Happens old event answer earlier new run × ComesTo plan run new
 
@@ -116,7 +116,7 @@ goes_on old new (Arrive k) answer step plan earlier comes = by (packet_numbered 
           (old, comes, λ bytes same yes. arrived_was_posted old.packets k p bytes is same, step.1),
         )
 
--- the plan and the number of nodes stay
+-- the plan and the number of nodes do not change
 pub kept_after : (old new : ClusterValue) (event : Event) (answer : Answer) → IsReached old → IsStep old event answer new → IsReached new × (new.plan ≡ old.plan) × (length new.nodes ≡ length old.nodes)
 kept_after old new event answer reached step =
     let before = stays old.plan reached.0 old reached.1 in

@@ -8,7 +8,7 @@ use Rattle.gb_cluster.specs.ClusterStep.{NodeActs, posted}
 use Rattle.gb_cluster.specs.ClusterValue.{ClusterValue, cluster, node_at}
 use Rattle.gb_cluster.specs.Run.{ComesTo}
 
--- where memory lacked, the answer is not the one that should be
+-- if memory ran out, the answer is not the one that should be
 unstarved : (event : NodeEvent) (answer : NodeAnswer) → IsStarved event answer answer → ⊥
 unstarved (Asked request) (Replied reply) (is, takes) = let same : reply ≡ Refused OutOfMemory = cc in cc (ap takes_memory same, takes.1)
 unstarved (Asked request) (Sent (SentPacket text)) is = cc

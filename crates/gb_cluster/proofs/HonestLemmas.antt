@@ -1,4 +1,4 @@
--- Packets say what their senders did.
+-- Packets are honest about what their senders did.
 use Rattle.gb_types.specs.Common.{◌≡◌, ◌≢◌, ℕ, zero, suc, ◌+◌, ◌-◌, ◌<◌, ◌≤◌, inl, inr, true, false, Bool, List, [], ◌∷◌, ◌++◌, length, map, Option, Some, None, refl, sym, ap, subst, ◌∙◌, arith, ◌⊎◌, not, cond, filter, find, nat_eq, option_map, slice_get, slice_index_or, if◌then◌else◌, AllByRecursion, cases_Bool, cases_eq, eq-eqb, append_assoc, length-append}
 use Rattle.gb_types.specs.declared.{node.NodeId.NodeId, plan.Plan.Plan}
 use Rattle.gb_frame.specs.declared.item.Item.{Item}
@@ -17,7 +17,7 @@ use Rattle.gb_types.proofs.BoolLemmas.{or_second}
 use Rattle.gb_cluster.specs.declared.posted.Posted.{Posted}
 use Rattle.gb_cluster.proofs.NodesLemmas.{stays, past_same, past_other, have_pasts}
 
--- Places in lists.
+-- Elements of lists by index.
 
 pub get_left : {X : Type 0} (xs ys : List X) (k : ℕ) (x : X) → slice_get xs k ≡ Some x → slice_get (xs ++ ys) k ≡ Some x
 get_left [] ys k x e = absurd (cc)
@@ -40,7 +40,7 @@ contains_get [] k x l e = absurd (omega (arith, l))
 contains_get (y ∷ xs) zero x l e = ap Some e
 contains_get (y ∷ xs) (suc k) x l e = contains_get xs k x (omega (arith, l)) e
 
--- What a longer run still says.
+-- Properties of a run that hold of each longer run.
 
 pub frames_more : (key : List ℕ) (b k : ℕ) (items : List Item) (a : NodeId) (d : NodeStep) (run : List NodeStep) → slice_get (frames_to key b (past_at a run)) k ≡ Some items → slice_get (frames_to key b (past_at a (d ∷ run))) k ≡ Some items
 unfolding frames_to
@@ -69,7 +69,7 @@ honest_more plan run d p h = record {
   acks = λ n from is. taken_more plan.cluster_key p.to.number n h.from d run (h.acks n from is);
 }
 
--- A frame that is not done is one that was packed.
+-- A frame that is undone is one that was packed.
 
 abbrev IsFrameOf : List (List Item) → ℕ × List Item → Type 0
 IsFrameOf fs u = (u.0 ≢ 0) × (slice_get fs (u.0 - 1) ≡ Some u.1)
@@ -116,7 +116,7 @@ again_frame w n u fs test undone e =
     by true e all = first_all (IsFrameOf fs) w.undone u all e
     by false e all = find_all (IsFrameOf fs) (λ u. nat_eq u.0 n) w.undone u all e
 
--- what is sent at once is one packet
+-- a send sends one packet
 one : (b : NodeId) (text : List ℕ) (p : Posted) (j : ℕ) → slice_get (posted_to b (SentPacket text)) j ≡ Some p → record { to = b; text = text } ≡ p
 one b text p zero e = cc
 one b text p (suc j) e = absurd (cc)
@@ -126,7 +126,7 @@ sent_by b (SentPacket text) p j e = ap (λ (x : Posted). Sent (SentPacket x.text
 sent_by b Nothing p j e = absurd (cc)
 sent_by b (SentRefused why) p j e = absurd (cc)
 
--- What holds of a node that sends a packet.
+-- The laws of a node that sends a packet.
 pub record SendLaws : Type 0 where
   pub packets : PacketsSay
   pub reached : ReachedAreOthers
@@ -139,7 +139,7 @@ module _ (law : SendLaws) (plan : Plan) (a : NodeId) (inside : a.number < plan.n
   acks_are : (b : NodeId) (frame : ℕ) (items : List Item) (n : ℕ) → 1 ≤ n → covers (content_to v b frame items).base (content_to v b frame items).mask n ≡ true → is_taken plan.cluster_key b.number n past ≡ true
   acks_are b frame items n from is = sym (was.beside.received b n) ∙ covered_received (receiver_from v b.number) n from is
 
-  -- with a frame of the node's past with what happens now
+  -- the frame is one of the node's past, with the present event
   module _ (run : List NodeStep) (past_is : past_at a run ≡ past) (d : NodeStep) (here : d.node ≡ a) where
     honest : (b : NodeId) (text : List ℕ) (frame : ℕ) (items : List Item) → is_another v b ≡ true → text ≡ packet_text v.key (content_to v b frame items) → IsPacket (content_to v b frame items)
         → (frame ≢ 0 → slice_get (frames_to plan.cluster_key b.number (past_at a (d ∷ run))) (frame - 1) ≡ Some items) → IsHonest plan (d ∷ run) (record { to = b; text = text })
@@ -212,7 +212,7 @@ module _ (law : SendLaws) (plan : Plan) (a : NodeId) (inside : a.number < plan.n
     sent_honest Tick text w event answer turned spelt p j e = absurd (cc)
     sent_honest Stop text w event answer turned spelt p j e = absurd (cc)
 
--- an event that sends a packet is answered with it
+-- the answer to an event that sends a packet has the packet
 posted_by : (e : NodeEvent) (answer : NodeAnswer) (p : Posted) (j : ℕ) → slice_get (posted e answer) j ≡ Some p → answer ≡ Sent (SentPacket p.text)
 posted_by (Pack b) (Sent s) p j e = sent_by b s p j e
 posted_by (Again b n) (Sent s) p j e = sent_by b s p j e

@@ -18,7 +18,7 @@ use Rattle.gb_cluster.specs.Links.{IsHonest, PacketsAreHonest, first_taken, IsWh
 use Rattle.gb_cluster.proofs.NodesLemmas.{stays, past_same, past_other, have_pasts}
 use Rattle.gb_cluster.proofs.HonestLemmas.{contains_get, frames_more, taken_more}
 
--- What a node takes.
+-- The packets that a node takes.
 
 pub record Takes (v : NodeValue) (bytes : List ℕ) (good : Good) : Type 0 where
   pub content : Content
@@ -150,7 +150,7 @@ module _ (pasts : PastsSay) (packets : PacketsAreHonest) (plan : Plan) where
     | inr other ↦ let e = ap (λ hs. length (frames_to plan.cluster_key b hs)) (past_other a d run other) in omega (arith, e)
   ]
 
-  -- the one packet of bytes that are read
+  -- bytes that are read are one packet
   only : (test : Content → Bool) (bytes : List ℕ) → list_any test (read plan.cluster_key bytes) ≡ true → (c : Content) × (read plan.cluster_key bytes ≡ c ∷ []) × (test c ≡ true)
   only test bytes e = by (is_packet plan.cluster_key bytes) refl e
     where
@@ -212,7 +212,7 @@ module _ (pasts : PastsSay) (packets : PacketsAreHonest) (plan : Plan) where
           split (inl is) = now same is
           split (inr was) = later (earlier was)
 
-  -- an acknowledgement that comes
+  -- an acknowledgement came
   ack_came : (run : List NodeStep) (v : ClusterValue) (a b : NodeId) (n : ℕ) (event : NodeEvent) (answer : NodeAnswer) (w : NodeValue) → ComesTo plan run v → a.number < plan.nodes → IsSent v a event → IsTurn (node_at v a) event answer w
       → 1 ≤ n → list_any (is_ack b.number n) (came plan.cluster_key event answer) ≡ true → is_taken plan.cluster_key a.number n (past_at b run) ≡ true
   ack_came run v a b n (Came bytes) (Taken (TakenGood good)) w comes inside sent turned from e =

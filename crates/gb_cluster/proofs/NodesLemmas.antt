@@ -1,4 +1,4 @@
--- Each node of a cluster came to its state by its own past.
+-- Each node of a cluster is in the state after its own past.
 use Rattle.gb_types.specs.Common.{◌≡◌, ◌≢◌, ℕ, inl, inr, List, [], ◌∷◌, length, get_or, sym, ap, subst, ◌∙◌, arith, slice_set, if◌then◌else◌, cases_eq, eq-eqb, ne_eqb, length-set, get_or-set_same, get_or-set_other}
 use Rattle.std.proofs.lemmas.List.FromFn.{get_or-map-range_with_len, length-map-range_with_len}
 use Rattle.gb_types.specs.declared.{node.NodeId.NodeId, plan.Plan.Plan}
@@ -11,7 +11,7 @@ use Rattle.gb_cluster.specs.ClusterValue.{ClusterValue, node_plan, node_at, IsCl
 use Rattle.gb_cluster.specs.ClusterStep.{NodeActs}
 use Rattle.gb_cluster.specs.Run.{ComesTo, past_at, NodesHavePasts}
 
--- what a run leaves as it is
+-- the parts of a cluster that a run does not change
 pub record Stays (plan : Plan) (v : ClusterValue) : Type 0 where
   pub right : IsClusterPlan plan
   pub plan_is : v.plan ≡ plan

@@ -19,7 +19,7 @@ use Rattle.gb_types.proofs.BoolLemmas.{and_sides, or_left, refuted_by}
 use Rattle.gb_cluster.proofs.NodesLemmas.{stays, have_pasts}
 use Rattle.gb_cluster.proofs.LinkLemmas.{arrives_honestly, one_content}
 
--- A frame is packed where the link has room.
+-- A frame is packed only if the link has room.
 
 one_read : (key text : List ℕ) → length (map (λ (c : Content). c.items) (read key text)) ≤ 1
 one_read key text = by (is_packet key text)
@@ -60,13 +60,13 @@ packs sends key v b (Ack x) answer w turned = inl refl
 packs sends key v b Tick answer w turned = inl refl
 packs sends key v b Stop answer w turned = inl refl
 
--- The frames that are not done are among the last 64.
+-- The undone frames are among the last 64.
 
 record AreRecent (done : ℕ → Bool) (fs : List (List Item)) : Type 0 where
   last : length fs ≤ LAST_FRAME
   near : (n : ℕ) → 1 ≤ n → n ≤ length fs → done n ≡ false → length fs ≤ n + 63
 
--- where there is room for the next frame, each that is not done is among the last 63
+-- if there is room for the next frame, each undone frame is among the last 63
 undone_near : (done : ℕ → Bool) (next n m : ℕ) (fs : List (List Item)) → is_in_window next (filter (λ u. not (done u.0)) (numbered n fs)) ≡ true → n ≤ m → m < n + length fs → done m ≡ false → next ≤ m + 63
 unfolding numbered
 undone_near done next n m [] room low high new = absurd (omega (arith, low, high))
@@ -82,7 +82,7 @@ undone_near done next n m (f ∷ fs) room low high new =
         above (inr other) = omega (arith, low, other)
     by later false is room = let le : next ≤ n + 63 = grind (arith, nat_tests, room) in omega (arith, le, low)
 
--- a frame that is packed keeps them so
+-- they still are after a frame is packed
 still_recent : (w : SendWindow (List Item)) (fs more : List (List Item)) (done after : ℕ → Bool) → w.next ≡ length fs + 1 → w.undone ≡ filter (λ u. not (done u.0)) (numbered 1 fs) → ((n : ℕ) → after n ≡ false → done n ≡ false) → AreRecent done fs
     → (more ≡ []) ⊎ ((length more ≤ 1) × (has_room w ≡ true)) → AreRecent after (fs ++ more)
 still_recent w fs more done after next undone still was (inl none) =
@@ -104,7 +104,7 @@ still_recent w fs more done after next undone still was (inr (one, room)) =
       ];
     }
 
--- so they are at every node
+-- the undone frames of every node are among its last 64
 recent : SendersRun → PastsSay → (plan : NodePlan) (past : List Happened) (v : NodeValue) → NodeComesTo plan past v → (b : NodeId) → AreRecent (λ n. is_acked plan.cluster_key b.number n past) (frames_to plan.cluster_key b.number past)
 unfolding NodeComesTo frames_to is_acked
 recent sends pasts plan [] v comes b = record { last = omega arith; near = λ n from to new. absurd (omega (arith, from, to)) }
@@ -115,9 +115,9 @@ recent sends pasts plan (h ∷ past) v comes b =
     (λ n new. or_left (is_acked key b.number n past) (nat_le n (length (frames_to key b.number past)) && list_any (is_ack b.number n) (came key h.event h.answer)) new)
     (recent sends pasts plan past comes.0 comes.1 b) (packs sends key comes.0 b h.event h.answer v comes.2)
 
--- A receiver awaits them.
+-- A receiver awaits these frames.
 
--- of the first numbers, of which the ones that were not received are among the last 64, each such is awaited
+-- if all numbers that were not received are among the last 64, each of them is awaited
 awaited : (r : Received) (n last : ℕ) → 1 ≤ n → n ≤ last → last ≤ LAST_FRAME → set.contains r n ≡ false → ((m : ℕ) → 1 ≤ m → m ≤ last → set.contains r m ≡ false → last ≤ m + 63) → is_awaited r n ≡ true
 awaited r n last from to few lacks near =
     let base_low : base_of r ≤ n = low (cases_lt n (base_of r)) in

@@ -1,4 +1,4 @@
--- What each event changes in a cluster.
+-- The change that each event makes in a cluster.
 use Rattle.std.specs.Prelude.{ℕ, zero, suc, ◌≡◌, ◌<◌, ◌+◌, Bool, true, false, List, [], ◌∷◌, ◌++◌, length, Option, Some, None, is_ok, slice_get, slice_set, MatchBool}
 use Rattle.gb_types.specs.declared.node.NodeId.{NodeId}
 use Rattle.gb_node.specs.Common.{NodeValue, read_at, IsTurn, IsSpelt, IsForReason}
@@ -16,7 +16,7 @@ receiver_of (Again b n) = Some b
 receiver_of (Ack b) = Some b
 receiver_of event = None
 
--- the packet that is sent to a node, if one is
+-- the packet that was sent to a node, if one was
 abbrev pub posted_to : NodeId → SentValue → List Posted
 posted_to b (SentPacket text) = record { to = b; text = text } ∷ []
 posted_to b Nothing = []
@@ -34,7 +34,7 @@ posted event (Taken taken) = []
 posted event (Ticked ticked) = []
 posted event (Halted halted) = []
 
--- an event happens at one of the nodes, with this answer of the node
+-- an event happens at one of the nodes, and this is the node's answer
 pub record NodeActs (old : ClusterValue) (a : NodeId) (event : NodeEvent) (answer : NodeAnswer) (new : ClusterValue) : Type 0 where
   pub placed : a.number < length old.nodes
   pub node : NodeValue
@@ -43,7 +43,7 @@ pub record NodeActs (old : ClusterValue) (a : NodeId) (event : NodeEvent) (answe
   pub reason : IsForReason (node_at old a) event answer
   pub after : new ≡ cluster old.plan (slice_set old.nodes a.number node) (old.packets ++ posted event answer)
 
--- the node's answer, with a packet's number in place of its bytes; `count` packets were sent before
+-- the result of a send, with a packet's number instead of its bytes; `count` packets were sent before
 abbrev pub sending : ℕ → SentValue → Sending
 sending count (SentPacket text) = SendingPacket (count + 1)
 sending count Nothing = SendingNothing
@@ -56,7 +56,7 @@ answer_of count (Sent s) = AnswerSent (sending count s)
 answer_of count (Ticked ticked) = AnswerTicked ticked
 answer_of count (Halted halted) = AnswerHalted halted
 
--- a node takes an event; `before` are the packets that were sent before it, `after` those that were sent after it
+-- a node takes an event; `before` are the packets that were sent before it, and `after` those that were sent after it
 pub record IsNodeTurn (old : NodeValue) (event : NodeEvent) (before : List Posted) (answer : Answer) (new : NodeValue) (after : List Posted) : Type 0 where
   pub own : NodeAnswer
   pub turn : IsTurn old event own new
@@ -83,12 +83,12 @@ abbrev pub is_packet_for : NodeValue → NodeEvent → Bool
 is_packet_for v (Came bytes) = is_ok (read_at v bytes)
 is_packet_for v event = false
 
--- A step of the cluster: something happens at a node. If there is no packet with the number, or the noise is a packet for the node, nothing changes.
+-- A step of the cluster: an event happens at a node. If there is no packet with the number, or the noise is a packet for the node, nothing changes.
 abbrev pub IsStep : ClusterValue → Event → Answer → ClusterValue → Type 0
 IsStep old (At a event) answer new = MatchBool (is_packet_for (node_at old a) event) ((answer ≡ NotNoise) × (new ≡ old)) (IsAt old a event answer new)
 IsStep old (Arrive k) answer new = IsArrival old (packet_numbered old.packets k) answer new
 
--- the node that acts is one of the cluster's
+-- the node at which the event happens is one of the cluster's
 abbrev pub IsPlaced : ℕ → Event → Type 0
 IsPlaced nodes (At a event) = a.number < nodes
 IsPlaced nodes (Arrive k) = Unit {0}

@@ -1,4 +1,4 @@
--- A cluster as contracts see it.
+-- The state of a cluster, as contracts see it.
 use Rattle.std.specs.Prelude.{ℕ, ◌<◌, ◌≤◌, List, [], false, map, slice_index_or}
 use Rattle.std.specs.List.{range_with_len}
 use Rattle.gb_types.specs.declared.{limits.TheConstants.NODES, limits.TheConstants.SILENCE_MIN, limits.TheConstants.SILENCE_MAX, node.NodeId.NodeId, plan.Plan.Plan}
@@ -16,7 +16,7 @@ pub record ClusterValue : Type 0 where
 abbrev pub cluster : Plan → List NodeValue → List Posted → ClusterValue
 cluster plan nodes packets = record { plan = plan; nodes = nodes; packets = packets }
 
--- what a node is started with
+-- the plan with which a node is started
 abbrev pub node_plan : Plan → NodeId → NodePlan
 node_plan plan me = record { me = me; nodes = plan.nodes; version = version_at plan.versions me.number; silence = plan.silence; places = plan.places; room = plan.room; cluster_key = plan.cluster_key; admin_key = plan.admin_key; tape = false }
 
@@ -28,7 +28,7 @@ node_at v a = slice_index_or v.nodes a.number (new_node (node_plan v.plan a))
 abbrev pub new_cluster : Plan → ClusterValue
 new_cluster plan = cluster plan (map (λ a. new_node (node_plan plan (node_numbered a))) (range_with_len 0 plan.nodes)) []
 
--- a cluster may be started so
+-- a cluster may be started with this plan
 pub record IsClusterPlan (plan : Plan) : Type 0 where
   pub some : 1 ≤ plan.nodes
   pub few : plan.nodes ≤ NODES

@@ -1,4 +1,4 @@
--- The names that files of crates above cite, passed on from one place. Declares nothing.
+-- The names that files of crates above cite, gathered in one file. Declares nothing.
 pub use Rattle.gb_cluster.specs.ClusterStep.{AreRead, IsArrival, IsAt, IsPlaced, IsStep, NodeActs, answer_of, is_packet_for, packet_numbered, posted, posted_by, receiver_of}
 pub use Rattle.gb_cluster.specs.ClusterValue.{ClusterValue, IsClusterPlan, cluster, new_cluster, node_at, node_plan}
 pub use Rattle.gb_cluster.specs.Links.{CoversTaken, IsHonest, IsInside, IsLink, LinksHold, NothingIsOutside, PacketsAreHonest, PacketsAreRead}

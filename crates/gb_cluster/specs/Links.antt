@@ -10,8 +10,8 @@ use Rattle.gb_cluster.specs.ClusterStep.{AreRead}
 use Rattle.gb_cluster.specs.Run.{ComesTo, past_at}
 use Rattle.gb_cluster.specs.declared.posted.Posted.{Posted}
 
--- A packet that was sent goes from one node of the cluster to another, and says what its sender did: its frame is the one that was packed under its number, and it acknowledges only
--- frames that were taken.
+-- A packet that was sent goes from one node of the cluster to another. Its frame is the one that its sender packed under the frame's number, and it
+-- acknowledges only frames that its sender had taken.
 pub record IsHonest (plan : Plan) (run : List NodeStep) (p : Posted) : Type 0 where
   pub content : Content
   pub from : NodeId
@@ -27,7 +27,7 @@ pub record IsHonest (plan : Plan) (run : List NodeStep) (p : Posted) : Type 0 wh
 abbrev pub PacketsAreHonest : Type 0
 PacketsAreHonest = (plan : Plan) (run : List NodeStep) (v : ClusterValue) → ComesTo plan run v → (k : ℕ) (p : Posted) → slice_get v.packets k ≡ Some p → IsHonest plan run p
 
--- a packet that was sent is read by the node that it was sent to, at every moment of a run
+-- a packet that was sent is one that the node it was sent to reads, at every moment of a run
 abbrev pub PacketsAreRead : Type 0
 PacketsAreRead = (plan : Plan) (run : List NodeStep) (v : ClusterValue) → ComesTo plan run v → AreRead v.nodes v.packets
 
@@ -36,8 +36,8 @@ abbrev pub first_taken : List ℕ → NodeEvent → NodeAnswer → List Content
 first_taken key (Came bytes) (Taken (TakenGood good)) = if is_first good.frame then read key bytes else []
 first_taken key event answer = []
 
--- A frame that a node takes for the first time was not taken before, and its items are those that the sender packed under
--- its number for this node, whole and in order.
+-- A frame that a node takes for the first time was not taken before, and its items are those that the sender packed under its number for this node,
+-- whole and in order.
 abbrev pub IsWhole : Plan → List NodeStep → NodeStep → Type 0
 IsWhole plan run d = (c : Content) → first_taken plan.cluster_key d.event d.answer ≡ c ∷ []
     → (1 ≤ c.frame) × (is_taken plan.cluster_key c.from c.frame (past_at d.node run) ≡ false) × (slice_get (frames_to plan.cluster_key d.node.number (past_at (node_numbered c.from) run)) (c.frame - 1) ≡ Some c.items)

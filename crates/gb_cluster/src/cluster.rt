@@ -27,7 +27,7 @@ pub struct Cluster {
     packets: Vec<Posted>,
 }
 
-// Not derived: what is derived is proved anew in each crate that ends one.
+// Not derived, because a derived `Drop` is proved anew in each crate that drops one.
 impl Drop for Cluster {
     fn drop(self) {
         let Cluster {
@@ -65,7 +65,7 @@ fn receiver(event: &NodeEvent) -> Option<NodeId>
     }
 }
 
-/// Keeps the packet that an event sent, if it sent one, and returns what was sent, with the packet's number.
+/// Keeps the packet that an event sent, if it sent one, and returns the result of the send, with the packet's number.
 fn post(packets: &mut Vec<Posted>, event: &NodeEvent, sent: Sent) -> Sending
     requires room { vec_len packets.old < vec_capacity packets.old }
     requires sends { IsSome (receiver_of event.now) }
@@ -85,7 +85,7 @@ fn post(packets: &mut Vec<Posted>, event: &NodeEvent, sent: Sent) -> Sending
     }
 }
 
-/// Returns true if the event is bytes that come as noise but are a packet for the node.
+/// Returns true if the event is bytes that come as noise but are a packet for the node, and false otherwise.
 fn is_no_noise(node: &Node, event: &NodeEvent) -> bool
     ensures { result ≡ is_packet_for node.now event.now }
 {
@@ -109,7 +109,7 @@ fn turn(node: &mut Node, packets: &mut Vec<Posted>, event: &NodeEvent) -> Answer
     }
 }
 
-/// Hands in a packet that was sent at its node, which reads it, and returns the answer.
+/// Lets a packet that was sent arrive at its node, which reads it, and returns the answer.
 fn hand_in(node: &mut Node, packet: &Posted) -> Answer
     requires { is_ok (read_at node.old packet.now.text) ≡ true }
     ensures { (packets : List PostedValue) → IsNodeTurn node.old (NodeEvents.Packet packet.now.text) packets result node.new packets }
@@ -117,7 +117,7 @@ fn hand_in(node: &mut Node, packet: &Posted) -> Answer
     Answer::Taken(node.known_packet(packet.text.as_slice()))
 }
 
-/// Hands in the packet with this number at the node that it was sent to, and returns the answer.
+/// Lets the packet with this number arrive at the node that it was sent to, and returns the answer.
 fn arrive(nodes: &mut Vec<Node>, packets: &[Posted], number: u64) -> Answer
     requires inside { AreForNodes (length nodes.old.items) packets.now }
     requires read { AreRead nodes.old.items packets.now }
@@ -133,7 +133,7 @@ fn arrive(nodes: &mut Vec<Node>, packets: &[Posted], number: u64) -> Answer
     hand_in(node, packet)
 }
 
-/// Makes an event happen at one of the nodes and returns the answer. Noise that is a packet for the node is not handed in.
+/// Makes an event happen at one of the nodes and returns the answer. Noise that is a packet for the node does not arrive.
 fn happen(nodes: &mut Vec<Node>, packets: &mut Vec<Posted>, at: NodeId, event: &NodeEvent) -> Answer
     requires placed { at.number < length nodes.old.items }
     requires room { vec_len packets.old < vec_capacity packets.old }
@@ -147,8 +147,8 @@ fn happen(nodes: &mut Vec<Node>, packets: &mut Vec<Posted>, at: NodeId, event: &
 }
 
 impl Cluster {
-    /// Returns a cluster of the nodes of `plan`, in which nothing has happened and no packet was sent. Takes memory. `Err` if it runs
-    /// out.
+    /// Returns a cluster of the nodes of `plan`, in which nothing has happened and no packet was sent. Takes memory. Returns `Err` if
+    /// memory runs out.
     pub fn start(alloc: Global, plan: &Plan) -> Result<Cluster, OutOfMemory>
         requires { IsClusterPlan plan.now }
         ensures state { IfOk result (λ n. n ≡ new_cluster plan.now) }
@@ -191,7 +191,7 @@ impl Cluster {
         self.packets.as_slice()
     }
 
-    /// Gives up the cluster. Returns all packets that its nodes have sent, in order, without copying them.
+    /// Returns all packets that the cluster's nodes have sent, in order, without copying them, and consumes the cluster.
     pub fn into_packets(self) -> Vec<Posted>
         ensures { result.items ≡ self.packets }
     {
@@ -204,9 +204,9 @@ impl Cluster {
     }
 
     /// Makes an event happen at the node `at`, changes that node, and keeps the packet that it sends. Returns the node's answer, or
-    /// `NotNoise` if the event is bytes that are a packet of the cluster for this node; then nothing has changed, since packets come by
-    /// `arrive`. A refusal of the node for lack of memory is such an answer. `Err` if there is no memory to keep one more packet; then
-    /// nothing has changed.
+    /// `NotNoise` if the event is bytes that are a packet of the cluster for this node; then nothing has changed, because packets come by
+    /// `arrive`. A refusal of the node because memory ran out is such an answer. Returns `Err` if there is no memory to keep one more
+    /// packet; then nothing has changed.
     pub fn happen(&mut self, at: NodeId, event: &NodeEvent) -> Result<Answer, OutOfMemory>
         requires { at.number < length self.old.nodes }
         ensures step { IfOk result (λ a. IsStep self.old (Events.At at event.now) a self.new) }
@@ -218,8 +218,8 @@ impl Cluster {
         Ok(happen(&mut self.nodes, &mut self.packets, at, event))
     }
 
-    /// Makes the packet with this number, counted from 1, arrive at the node that it was sent to, and changes that node. The packet
-    /// stays, so it may arrive again. Returns the node's answer, or `NoPacket` if no packet has this number; then nothing has changed.
+    /// Makes the packet with this number, counted from 1, arrive at the node that it was sent to, and changes that node. The packet is
+    /// kept, so it may arrive again. Returns the node's answer, or `NoPacket` if no packet has this number; then nothing has changed.
     pub fn arrive(&mut self, number: u64) -> Answer
         ensures step { IsStep self.old (Events.Arrive number) result self.new }
         ensures run { RunGoesOn self.old (Events.Arrive number) result self.new }
@@ -231,7 +231,8 @@ impl Cluster {
     }
 
     /// Makes one event happen, as `happen` or `arrive` does, changes the node where it happens, and returns the answer. A refusal of the
-    /// node for lack of memory is such an answer. `Err` if there is no memory to keep one more packet; then nothing has changed.
+    /// node because memory ran out is such an answer. Returns `Err` if there is no memory to keep one more packet; then nothing has
+    /// changed.
     pub fn step(&mut self, event: &Event) -> Result<Answer, OutOfMemory>
         requires { IsPlaced (length self.old.nodes) event.now }
         ensures step { IfOk result (λ a. IsStep self.old event.now a self.new) }

@@ -1,6 +1,6 @@
-//! The nodes of a cluster and every packet that they sent. One event at one node happens at a time; it may be the arrival of a
-//! packet, whenever and however often. Nothing here waits, and a packet is lost only by never arriving. Read
-//! `cluster::Cluster::step` first; specs/ClusterStep.antt says what each event changes in a cluster.
+//! The nodes of a cluster and every packet that they sent. One event at one node happens at a time; it may be the arrival of a packet,
+//! whenever and however often. Nothing here waits, and a packet is lost only by never arriving. Read `cluster::Cluster::step` first;
+//! specs/ClusterStep.antt defines the change that each event makes in a cluster.
 #![tactic(auto)]
 
 pub mod answer;

@@ -1,12 +1,12 @@
-//! What each node of a cluster is started with.
+//! The plan with which each node of a cluster is started.
 ghost use Rattle.std.specs.Prelude.{◌≡◌};
 ghost use Rattle.gb_cluster.specs.ClusterValue.{node_plan};
 
 use gb_node::NodePlan;
 use gb_types::{NodeId, Plan};
 
-/// Returns what the node `me` of a cluster of `plan` is started with: its number, the version of packets that it sends, and the cluster's
-/// numbers and keys. No tape of its events is asked for.
+/// Returns the plan with which the node `me` of a cluster of `plan` is started: its number, the version of packets that it sends, and the
+/// cluster's numbers and keys. It asks for no tape of the node's events.
 pub fn node_plan(plan: &Plan, me: NodeId) -> NodePlan
     ensures { result ≡ node_plan plan.now me }
 {

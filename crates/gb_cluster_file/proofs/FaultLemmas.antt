@@ -1,4 +1,4 @@
--- What a fault rules out.
+-- A text with a fault is no cluster file.
 use Rattle.gb_types.specs.Common.{Result, Ok, Err, IfErr, ◌≡◌, ◌≢◌, ℕ, ℤ, pos, zero, suc, ◌<◌, ◌≤◌, inl, inr, true, false, List, [], ◌∷◌, length, Option, Some, None, codes, refl, sym, ap, ◌∙◌, subst, arith, is_some, false≢true, cases_eq, ne_eqb, same_Some, none-some, limits_of, version_named}
 use Rattle.toml.specs.Data.{Data, Items, Members, no_items, item, integer, array, table, get_item, get_member, as_integer, as_array, as_table}
 use Rattle.toml.specs.Parse.{parse_document}
@@ -13,7 +13,7 @@ use Rattle.gb_cluster_file.specs.declared.fault.NodeFault.TheVariants as item_fa
 use Rattle.gb_cluster_file.specs.declared.fault.FileFault.TheVariants.{OutOfMemory, TooLong, NoDocument, UnknownField, MissingRun, NoNumber, NoArray, NoNodes, TooManyNodes, Node, SamePlace}
 use Rattle.gb_cluster_file.proofs.ViewLemmas.{nodes_count}
 
--- one value is not two
+-- equal arrays have equal items
 array_same : (a b : Items) → array a ≡ array b → a ≡ b
 array_same a b e = same_Some a b (ap as_array e)
 
@@ -31,20 +31,20 @@ byte_same : (value : Option Data) (m n : ℕ) → IsNumber value 3 m → IsNumbe
 byte_same None m n first other = first ∙ sym other
 byte_same (Some d) m n first other = number_same m n (sym first ∙ other)
 
--- a document says one version
+-- a document names one version only
 version_same : (document : Members) (v w : Version) → IsVersion document v → IsVersion document w → v ≡ w
 version_same document v w first other =
     let bytes = byte_same (get_member (codes "version") document) first.0 other.0 first.1 other.1 in
     same_Some v w (sym first.2 ∙ (subst (λ b. version_named b ≡ Some w) (sym bytes) other.2))
 
--- the node that an item says
+-- the node that an item describes
 node_at : (items : Items) (nodes : List NodePlaces) (n : ℕ) (value : Data) → AreNodes items nodes → get_item n items ≡ Some value → (node : NodePlaces) × IsNode value node
 node_at no_items nodes n value are e = absurd (none-some value e)
 node_at (item d ds) [] n value are e = absurd are
 node_at (item d ds) (m ∷ nodes) zero value are e = (m, subst (λ x. IsNode x m) (same_Some d value e) are.0)
 node_at (item d ds) (m ∷ nodes) (suc n) value are e = node_at ds nodes n value are.1 e
 
--- what is no node is none
+-- a value with a fault is no node
 no_node : (value : Data) (fault : NodeFault) (node : NodePlaces) → IsNodeFault value fault → IsNode value node → ⊥
 no_node value item_fault.NoTable node h is = none-some is.fields (sym h ∙ ap as_table is.table_is)
 no_node value item_fault.UnknownField node h is =
@@ -63,7 +63,7 @@ no_node value (item_fault.NoPlace place.Sessions) node h is =
     let same = table_same is.fields h.0 (sym is.table_is ∙ h.1) in
     h.2.1 _ _ (is.sessions.0, ap (get_member (codes "sessions")) (sym same) ∙ is.sessions.1, is.sessions.2)
 
--- items that are no nodes are those of no file
+-- items with a fault are those of no file
 no_items_of : (items : Items) (document : Members) (fault : FileFault) (file : ClusterFile) → IsItemsFault items fault → fault ≢ OutOfMemory → get_member (codes "node") document ≡ Some (array items) → IsClusterOf document file → ⊥
 no_items_of items document OutOfMemory file h some at says = some refl
 no_items_of items document (Node n fault) file h some at says =
@@ -82,7 +82,7 @@ no_items_of items document NoArray file h some at says = h
 no_items_of items document NoNodes file h some at says = h
 no_items_of items document (TooManyNodes version) file h some at says = h
 
--- how many nodes a version can name
+-- the number of nodes that a version can name
 abbrev nodes_named : Version → ℕ
 nodes_named version = (limits_of version).nodes
 
@@ -120,7 +120,7 @@ no_document document (SamePlace n first field) file h some says within = no_item
 no_document document TooLong file h some says within = h.2
 no_document document (NoDocument n) file h some says within = h.2
 
--- a text whose document has a fault
+-- a text whose document has this fault
 abbrev HasFault : List ℕ → FileFault → Type 0
 HasFault text fault = (document : Members) × (parse_document text ≡ Some document) × IsDocumentFault document fault
 
@@ -174,7 +174,7 @@ version_bounds n some =
           ]
     ]
 
--- a number that a field takes is in its range
+-- a number that a field may have is in its range
 taken_bounds : (field : Field) (n : ℕ) → IsTaken field n → (least_of field ≤ n) × (n ≤ most_of field)
 taken_bounds number.Run n taken = taken
 taken_bounds number.Tick n taken = taken
@@ -182,17 +182,17 @@ taken_bounds number.Silence n taken = taken
 taken_bounds number.Version n taken = version_bounds n taken
 taken_bounds number.Room n taken = taken
 
--- a value that is no number in range
+-- a value that is no number in the range is a fault of the document
 pub no_number : (field : Field) (document : Members) (value : Data) → get_member (name_of field) document ≡ Some value → ((n : ℕ) → value ≡ integer (pos n) → least_of field ≤ n → n ≤ most_of field → ⊥)
     → IsDocumentFault document (NoNumber field)
 no_number field document value at none = (value, at, λ n taken is. let range = taken_bounds field n taken in none n is range.0 range.1)
 
--- a byte that names no version
+-- a byte that is that of no version is a fault of the document
 pub no_version : (document : Members) (byte : ℕ) → get_member (codes "version") document ≡ Some (integer (pos byte)) → version_named byte ≡ None → IsDocumentFault document (NoNumber number.Version)
 no_version document byte at none =
     (integer (pos byte), at, λ n some is. false≢true (sym (ap is_some none) ∙ (ap (λ b. is_some (version_named b)) (number_same byte n is) ∙ some)))
 
--- a document that is refused rules out each file
+-- if a document is refused, its text is no cluster file
 pub refused_by_document : (r : Result ClusterFile FileFault) (text : List ℕ) (document : Members) → parse_document text ≡ Some document → IfErr r (IsDocumentFault document)
     → IfErr r (λ fault. fault ≢ OutOfMemory → (file : ClusterFile) → IsFileOf text file → ⊥)
 refused_by_document (Ok file) text document parsed h = tt

@@ -1,16 +1,16 @@
--- How the text of a place is taken apart.
+-- How the text of a place is split into its parts.
 use Rattle.gb_types.specs.Common.{◌≡◌, ℕ, zero, suc, ◌+◌, ◌<◌, ◌≤◌, ◌^◌, List, [], ◌∷◌, ◌++◌, length, take, drop, get_or, Option, Some, None, MatchOption, Bor, refl, sym, ap, ap₂, ◌∙◌, subst, arith, append_assoc}
 use Rattle.std.specs.{Char.digit_value, Str.Parse.AllDigits, Str.Pattern.RFindsChar}
 use Rattle.std.proofs.{lemmas.Str.Pattern.NoCharPasses-char, lemmas.Str.Pattern.drop_at_char, lemmas.Fmt.decimal_is_IsNumeral}
 use Rattle.gb_cluster_file.specs.Places.{IsPlaceText, IsPortNumber, IsHostText}
 
--- what stands between two brackets, and what does not
+-- a text behind an opening bracket either ends in a closing bracket, or is in no brackets
 pub bracketed : (text rest : List ℕ) (r : Option (Bor (List ℕ))) → text ≡ 91 ∷ rest → MatchOption r ((front : List ℕ) → rest ≡ front ++ (93 ∷ []) → ⊥) (λ x. rest ≡ x.now ++ (93 ∷ []))
     → MatchOption r ((inner : List ℕ) → text ≡ 91 ∷ inner ++ 93 ∷ [] → ⊥) (λ x. text ≡ 91 ∷ x.now ++ 93 ∷ [])
 bracketed text rest None e h = λ inner is. h inner (ap (drop 1) (sym e ∙ is))
 bracketed text rest (Some x) e h = e ∙ ap (λ l. 91 ∷ l) h
 
--- one inner text alone stands between the brackets
+-- the text between the brackets is unique
 pub inner_same : (xs ys : List ℕ) → xs ++ 93 ∷ [] ≡ ys ++ 93 ∷ [] → xs ≡ ys
 inner_same [] [] e = refl
 inner_same [] (y ∷ []) e = absurd (omega (arith, ap length e))
@@ -34,7 +34,7 @@ colon_at (x ∷ front) back = colon_at front back
 has_colon : (text front back : List ℕ) → text ≡ front ++ 58 ∷ back → NoColon text → ⊥
 has_colon text front back e none = none (length front) (rw e (colon_below front back)) (ap (λ t. get_or t (length front) 0) e ∙ colon_at front back)
 
--- a text has one last colon
+-- a text has only one last colon
 last_colon : (xs ys us vs : List ℕ) → xs ++ 58 ∷ us ≡ ys ++ 58 ∷ vs → NoColon us → NoColon vs → (xs ≡ ys) × (us ≡ vs)
 last_colon [] [] us vs e no_u no_v = (refl, ap (drop 1) e)
 last_colon [] (y ∷ ys) us vs e no_u no_v = absurd (has_colon us ys vs (ap (drop 1) e) no_u)
@@ -48,7 +48,7 @@ digit_at [] i all l = absurd (omega arith)
 digit_at (d ∷ ds) zero all l = all.0
 digit_at (d ∷ ds) (suc i) all l = digit_at ds i all.1 (omega arith)
 
--- the digits of a port
+-- the digits of a port have no colon
 port_colon : (text : List ℕ) (port : ℕ) → IsPortNumber text port → NoColon text
 port_colon text port is i l e =
     let most = is.most in
@@ -57,7 +57,7 @@ port_colon text port is i l e =
     let low : digit_value 58 < 10 = subst (λ b. digit_value b < 10) e (digit_at text i digits l) in
     omega (arith, low)
 
--- what `rsplit_once` finds at a colon
+-- the result of `rsplit_once` at a colon
 abbrev pub SplitAtColon : List ℕ → Option (Bor (List ℕ) × Bor (List ℕ)) → Type 0
 SplitAtColon text r = MatchOption r (RFindsChar 58 text None) (λ x. (i : ℕ) × (j : ℕ) × RFindsChar 58 text (Some (i, j)) × (x.0.now ≡ take i text) × (x.1.now ≡ drop j text) × (i ≤ j) × (length x.0.now ≡ i) × (length x.1.now + j ≡ length text))
 

@@ -1,4 +1,4 @@
--- What the file of a cluster says.
+-- The contents of a cluster file.
 use Rattle.std.specs.Prelude.{◌≡◌, ◌≤◌, ◌<◌, ◌+◌, ◌-◌, ◌/◌, ◌&&◌, ℕ, pos, List, [], ◌∷◌, Bool, true, min, max, All, Option, Some, None, length, option_and_then, codes, string_bytes}
 use Rattle.toml.specs.Data.{Data, Items, Members, no_items, item, no_members, member, integer, string, array, table, get, get_item, get_member, as_str}
 use Rattle.toml.specs.Parse.{parse_document}
@@ -13,17 +13,17 @@ abbrev pub all_keys : (List ℕ → Bool) → Members → Bool
 all_keys test no_members = true
 all_keys test (member key value rest) = test key && all_keys test rest
 
--- how many items there are
+-- the number of items
 abbrev pub item_count : Items → ℕ
 item_count no_items = 0
 item_count (item value rest) = 1 + item_count rest
 
--- the number of a field that may be left out: the one that it has, or else the usual one
+-- the number of a field that may be left out: the one in the file, or otherwise the default
 abbrev pub IsNumber : Option Data → ℕ → ℕ → Type 0
 IsNumber None usual n = n ≡ usual
 IsNumber (Some value) usual n = value ≡ integer (pos n)
 
--- the usual silence: the least number of ticks that make 30,000 milliseconds, but at least 2 and at most 1,000
+-- the default silence: the least number of ticks that make 30,000 milliseconds, but at least 2 and at most 1,000
 abbrev pub usual_silence : ℕ → ℕ
 usual_silence tick = min (max ((30000 + tick - 1) / tick) 2) 1000
 
@@ -52,11 +52,11 @@ AreNodes _ _ = ⊥
 abbrev pub text_at : PlaceField → Data → Option (List ℕ)
 text_at field value = option_and_then as_str (get (place_name_of field) value)
 
--- the two items have the same text in a field
+-- the two items have the same text in this field
 abbrev pub IsSame : PlaceField → Data → Data → Type 0
 IsSame field one other = (text : List ℕ) × (text_at field one ≡ Some text) × (text_at field other ≡ Some text)
 
--- the version of packets that a document says, by its byte
+-- the version of packets that a document names, by its byte
 abbrev pub IsVersion : Members → Version → Type 0
 IsVersion document version = (byte : ℕ) × IsNumber (get_member (codes "version") document) 3 byte × (version_named byte ≡ Some version)
 
@@ -64,7 +64,7 @@ IsVersion document version = (byte : ℕ) × IsNumber (get_member (codes "versio
 abbrev pub Differ : PlaceField → Items → Type 0
 Differ field items = (first node : ℕ) (one other : Data) → first < node → get_item first items ≡ Some one → get_item node items ≡ Some other → ¬ (IsSame field one other)
 
--- the document of a cluster's file, and what it says
+-- the document of a cluster file, and the contents that it has
 pub record IsClusterOf (document : Members) (file : ClusterFile) : Type 0 where
   pub known : all_keys is_name document ≡ true
   pub run : get_member (codes "run") document ≡ Some (integer (pos file.run))
@@ -77,7 +77,7 @@ pub record IsClusterOf (document : Members) (file : ClusterFile) : Type 0 where
   pub nodes : AreNodes items file.nodes.items
   pub differ : (field : PlaceField) → Differ field items
 
--- what the file says is within its limits
+-- the contents of the file are within their limits
 pub record IsWithin (file : ClusterFile) : Type 0 where
   pub run : (1 ≤ file.run) × (file.run ≤ 9223372036854775807)
   pub tick : (1 ≤ file.tick) × (file.tick ≤ 60000)
@@ -86,7 +86,7 @@ pub record IsWithin (file : ClusterFile) : Type 0 where
   pub nodes : (1 ≤ length file.nodes.items) × (length file.nodes.items ≤ (limits_of file.version).nodes)
   pub ports : All (λ node. (1 ≤ node.packets.port) × (1 ≤ node.sessions.port)) file.nodes.items
 
--- the text of a cluster's file, and what it says
+-- the text of a cluster file, and its contents
 pub record IsFileOf (text : List ℕ) (file : ClusterFile) : Type 0 where
   pub short : length text ≤ 65536
   pub document : Members

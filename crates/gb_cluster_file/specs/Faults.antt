@@ -1,4 +1,4 @@
--- What a fault says of a text.
+-- The meaning of each fault of a text.
 use Rattle.std.specs.Prelude.{◌≡◌, ◌≢◌, ◌≤◌, ◌<◌, ◌⊎◌, ℕ, List, false, Some, None, IsSome, length, codes, pos}
 use Rattle.toml.specs.Data.{Data, Items, Members, no_items, integer, array, table, get_item, get_member, as_array, as_table}
 use Rattle.toml.specs.Parse.{parse_document}
@@ -9,31 +9,31 @@ use Rattle.gb_cluster_file.specs.declared.{field.Field.Field, field.Field.TheVar
 use Rattle.gb_cluster_file.specs.declared.fault.NodeFault.TheVariants as item_fault
 use Rattle.gb_cluster_file.specs.declared.fault.FileFault.TheVariants.{OutOfMemory, TooLong, NoDocument, UnknownField, MissingRun, NoNumber, NoArray, NoNodes, TooManyNodes, Node, SamePlace}
 
--- why a table under `node` is no node
+-- the reason why a table under `node` is no node
 abbrev pub IsTableFault : Members → NodeFault → Type 0
 IsTableFault fields item_fault.NoTable = ⊥
 IsTableFault fields item_fault.UnknownField = all_keys is_place_name fields ≡ false
 IsTableFault fields (item_fault.Missing field) = get_member (place_name_of field) fields ≡ None
 IsTableFault fields (item_fault.NoPlace field) = IsSome (get_member (place_name_of field) fields) × ((host : List ℕ) (port : ℕ) → ¬ (IsPlaceOf (get_member (place_name_of field) fields) host port))
 
--- why a value under `node` is no node
+-- the reason why a value under `node` is no node
 abbrev pub IsNodeFault : Data → NodeFault → Type 0
 IsNodeFault value item_fault.NoTable = as_table value ≡ None
 IsNodeFault value fault = (fields : Members) × (value ≡ table fields) × IsTableFault fields fault
 
--- why items are no nodes
+-- the reason why items are no nodes
 abbrev pub IsItemsFault : Items → FileFault → Type 0
 IsItemsFault items OutOfMemory = Unit {0}
 IsItemsFault items (Node node fault) = (value : Data) × (get_item node items ≡ Some value) × IsNodeFault value fault
 IsItemsFault items (SamePlace node first field) = (one other : Data) × (first < node) × (get_item first items ≡ Some one) × (get_item node items ≡ Some other) × IsSame field one other
 IsItemsFault items _ = ⊥
 
--- a field takes the number
+-- a field may have this number
 abbrev pub IsTaken : Field → ℕ → Type 0
 IsTaken Version n = IsSome (version_named n)
 IsTaken field n = (least_of field ≤ n) × (n ≤ most_of field)
 
--- why a document is none of a cluster's file
+-- the reason why a document is not that of a cluster file
 abbrev pub IsDocumentFault : Members → FileFault → Type 0
 IsDocumentFault document UnknownField = all_keys is_name document ≡ false
 IsDocumentFault document MissingRun = get_member (codes "run") document ≡ None
@@ -43,7 +43,7 @@ IsDocumentFault document NoNodes = (get_member (codes "node") document ≡ None)
 IsDocumentFault document (TooManyNodes version) = (items : Items) × (get_member (codes "node") document ≡ Some (array items)) × IsVersion document version × ((limits_of version).nodes < item_count items)
 IsDocumentFault document fault = (items : Items) × (get_member (codes "node") document ≡ Some (array items)) × IsItemsFault items fault
 
--- why a text is none of a cluster's file; lack of memory says nothing of the text
+-- the reason why a text is no cluster file; that memory ran out means nothing for the text
 abbrev pub IsFault : List ℕ → FileFault → Type 0
 IsFault text OutOfMemory = Unit {0}
 IsFault text TooLong = 65536 < length text

@@ -1,4 +1,4 @@
--- The fields of the file: their names, and the numbers that they take.
+-- The fields of the file: their names, and the numbers that they may have.
 use Rattle.std.specs.Prelude.{ℕ, List, Bool, ◌||◌, codes}
 use Rattle.std.specs.Str.{bytes_eq}
 use Rattle.gb_cluster_file.specs.declared.{field.Field.Field, field.PlaceField.PlaceField, field.PlaceField.TheVariants.Packets, field.PlaceField.TheVariants.Sessions}
@@ -33,7 +33,7 @@ least_of Silence = 2
 least_of Version = 1
 least_of Room = 256
 
--- the greatest number of a field; of the versions not every number up to it
+-- the greatest number of a field; for the version, not every number up to it is one
 abbrev pub most_of : Field → ℕ
 most_of Run = 9223372036854775807
 most_of Tick = 60000

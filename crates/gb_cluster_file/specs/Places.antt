@@ -17,7 +17,7 @@ pub record IsName (text : List ℕ) : Type 0 where
 abbrev pub IsIpv6 : List ℕ → Type 0
 IsIpv6 text = (a : Ipv6Addr) × IsIpv6Text text a
 
--- the host that stands before a port: a name or an IPv4 address as it is, or an IPv6 address in brackets
+-- the host before a port: a name or an IPv4 address as it is, or an IPv6 address in brackets
 abbrev pub IsHostText : List ℕ → List ℕ → Type 0
 IsHostText text host = ((text ≡ host) × IsName host)
     ⊎ ((text ≡ codes "[" ++ host ++ codes "]") × IsIpv6 host)
@@ -28,7 +28,7 @@ pub record IsPortNumber (text : List ℕ) (port : ℕ) : Type 0 where
   pub least : 1 ≤ port
   pub most : port ≤ 65535
 
--- HOST:PORT
+-- a text HOST:PORT
 pub record IsPlaceText (text host : List ℕ) (port : ℕ) : Type 0 where
   pub host_text : List ℕ
   pub port_text : List ℕ

@@ -1,4 +1,4 @@
-//! The cluster file, field by field: what its TOML table says, and the first fault of it.
+//! The cluster file, field by field: the contents of its TOML table, and its first fault.
 ghost use Rattle.std.specs.Prelude.{◌≡◌, ◌≤◌, ◌<◌, ℕ, pos, true, false, codes, length, MatchOption, IfSome, IfNone, IfOk, IfErr, OnOk, None, option_copied, option_map};
 ghost use Rattle.toml.specs.Data.{Data, Members, integer, array, table, get_item, get_member, as_array};
 ghost use Rattle.toml.specs.View.{view, table_view, items_view};
@@ -25,7 +25,7 @@ pub fn has_only_fields(table: &Table) -> bool
     true
 }
 
-// Whether each key of a node's table names a field.
+// Returns whether each key of a node's table names a field.
 fn has_only_place_fields(table: &Table) -> bool
     ensures { result ≡ all_keys is_place_name (table_view table.now) }
 {
@@ -37,7 +37,7 @@ fn has_only_place_fields(table: &Table) -> bool
     true
 }
 
-// Returns the number, where it is one from `least` to `most`.
+// Returns the number if it is from `least` to `most`, and `None` otherwise.
 fn in_range(number: i64, least: u64, most: u64) -> Option<u64>
     ensures some { IfSome result (λ n. (number ≡ pos n) × (least ≤ n) × (n ≤ most)) }
     ensures none { IfNone result ((n : ℕ) → number ≡ pos n → least ≤ n → n ≤ most → ⊥) }
@@ -53,7 +53,7 @@ fn in_range(number: i64, least: u64, most: u64) -> Option<u64>
     }
 }
 
-// Returns the number that a value is, where it is one from `least` to `most`.
+// Returns the number of a value if it is an integer from `least` to `most`, and `None` otherwise.
 fn number_of(value: &Value, least: u64, most: u64) -> Option<u64>
     ensures some { IfSome result (λ n. (view value.now ≡ integer (pos n)) × (least ≤ n) × (n ≤ most)) }
     ensures none { IfNone result ((n : ℕ) → view value.now ≡ integer (pos n) → least ≤ n → n ≤ most → ⊥) }
@@ -64,7 +64,7 @@ fn number_of(value: &Value, least: u64, most: u64) -> Option<u64>
     }
 }
 
-// Returns the number in a field; `None` where the file does not have the field.
+// Returns the number in a field, or `None` if the file does not have the field.
 fn number_at(table: &Table, field: Field) -> Result<Option<u64>, FileFault>
     ensures ok { IfOk result (λ found. MatchOption found (get_member (name_of field) (table_view table.now) ≡ None)
         (λ n. (get_member (name_of field) (table_view table.now) ≡ Some (integer (pos n))) × (least_of field ≤ n) × (n ≤ most_of field))) }
@@ -79,8 +79,8 @@ fn number_at(table: &Table, field: Field) -> Result<Option<u64>, FileFault>
     }
 }
 
-/// Returns the number of the run that a cluster file names, 1 to 2^63 - 1. `Err` with `MissingRun` if it names none, and with `NoNumber`
-/// if it is no such number.
+/// Returns the number of the run that a cluster file names, 1 to 2^63 - 1. Returns `Err` with `MissingRun` if it names none, and with
+/// `NoNumber` if its value is no such number.
 pub fn run_at(table: &Table) -> Result<u64, FileFault>
     ensures ok { IfOk result (λ n. (get_member (codes "run") (table_view table.now) ≡ Some (integer (pos n))) × (1 ≤ n) × (n ≤ 9223372036854775807)) }
     ensures err { IfErr result (IsDocumentFault (table_view table.now)) }
@@ -92,8 +92,8 @@ pub fn run_at(table: &Table) -> Result<u64, FileFault>
     }
 }
 
-/// Returns the milliseconds between two ticks, 1 to 60,000: what a cluster file names, or 64 if it names none. `Err` with `NoNumber` if
-/// it is no such number.
+/// Returns the milliseconds between two ticks, 1 to 60,000: the number that a cluster file names, or 64 if it names none. Returns `Err`
+/// with `NoNumber` if its value is no such number.
 pub fn tick_at(table: &Table) -> Result<u16, FileFault>
     ensures ok { IfOk result (λ n. IsNumber (get_member (codes "tick") (table_view table.now)) 64 n × (1 ≤ n) × (n ≤ 60000)) }
     ensures err { IfErr result (IsDocumentFault (table_view table.now)) }
@@ -116,9 +116,9 @@ fn ticks_of_silence(tick: u16) -> u16
     ticks.max(2).min(1_000) as u16
 }
 
-/// Returns the number of ticks without a good packet after which a node is held for crashed, 2 to 1,000: what a cluster file names, or,
-/// if it names none, the ticks of `tick` milliseconds that make 30 seconds, but at least 2 and at most 1,000. `Err` with `NoNumber` if it
-/// is no such number.
+/// Returns the number of ticks without a good packet after which a node is noticed, 2 to 1,000: the number that a cluster file names, or,
+/// if it names none, the ticks of `tick` milliseconds that make 30 seconds, but at least 2 and at most 1,000. Returns `Err` with `NoNumber`
+/// if its value is no such number.
 pub fn silence_at(table: &Table, tick: u16) -> Result<u16, FileFault>
     requires { 1 ≤ tick }
     ensures ok { IfOk result (λ n. IsNumber (get_member (codes "silence") (table_view table.now)) (usual_silence tick) n × (2 ≤ n) × (n ≤ 1000)) }
@@ -131,8 +131,8 @@ pub fn silence_at(table: &Table, tick: u16) -> Result<u16, FileFault>
     }
 }
 
-/// Returns the most bytes of the items of a packet, 256 to 16,345: what a cluster file names, or 1,400 if it names none. `Err` with
-/// `NoNumber` if it is no such number.
+/// Returns the greatest number of bytes of the items of a packet, 256 to 16,345: the number that a cluster file names, or 1,400 if it names
+/// none. Returns `Err` with `NoNumber` if its value is no such number.
 pub fn room_at(table: &Table) -> Result<u16, FileFault>
     ensures ok { IfOk result (λ n. IsNumber (get_member (codes "room") (table_view table.now)) 1400 n × (256 ≤ n) × (n ≤ 16345)) }
     ensures err { IfErr result (IsDocumentFault (table_view table.now)) }
@@ -144,8 +144,8 @@ pub fn room_at(table: &Table) -> Result<u16, FileFault>
     }
 }
 
-/// Returns the version of packets that each node sends: what a cluster file names, or 3 if it names none. `Err` with `NoNumber` if it is
-/// no version.
+/// Returns the version of packets that each node sends: the version that a cluster file names, or 3 if it names none. Returns `Err` with
+/// `NoNumber` if its value is no version.
 pub fn version_at(table: &Table) -> Result<Version, FileFault>
     ensures ok { IfOk result (λ version. IsVersion (table_view table.now) version) }
     ensures err { IfErr result (IsDocumentFault (table_view table.now)) }
@@ -160,7 +160,7 @@ pub fn version_at(table: &Table) -> Result<Version, FileFault>
     }
 }
 
-// Returns the place that a field of a node says.
+// Returns the place that a field of a node names.
 fn place_at(fields: &Table, field: PlaceField) -> Result<PlaceParts<'_>, NodeFault>
     ensures ok { IfOk result (λ place. IsPlaceOf (get_member (place_name_of field) (table_view fields.now)) place.host.now place.port) }
     ensures err { IfErr result (IsTableFault (table_view fields.now)) }
@@ -180,16 +180,16 @@ fn place_at(fields: &Table, field: PlaceField) -> Result<PlaceParts<'_>, NodeFau
     }
 }
 
-/// The parts of a node's places.
+/// The places of a node, as parts of the text.
 #[derive(Clone, Copy)]
 pub struct NodeParts<'a> {
     pub packets: PlaceParts<'a>,
     pub sessions: PlaceParts<'a>,
 }
 
-/// Returns where a node takes packets and sessions, from `value`, its table in a cluster file. `Err` with the first fault: `NoTable` if
-/// it is no table, `UnknownField` if a key names no field, and for the two fields in turn `Missing` if it is not there and `NoPlace` if
-/// it is no text `HOST:PORT`.
+/// Returns the places where a node takes packets and sessions, from `value`, its table in a cluster file. Returns `Err` with the first
+/// fault: `NoTable` if it is no table, `UnknownField` if a key names no field, and for the two fields in turn `Missing` if the field is not
+/// there and `NoPlace` if its value is no text `HOST:PORT`.
 pub fn node_of(value: &Value) -> Result<NodeParts<'_>, NodeFault>
     ensures ok { IfOk result (λ node. (fields : Members) × (view value.now ≡ table fields) × (all_keys is_place_name fields ≡ true)
         × IsPlaceOf (get_member (codes "packets") fields) node.packets.host.now node.packets.port
@@ -217,7 +217,7 @@ fn text_of(value: &Value, field: PlaceField) -> Option<&str>
     }
 }
 
-// Whether two nodes have the same text in a field.
+// Returns whether two nodes have the same text in a field.
 fn is_same(one: &Value, other: &Value, field: PlaceField) -> bool
     ensures yes { result ≡ true → IsSame field (view one.now) (view other.now) }
     ensures no { result ≡ false → IsSame field (view one.now) (view other.now) → ⊥ }
@@ -228,7 +228,7 @@ fn is_same(one: &Value, other: &Value, field: PlaceField) -> bool
     }
 }
 
-// Returns the number of the first of `node` values that has the same text in a field as one more value.
+// Returns the number of the first of `node` values that has the same text in a field as `last`, or `None`.
 fn first_same(values: &[Value], node: usize, last: &Value, field: PlaceField) -> Option<usize>
     requires { node ≤ length values.now }
     ensures some { IfSome result (λ first. (first < node) × ((one : Data) × (get_item first (items_view values.now) ≡ Some one) × IsSame field one (view last.now))) }
@@ -243,8 +243,8 @@ fn first_same(values: &[Value], node: usize, last: &Value, field: PlaceField) ->
     None
 }
 
-/// Returns `Ok` if no two of the nodes that a cluster file lists in `values` have the same text in `field`. `Err` with `SamePlace` for
-/// the first node that has the text of one before it, with both numbers.
+/// Returns `Ok` if no two of the nodes that a cluster file lists in `values` have the same text in `field`. Returns `Err` with `SamePlace`
+/// for the first node that has the text of one before it, with both numbers.
 pub fn differ(values: &[Value], field: PlaceField) -> Result<(), FileFault>
     ensures ok { OnOk result (Differ field (items_view values.now)) }
     ensures err { IfErr result (IsItemsFault (items_view values.now)) }
@@ -278,8 +278,8 @@ fn values_of(value: &Value) -> Option<&[Value]>
 }
 
 /// Returns the list of the nodes' tables in a cluster file, under `node`: at least 1, and no more than packets of `version` can name. The
-/// tables are not read. `Err` with `NoNodes` if there is none, with `NoArray` if it is no list, and with `TooManyNodes` if there are
-/// more.
+/// tables are not read. Returns `Err` with `NoNodes` if there is none, with `NoArray` if the value is no list, and with `TooManyNodes` if
+/// there are more.
 pub fn values_at(table: &Table, version: Version) -> Result<&[Value], FileFault>
     requires { IsVersion (table_view table.now) version }
     ensures ok { IfOk result (λ values. (get_member (codes "node") (table_view table.now) ≡ Some (array (items_view values.now)))

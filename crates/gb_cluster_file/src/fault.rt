@@ -1,4 +1,4 @@
-//! Why a text is no file of a cluster.
+//! The reasons why a text is no cluster file.
 ghost use Rattle.std.specs.Prelude.{◌≡◌};
 
 use crate::field::{Field, PlaceField};
@@ -24,16 +24,16 @@ pub enum NodeFault {
     NoPlace(PlaceField),
 }
 
-/// Why a text is no file of a cluster. Nodes are numbered from 0.
+/// Why a text is no cluster file. Nodes are numbered from 0.
 #[derive(Clone, Copy, PartialEq, Eq, Error)]
 pub enum FileFault {
-    /// A request for memory was refused. It says nothing of the text.
+    /// A request for memory was refused. This means nothing for the text.
     #[error("out of memory")]
     OutOfMemory,
     /// The text has more than 65,536 bytes.
     #[error("too long")]
     TooLong,
-    /// The text is no TOML document. Why shows at byte `at` of it, counted from 0.
+    /// The text is no TOML document. The fault is found at byte `at` of it, counted from 0.
     #[error("no TOML document")]
     NoDocument {
         at: usize,
@@ -41,10 +41,10 @@ pub enum FileFault {
     /// A key at the top of the file names no field.
     #[error("an unknown field")]
     UnknownField,
-    /// The file does not say the number of the run.
+    /// The file does not name the number of the run.
     #[error("no run")]
     MissingRun,
-    /// The value of this field is no number, or not one that the field takes.
+    /// The value of this field is no number, or not one that the field may have.
     #[error("no number")]
     NoNumber(Field),
     /// The value of `node` is no array.
@@ -56,7 +56,7 @@ pub enum FileFault {
     /// There are more nodes than packets of the version can name.
     #[error("too many nodes")]
     TooManyNodes(Version),
-    /// The item for this node is none.
+    /// The item for this node is no node.
     #[error("no node")]
     Node {
         node: usize,
@@ -71,7 +71,7 @@ pub enum FileFault {
     },
 }
 
-// A version has no `Debug` of its own.
+// Not derived, because a version has no `Debug` of its own.
 impl fmt::Debug for FileFault {
     fn fmt<W: fmt::Write>(&self, f: &mut fmt::Formatter<W>) -> fmt::Result {
         write!(f, "{self}")

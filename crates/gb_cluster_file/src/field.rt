@@ -1,4 +1,4 @@
-//! The fields of a cluster file: their names and the numbers that they take.
+//! The fields of a cluster file: their names, and the numbers that they may have.
 ghost use Rattle.std.specs.Prelude.{◌≡◌};
 ghost use Rattle.gb_cluster_file.specs.Fields.{name_of, place_name_of, is_name, is_place_name, least_of, most_of};
 
@@ -7,22 +7,22 @@ ghost use Rattle.gb_cluster_file.specs.Fields.{name_of, place_name_of, is_name, 
 pub enum Field {
     /// The number of the run.
     Run,
-    /// The milliseconds between two ticks.
+    /// The number of milliseconds between two ticks.
     Tick,
-    /// The ticks without a good packet after which a node is noticed.
+    /// The number of ticks without a good packet after which a node is noticed.
     Silence,
     /// The version of packets.
     Version,
-    /// The most bytes of the items of a packet.
+    /// The greatest number of bytes of the items of a packet.
     Room,
 }
 
 /// A field of a node.
 #[derive(Clone, Copy, Debug, PartialEq, Eq)]
 pub enum PlaceField {
-    /// Where the node takes packets.
+    /// The place where the node takes packets.
     Packets,
-    /// Where the node takes sessions.
+    /// The place where the node takes sessions.
     Sessions,
 }
 
@@ -40,7 +40,7 @@ impl Field {
         }
     }
 
-    /// Returns the least number that this field of the cluster file takes.
+    /// Returns the least number that this field of the cluster file may have.
     pub fn least(self) -> u64
         ensures { result ≡ least_of self }
     {
@@ -51,7 +51,7 @@ impl Field {
         }
     }
 
-    /// Returns the greatest number that this field of the cluster file takes. For `Version` it is 255, although only some numbers up to
+    /// Returns the greatest number that this field of the cluster file may have. For `Version` it is 255, although only some numbers up to
     /// it are versions.
     pub fn most(self) -> u64
         ensures { result ≡ most_of self }
@@ -78,8 +78,8 @@ impl PlaceField {
     }
 }
 
-/// Returns true if `key` may stand at the top of a cluster file: `run`, `tick`, `silence`, `version`, `room` or `node`. Returns false for
-/// any other.
+/// Returns true if `key` may be at the top of a cluster file: `run`, `tick`, `silence`, `version`, `room` or `node`. Returns false for any
+/// other key.
 pub fn is_field(key: &str) -> bool
     ensures { result ≡ is_name key.now }
 {
@@ -91,7 +91,7 @@ pub fn is_field(key: &str) -> bool
         || key == "node"
 }
 
-/// Returns true if `key` may stand in the table of a node: `packets` or `sessions`. Returns false for any other.
+/// Returns true if `key` may be in the table of a node: `packets` or `sessions`. Returns false for any other key.
 pub fn is_place_field(key: &str) -> bool
     ensures { result ≡ is_place_name key.now }
 {

@@ -1,5 +1,5 @@
-//! The file of a cluster of several machines: from its text to the run's number, the numbers of the service and the
-//! addresses of each node. Read `read::read_cluster` first.
+//! The file of a cluster of several machines: from its text to the run's number, the numbers of the service, and the addresses of each
+//! node. Read `read::read_cluster` first.
 #![tactic(auto)]
 
 mod check;

@@ -1,4 +1,4 @@
-//! Places of sockets, `HOST:PORT`, read from text.
+//! Places of sockets, `HOST:PORT`, read from a text.
 ghost use Rattle.std.specs.Prelude.{◌≡◌, ℕ, true, false, List, [], ◌∷◌, ◌++◌, IfSome, IfNone, MatchOption};
 ghost use Rattle.std.specs.List.{list_all};
 ghost use Rattle.gb_cluster_file.specs.Places.{is_name_byte, IsName, IsHostText, IsPlaceText, IsPortNumber, IsIpv6};
@@ -11,11 +11,11 @@ use std::net::Ipv6Addr;
 pub struct PlaceParts<'a> {
     /// A name, an IPv4 address, or an IPv6 address without brackets.
     pub host: &'a str,
-    /// 1 to 65,535.
+    /// The port, 1 to 65,535.
     pub port: u16,
 }
 
-// Whether each byte is one of a name.
+// Returns whether each byte may be in a name.
 fn are_name_bytes(bytes: &[u8]) -> bool
     ensures { result ≡ list_all is_name_byte bytes.now }
 {
@@ -24,7 +24,7 @@ fn are_name_bytes(bytes: &[u8]) -> bool
     })
 }
 
-// Whether a text can be a host's name or its IPv4 address.
+// Returns whether a text may be a host's name or its IPv4 address.
 fn is_host_name(text: &str) -> bool
     ensures yes { result ≡ true → IsName text.now }
     ensures no { result ≡ false → IsName text.now → ⊥ }
@@ -40,7 +40,7 @@ fn is_host_name(text: &str) -> bool
     are_name_bytes(bytes)
 }
 
-// Whether a text writes an IPv6 address.
+// Returns whether a text writes an IPv6 address.
 fn is_ipv6(text: &str) -> bool
     ensures yes { result ≡ true → IsIpv6 text.now }
     ensures no { result ≡ false → IsIpv6 text.now → ⊥ }
@@ -51,7 +51,7 @@ fn is_ipv6(text: &str) -> bool
     }
 }
 
-// Returns what stands in brackets, where the text is that.
+// Returns the text between brackets, if `text` is in brackets, and `None` otherwise.
 fn in_brackets(text: &str) -> Option<&str>
     ensures { MatchOption result ((inner : List ℕ) → text.now ≡ 91 ∷ inner ++ 93 ∷ [] → ⊥) (λ inner. text.now ≡ 91 ∷ inner.now ++ 93 ∷ []) }
 {
@@ -61,7 +61,7 @@ fn in_brackets(text: &str) -> Option<&str>
     }
 }
 
-// Returns the IPv6 address that stands in brackets.
+// Returns the IPv6 address between brackets, or `None` if the text is none.
 fn bracketed_host(text: &str) -> Option<&str>
     ensures some { IfSome result (λ host. (text.now ≡ 91 ∷ host.now ++ 93 ∷ []) × IsIpv6 host.now) }
     ensures none { IfNone result ((host : List ℕ) → text.now ≡ 91 ∷ host ++ 93 ∷ [] → IsIpv6 host → ⊥) }
@@ -72,7 +72,7 @@ fn bracketed_host(text: &str) -> Option<&str>
     }
 }
 
-// Returns the host that stands before a port.
+// Returns the host that the text before a port writes, or `None`.
 fn host_of(text: &str) -> Option<&str>
     ensures some { IfSome result (λ host. IsHostText text.now host.now) }
     ensures none { IfNone result ((host : List ℕ) → IsHostText text.now host → ⊥) }
@@ -84,7 +84,7 @@ fn host_of(text: &str) -> Option<&str>
     }
 }
 
-// Returns the port that digits spell, where it is 1 at least.
+// Returns the port that digits spell, if it is at least 1.
 fn port_of(text: &str) -> Option<u16>
     ensures some { IfSome result (λ port. IsPortNumber text.now port) }
     ensures none { IfNone result ((port : ℕ) → IsPortNumber text.now port → ⊥) }
@@ -96,7 +96,7 @@ fn port_of(text: &str) -> Option<u16>
 }
 
 /// Returns the host and the port of a text `HOST:PORT`. HOST is a name, an IPv4 address, or an IPv6 address in brackets, which are left
-/// out. PORT is a decimal number from 1 to 65,535 without leading zeros. `None` if the text is anything else. Nothing is looked up.
+/// out. PORT is a decimal number from 1 to 65,535 without leading zeros. Returns `None` if the text is anything else. No name is looked up.
 pub fn place_of(text: &str) -> Option<PlaceParts<'_>>
     ensures some { IfSome result (λ place. IsPlaceText text.now place.host.now place.port) }
     ensures none { IfNone result ((host : List ℕ) (port : ℕ) → IsPlaceText text.now host port → ⊥) }

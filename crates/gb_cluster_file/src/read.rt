@@ -1,4 +1,4 @@
-//! Reading a cluster file: from its text to what it says of the cluster.
+//! Reads a cluster file: from its text to its contents.
 ghost use Rattle.std.specs.Prelude.{◌≡◌, ◌≢◌, ℕ, List, [], ◌∷◌, ◌++◌, None, Some, IfOk, IfErr, OnOk, string_bytes};
 ghost use Rattle.toml.specs.{Data.Items, Data.get_item, Errors.IsMemory, Errors.IsWithin as IsSpanWithin, Parse.parse_document, View.view, View.table_view, View.items_view};
 ghost use Rattle.gb_cluster_file.specs.declared.{file.ClusterFile.ClusterFile, file.NodePlaces.NodePlaces};
@@ -17,13 +17,13 @@ use std::alloc::{AllocError, Global};
 use toml::de::Error;
 use toml::{Table, Value};
 
-/// The bytes of the longest text.
+/// The number of bytes of the longest text.
 pub const TEXT: usize = 65_536;
 
-// What a definition cites.
+// The value that a definition cites.
 const _: () = prove!(TEXT == 65_536);
 
-// Returns a place of its own.
+// Returns a place with a copy of the host.
 fn own_place(alloc: Global, parts: &PlaceParts<'_>) -> Result<Place, AllocError>
     ensures { IfOk result (λ place. (string_bytes place.host ≡ parts.now.host.now) × (place.port ≡ parts.now.port)) }
 {
@@ -34,7 +34,7 @@ fn own_place(alloc: Global, parts: &PlaceParts<'_>) -> Result<Place, AllocError>
     })
 }
 
-// Returns the places of a node as values of their own.
+// Returns the places of a node with copies of the hosts.
 fn own_node(alloc: Global, parts: &NodeParts<'_>) -> Result<NodePlaces, AllocError>
     ensures packets { IfOk result (λ node. (string_bytes node.packets.host ≡ parts.now.packets.host.now) × (node.packets.port ≡ parts.now.packets.port)) }
     ensures sessions { IfOk result (λ node. (string_bytes node.sessions.host ≡ parts.now.sessions.host.now) × (node.sessions.port ≡ parts.now.sessions.port)) }
@@ -44,7 +44,7 @@ fn own_node(alloc: Global, parts: &NodeParts<'_>) -> Result<NodePlaces, AllocErr
     Ok(NodePlaces { packets, sessions })
 }
 
-// Returns the node that a value says, whose number is `node`.
+// Returns the node, with number `node`, that a value describes.
 fn own_node_of(alloc: Global, node: usize, value: &Value) -> Result<NodePlaces, FileFault>
     ensures ok { IfOk result (IsNode (view value.now)) }
     ensures err { IfErr result (λ fault. (items : Items) → get_item node items ≡ Some (view value.now) → IsItemsFault items fault) }
@@ -58,7 +58,7 @@ fn own_node_of(alloc: Global, node: usize, value: &Value) -> Result<NodePlaces, 
     }
 }
 
-// Appends the node that a value says, whose number is `node`.
+// Appends the node, with number `node`, that a value describes.
 fn put_node(
     alloc: Global,
     nodes: &mut Vec<NodePlaces>,
@@ -73,7 +73,7 @@ fn put_node(
     Ok(())
 }
 
-// Returns the nodes that the values say.
+// Returns the nodes that the values describe.
 fn nodes_of(alloc: Global, values: &[Value]) -> Result<Vec<NodePlaces>, FileFault>
     ensures ok { IfOk result (λ nodes. AreNodes (items_view values.now) nodes.items) }
     ensures err { IfErr result (IsItemsFault (items_view values.now)) }
@@ -88,7 +88,7 @@ fn nodes_of(alloc: Global, values: &[Value]) -> Result<Vec<NodePlaces>, FileFaul
     Ok(nodes)
 }
 
-// Returns what a document says.
+// Returns the contents of a document.
 fn cluster_of(alloc: Global, table: &Table) -> Result<ClusterFile, FileFault>
     ensures says { IfOk result (IsClusterOf (table_view table.now)) }
     ensures within { IfOk result IsWithin }
@@ -116,7 +116,7 @@ fn cluster_of(alloc: Global, table: &Table) -> Result<ClusterFile, FileFault>
     })
 }
 
-// Returns what a parse that failed comes to.
+// Returns the fault for the error of a failed parse.
 fn fault_from(error: &Error) -> FileFault
     ensures { (text : List ℕ) → (¬ (IsMemory error.now) → parse_document text ≡ None) → IsSpanWithin text error.now → IsFault text result }
 {
@@ -126,8 +126,9 @@ fn fault_from(error: &Error) -> FileFault
     }
 }
 
-/// Returns what the text of a cluster file says, in memory that it takes. Reads no file. `Err` with the first fault: `TooLong` above
-/// 65,536 bytes, `NoDocument` if it is no TOML, or the fault of a field or node; and with `OutOfMemory`, which says nothing of the text.
+/// Returns the contents of a cluster file with this text, in newly taken memory. Reads no file. Returns `Err` with the first fault:
+/// `TooLong` above 65,536 bytes, `NoDocument` if the text is no TOML, or the fault of a field or node; and with `OutOfMemory`, which means
+/// nothing for the text.
 pub fn read_cluster(alloc: Global, text: &str) -> Result<ClusterFile, FileFault>
     ensures ok { IfOk result (IsFileOf text.now) }
     ensures fault { IfErr result (IsFault text.now) }

@@ -1,18 +1,18 @@
-//! Why a cluster file is refused, in words.
+//! The reasons why a cluster file is refused, in words.
 use crate::fault::{FileFault, NodeFault};
 use crate::field::{Field, PlaceField, is_field, is_place_field};
 use std::alloc::{AllocError, Global};
 use toml::Table;
 
-// Returns the number of the line that byte `at` of a text is in, from 1.
+// Returns the number, from 1, of the line that has byte `at` of a text.
 fn line_of(text: &str, at: usize) -> usize {
     let bytes = text.as_bytes();
     let before = &bytes[..at.min(bytes.len())];
     1 + before.iter().filter(|byte| **byte == b'\n').count()
 }
 
-/// Returns the line `line N: WHY`, without its end: why `text` is no TOML document. N is the line that byte `at` is in, from 1. `Err` if
-/// memory runs out.
+/// Returns the line `line N: WHY`, without its line feed, which says why `text` is no TOML document. N is the number of the line that has
+/// byte `at`, from 1. Returns `Err` if memory runs out.
 pub fn document_text(alloc: Global, text: &str, at: usize) -> Result<String, AllocError> {
     let line = line_of(text, at);
     match toml::table_from_str(alloc, text) {
@@ -24,7 +24,7 @@ pub fn document_text(alloc: Global, text: &str, at: usize) -> Result<String, All
     }
 }
 
-// Returns a key at the top of the file that names no field; an empty text where each does.
+// Returns a key at the top of the file that names no field, or an empty text if there is none.
 fn unknown_key(table: &Table) -> &str {
     match table.keys().find(|key| !is_field(key.as_str())) {
         Some(key) => key.as_str(),
@@ -32,7 +32,7 @@ fn unknown_key(table: &Table) -> &str {
     }
 }
 
-// Returns a key of a node's table that names no field; an empty text where each does.
+// Returns a key of a node's table that names no field, or an empty text if there is none.
 fn unknown_place_key(table: &Table) -> &str {
     match table.keys().find(|key| !is_place_field(key.as_str())) {
         Some(key) => key.as_str(),
@@ -70,7 +70,7 @@ fn unknown_place_text(alloc: Global, text: &str, node: usize) -> Result<String, 
     }
 }
 
-// Returns the words for a field that takes another value.
+// Returns the words for a field that may not have its value.
 fn number_text(alloc: Global, field: Field) -> Result<String, AllocError> {
     match field {
         Field::Version => format!(in alloc; "version: 1, 2 or 3 is wanted"),
@@ -113,8 +113,8 @@ fn same_text(
     format!(in alloc; "node[{node}].{name}: is that of node[{first}] too")
 }
 
-/// Returns one line, without its end, that says why `text` is no cluster file. `fault` is what `read_cluster` returned for it. `Err` if
-/// memory runs out.
+/// Returns one line, without its line feed, which says why `text` is no cluster file. `fault` is the fault that `read_cluster` returned for
+/// it. Returns `Err` if memory runs out.
 pub fn fault_text(alloc: Global, text: &str, fault: &FileFault) -> Result<String, AllocError> {
     match *fault {
         FileFault::OutOfMemory => format!(in alloc; "out of memory"),

@@ -1,4 +1,4 @@
-//! Asks the nodes of a server, and prints what they reply.
+//! Sends requests to the nodes of a server, and prints their replies.
 #![tactic(auto)]
 
 use clap::error::ErrorKind;
@@ -24,12 +24,13 @@ use std::process::ExitCode;
 use std::{io, str};
 use toml::Value;
 
-// The bytes of the longest text of a log that is imported. A log has at most 32 times 1,024 entries, and 32 times 65,536 bytes in them.
+// The number of bytes of the longest text of a log that is imported. A log has at most 32 times 1,024 entries, and 32 times 65,536 bytes in
+// them.
 const LOG: u64 = 8_388_608;
 
 const _: () = prove!(LOG == 8_388_608);
 
-// What may be read of a log's text.
+// Returns the text of a log, read up to its greatest length.
 fn read_log<R: Read + Drop>(alloc: Global, reader: R) -> Result<Vec<u8>, ClientFault> {
     let mut text = Vec::new(alloc);
     match reader.take(LOG).read_to_end(&mut text) {
@@ -38,7 +39,7 @@ fn read_log<R: Read + Drop>(alloc: Global, reader: R) -> Result<Vec<u8>, ClientF
     }
 }
 
-// The secrets of a file, or of standard input.
+// Returns the secrets of a file, or of standard input.
 fn given_secrets(rt: &HostRuntime, path: Option<&str>) -> Result<Secrets, SecretsFault> {
     let alloc = rt.alloc();
     match path {
@@ -50,7 +51,7 @@ fn given_secrets(rt: &HostRuntime, path: Option<&str>) -> Result<Secrets, Secret
     }
 }
 
-// Runs a task over sockets, with the connection on which a log is followed and the text that is imported. The exit status.
+// Runs a task over sockets, with the connection on which a log is followed and the text that is imported. Returns the exit status.
 fn run_on<R: Read, S: Write>(
     rt: &HostRuntime,
     listed: Option<&[Listed<'_>]>,
@@ -78,12 +79,12 @@ fn run_on<R: Read, S: Write>(
     )
 }
 
-// The longest wait for a reply where a log is followed, in seconds: a node may wait for something new before it replies.
+// Returns the longest wait for a reply in seconds, for a log that is followed: a node may wait for a new entry before it replies.
 fn longest_wait(server: Server) -> u64 {
     u64::from(WAIT) / 1_000 + u64::from(server.wait)
 }
 
-// Opens what a task takes, and runs it. The exit status, or the fault that came before it.
+// Opens the connection or the input that a task needs, and runs it. Returns the exit status, or the fault that came before it.
 fn go(
     rt: &HostRuntime,
     listed: Option<&[Listed<'_>]>,
@@ -105,7 +106,7 @@ fn go(
     Ok(run_on(rt, listed, secrets, task, &mut reader, &mut sender, &log))
 }
 
-// What may be read of a directory file.
+// Returns the text of a directory file, read to at most one byte more than the longest text, or `None` if it cannot be read.
 fn directory_text(rt: &HostRuntime, name: &str) -> Option<Vec<u8>> {
     let file = File::open(rt, name).ok()?;
     let mut text = Vec::new(rt.alloc());
@@ -115,7 +116,7 @@ fn directory_text(rt: &HostRuntime, name: &str) -> Option<Vec<u8>> {
     }
 }
 
-// Runs a task where a directory says that the nodes are. The exit status, or the fault that came before it.
+// Runs a task at the places of nodes that a directory names. Returns the exit status, or the fault that came before it.
 fn go_there(
     rt: &HostRuntime,
     lookup: Lookup<'_>,
@@ -136,7 +137,7 @@ fn go_there(
     }
 }
 
-// Runs a task by a directory file. The exit status, or the fault that came before it.
+// Runs a task by a directory file. Returns the exit status, or the fault that came before it.
 fn go_by(
     rt: &HostRuntime,
     lookup: Lookup<'_>,
@@ -161,7 +162,7 @@ fn go_by(
     }
 }
 
-// Does what the plan says. The exit status, or the fault that came before it.
+// Does the task of a plan. Returns the exit status, or the fault that came before it.
 fn obey_plan(rt: &HostRuntime, plan: &Plan<'_>) -> Result<u8, ClientFault> {
     let secrets = match given_secrets(rt, plan.secrets) {
         Ok(secrets) => secrets,
@@ -176,7 +177,7 @@ fn obey_plan(rt: &HostRuntime, plan: &Plan<'_>) -> Result<u8, ClientFault> {
     }
 }
 
-// Reads the words and obeys them. The exit status.
+// Reads the words and does their task. Returns the exit status.
 fn run(rt: &HostRuntime, words: &[&str]) -> Result<u8, ClientFault> {
     let alloc = rt.alloc();
     let matches = match command(alloc)?.try_get_matches_from(words) {
@@ -201,7 +202,7 @@ fn run(rt: &HostRuntime, words: &[&str]) -> Result<u8, ClientFault> {
     Ok(end_run(alloc, Some(&plan.task), outcome, &mut rt.stderr()))
 }
 
-// The words of the command line.
+// Returns the words of the command line.
 fn words_of(rt: &HostRuntime) -> Result<Vec<String>, ClientFault> {
     match std::env::args(rt) {
         Ok(words) => Ok(words.collect(rt.alloc())?),
@@ -212,7 +213,7 @@ fn words_of(rt: &HostRuntime) -> Result<Vec<String>, ClientFault> {
     }
 }
 
-// Does what the command line says. The exit status.
+// Does the task of the command line. Returns the exit status.
 fn answer(rt: &HostRuntime) -> Result<u8, ClientFault> {
     let strings = words_of(rt)?;
     let mut words: Vec<&str> = Vec::new(rt.alloc());
@@ -222,8 +223,8 @@ fn answer(rt: &HostRuntime) -> Result<u8, ClientFault> {
     run(rt, &words)
 }
 
-/// Status 0: a reply that is no refusal, or help; 1: a refusal; 2: wrong words or secrets; 3: there is no connection, or no such reply;
-/// 4: no reply came, and the outcome is unknown.
+/// Ends with status 0 for a reply that is no refusal, or help; 1 for a refusal; 2 for wrong words or secrets; 3 if there is no connection,
+/// or if what came is no reply to the request; 4 if no reply came, so that the outcome is unknown.
 fn main(rt: HostRuntime) -> ExitCode {
     let outcome = answer(&rt);
     ExitCode::from(end_run(rt.alloc(), None, outcome, &mut rt.stderr()))

@@ -1,4 +1,4 @@
--- A group that can be made no more stays so, and one that was made stays made or is dropped.
+-- A group that can no longer be made stays so, and a group that was made stays made or is dropped.
 use Rattle.gb_types.specs.Common.{◌≡◌, ℕ, List, [], ◌∷◌, length, Bool, true, false, Option, Some, None, option_map, fold, if◌then◌else◌, rising, message_of, nat_lt, ◌&&◌, not}
 use Rattle.std.specs.FinSet as set
 use Rattle.std.specs.Ordering.{nat_cmp}
@@ -126,7 +126,7 @@ told_goes plan g past (Pack b) (Sent (SentPacket text)) o = goes_fold (packed_to
 told_goes plan g past Tick (Ticked (Noticed found)) o = goes_fold (noticed_told plan.me) (λ p b. goes_stepped (if_other plan.me (node_numbered b)) p) o (rising found)
 told_goes plan g past e a o = goes_same o
 
--- A group as it is and as its past says.
+-- A group by its node's state and by the node's past.
 
 abbrev pub AreAlike : Option (Option SlotState) → Option (Option Told) → Type 0
 AreAlike None None = Unit {0}

@@ -9,7 +9,7 @@ use Rattle.gb_frame.specs.Common.{items_for, names}
 use Rattle.gb_delivery.specs.Lives.{count_in}
 use Rattle.gb_delivery.specs.RunShare.{AreOf, items_in}
 
--- the items of these groups in one frame, and in many
+-- the number of items of these groups in one frame, and in many
 abbrev in_frame : List Addr → List Item → ℕ
 in_frame [] frame = 0
 in_frame (g ∷ gs) frame = length (items_for g frame) + in_frame gs frame
@@ -70,7 +70,7 @@ all_counted gs (f ∷ fs) h =
     let y = length-append f (flat_map (λ (frame : List Item). frame) fs) in
     omega (arith, first, rest, x, y)
 
--- the others have few
+-- the other groups have few items
 others_few : (most : ℕ) (gs : List Addr) (frames : List (List Item)) → ((h : Addr) → count_in h frames ≤ most) → in_frames gs frames ≤ length gs * most
 others_few most [] frames each = let z = zero-mul most in omega (arith, z)
 others_few most (g ∷ gs) frames each =

@@ -1,4 +1,4 @@
--- While something of a group waits, each other group gets at most one item more than it, by their addresses.
+-- While an item of a group waits, each other group gets at most one item more than it, by their addresses.
 use Rattle.gb_types.specs.Common.{◌≡◌, ◌≢◌, ℕ, zero, suc, ◌+◌, ◌-◌, ◌<◌, ◌≤◌, List, [], ◌∷◌, length, take, min, refl, sym, ap, ◌∙◌, subst, arith, false, Option, Some, None, length-map}
 use Rattle.gb_types.specs.declared.{address.Addr.Addr, limits.TheConstants.NODES, version.Version.Version}
 use Rattle.gb_frame.specs.declared.item.Item.{Item}
@@ -34,7 +34,7 @@ take_none {A = A} n xs e = ap (λ (ys : List A). length (take n ys)) e ∙ none 
     none zero = refl
     none (suc n) = refl
 
--- What one event adds to the frames for b, of the group g, which stands at the place p, and of the group h.
+-- The items that one event adds to the frames for b, of the group g, which is at the place p, and of the group h.
 pub record Adds (b : ℕ) (g h : Addr) (p : ℕ) (t u : GroupsValue) (frames : List (List Item)) : Type 0 where
   pub none : waiting_in (group_in h t) b ≡ [] → count_in h frames ≡ 0
   pub fair : (q : ℕ) → Lives q h t → count_in h frames + turn_of p q (cursor_for b u) ≤ count_in g frames + turn_of p q (cursor_for b t)
@@ -68,13 +68,13 @@ module _ (each : EachGroup) (b : ℕ) (d : b < NODES) (g h : Addr) (other : is_a
       record { none = λ waits. x; fair = λ q l. let c = ap (turn_of old.place q) change.cursor in omega (arith, x, y, c) }
   adds u w frames kept apart old still (packs room is some to) = packing_adds u.table.version room u.table.groups w.table.groups frames kept apart old still is to
 
--- The two counts so far, ch of the group h and cg of the group g, which stands at the place p. The past says o of the group h.
+-- The two counts so far, ch of the group h and cg of the group g, which is at the place p. The group h has the state o by the past.
 pub record Balance (b : ℕ) (h : Addr) (t : GroupsValue) (p : ℕ) (o : Option (Option Told)) (ch cg : ℕ) : Type 0 where
   pub fresh : o ≡ None → ch ≡ 0
   pub bound : ch ≤ cg + 1
   pub turn : (q : ℕ) → Lives q h t → ch + turn_of p q (cursor_for b t) ≤ cg + (1 + min 1 (q - p))
 
--- with other names
+-- the same with equal names
 pub renamed : (b : ℕ) (h : Addr) (t : GroupsValue) (p : ℕ) (o new : Option (Option Told)) (ch cg ch' cg' : ℕ) → new ≡ o → ch' ≡ ch → cg' ≡ cg → Balance b h t p o ch cg → Balance b h t p new ch' cg'
 renamed b h t p o new ch cg ch' cg' eo eh eg x = record {
   fresh = λ none. eh ∙ x.fresh (sym eo ∙ none);

@@ -8,7 +8,7 @@ use Rattle.gb_detect.specs.Watch.{Watch, start, is_due, due, after_heard, after_
 use Rattle.gb_detect.proofs.SetLemmas.{contains-either, contains-nodes_where}
 use Rattle.gb_detect.proofs.TickLemmas.{ticks_since, ticks_since-tick, ticks_since-other, ticks_since-heard, noticed-heard}
 
--- what a detector is after the calls
+-- the state of a new detector after the calls
 record IsMade (m n s : ℕ) (calls : List Call) (d : Watch) : Type 0 where
   me : d.me ≡ m
   nodes : d.nodes ≡ n
@@ -50,7 +50,7 @@ after_packet m n s calls d c positive made = record {
   found = λ b. made.found b ∙ ap (λ v. (nat_lt b n && not (nat_eq b m)) && v) (sym (noticed-heard s b c calls positive));
 }
 
--- another node is noticed after a tick where it was, or is due
+-- after a tick, another node is noticed if it was noticed before, or is due
 joined : (l e p q r : Bool) → (l ≡ true → q ≡ r) → (((l && not e) && p) || (l && (not e && (not ((l && not e) && p) && q)))) ≡ ((l && not e) && (r || p))
 joined true true p q r h = refl
 joined true false true q true h = refl
@@ -67,7 +67,7 @@ newly true false false q true h = h refl
 newly true false false q false h = h refl
 newly false e p q r h = refl
 
--- the counter says whether the next tick makes the silence too long
+-- the counter reaches the limit with the next tick if and only if the silence is too long then
 due_by_count : (m n s : ℕ) (calls : List Call) (d : Watch) (b : ℕ) → n ≤ NODES → IsMade m n s calls d → nat_lt b n ≡ true
     → nat_le d.silence (get_or d.silences b 0 + 1) ≡ is_silent s b (Tick ∷ calls)
 due_by_count m n s calls d b small made inside =
@@ -113,7 +113,7 @@ of_stands calls d stands =
     let made = made_by d.me d.nodes d.silence stands.cluster (omega (arith, limit)) calls in
     subst (λ (x : Watch). IsMade d.me d.nodes d.silence calls x) (sym stands.made) made
 
--- over any calls, the noticed set is that of the definition
+-- after any calls, the noticed set is the one that the definition gives
 pub noticed-replay : (m n s : ℕ) → n ≤ NODES → SILENCE_MIN ≤ s → (calls : List Call) → AreNoticed (start m n s) calls (replay (start m n s) calls).noticed
 noticed-replay m n s small least calls = let made = made_by m n s small (omega (arith, least)) calls in λ b. made.found b
 

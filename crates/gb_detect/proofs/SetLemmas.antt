@@ -63,7 +63,7 @@ insert-union s t k =
 pub union-empty : (s : set.FinSet nat_cmp) → set.union s set.empty ≡ s
 union-empty s = same_nodes _ _ (λ q. contains-either s _ q ∙ (ap (λ b. set.contains s q || b) (set.contains-empty nat_cmp q) ∙ or-false _))
 
--- the nodes below n of a set that grew by nodes below n
+-- the nodes below n of a set to which nodes below n were added
 pub nodes_where-union : (n : ℕ) (s : set.FinSet nat_cmp) (p : ℕ → Bool)
     → nodes_where n (set.contains (set.union s (nodes_where n (set.contains (nodes_where n p))))) ≡ set.union (nodes_where n (set.contains s)) (nodes_where n p)
 nodes_where-union n s p =
@@ -74,16 +74,16 @@ nodes_where-union n s p =
     ∙ (or-and (nat_lt q n) (set.contains s q) (p q)
     ∙ sym (contains-either _ _ q ∙ (λ j. contains-nodes_where n (set.contains s) q j || contains-nodes_where n p q j)))))
 
--- nodes below n stay
+-- the nodes below n of a set of nodes below n are that set
 pub nodes_where-twice : (n : ℕ) (p : ℕ → Bool) → nodes_where n (set.contains (nodes_where n p)) ≡ nodes_where n p
 nodes_where-twice n p = same_nodes _ _ (λ q. contains-nodes_where n _ q ∙ (ap (λ b. nat_lt q n && b) (contains-nodes_where n p q) ∙ (and-twice (nat_lt q n) (p q) ∙ sym (contains-nodes_where n p q))))
 
--- a set of nodes below n that grew by nodes below n is one
+-- a set of nodes below n is still one after nodes below n were added
 pub nodes_where-grown : (n : ℕ) (s : set.FinSet nat_cmp) (p : ℕ → Bool) → nodes_where n (set.contains s) ≡ s
     → nodes_where n (set.contains (set.union s (nodes_where n (set.contains (nodes_where n p))))) ≡ set.union s (nodes_where n (set.contains (nodes_where n p)))
 nodes_where-grown n s p kept = nodes_where-union n s p ∙ (ap (λ t. set.union t (nodes_where n p)) kept ∙ ap (set.union s) (sym (nodes_where-twice n p)))
 
--- what a tick would notice, told from the set that stands behind the noticed one
+-- whether a tick would notice a node, computed from the set whose nodes below n are the noticed ones
 pub is_due-inside : (me n s : ℕ) (silences : List ℕ) (behind : set.FinSet nat_cmp) (b : ℕ) → b < n
     → is_due (record { me = me; nodes = n; silence = s; silences = silences; noticed = nodes_where n (set.contains behind) }) b
     ≡ (not (nat_eq b me) && (not (set.contains behind b) && nat_le s (get_or silences b 0 + 1)))

@@ -4,7 +4,7 @@ use Rattle.gb_detect.specs.Silence.{Call, Heard, Tick, is_heard, is_tick, is_sil
 use Rattle.gb_detect.proofs.TickLemmas.{ticks_since, ticks_since-tick, ticks_since-other, ticks_since-heard, count-cons, silent-noticed}
 use Rattle.gb_types.proofs.BoolLemmas.{or_left, or_right}
 
--- one more call in front of a stretch that begins the calls
+-- the calls begin with a stretch of s ticks in which the node was not heard
 record Front (s b : ℕ) (calls : List Call) : Type 0 where
   stretch : List Call
   earlier : List Call
@@ -30,7 +30,7 @@ front-other s b c calls other f = record {
   unheard = ap (λ v. v || list_any (is_heard b) f.stretch) other ∙ f.unheard;
 }
 
--- where so many ticks came since the node was heard, they begin the calls
+-- if s ticks came since the node was heard, the calls begin with such a stretch
 front : (s b : ℕ) (calls : List Call) → s ≤ ticks_since b calls → Front s b calls
 front zero b calls h = record { stretch = []; earlier = calls; parts = refl; long = refl; unheard = refl }
 front (suc s) b [] h = absurd (omega arith)
@@ -58,7 +58,7 @@ has_stretch s b (call ∷ calls) h =
       | false ↦ λ _ rest. after_more s b call calls (has_stretch s b calls rest)
     ] refl h
 
--- the ticks of a stretch without the node came after it was heard
+-- the ticks of a stretch in which the node was not heard are among those since it was last heard
 stretch_ticks : (b : ℕ) (stretch earlier : List Call) → list_any (is_heard b) stretch ≡ false → count_by is_tick stretch ≤ ticks_since b (stretch ++ earlier)
 stretch_ticks b [] earlier h = omega arith
 stretch_ticks b (Tick ∷ stretch) earlier h =

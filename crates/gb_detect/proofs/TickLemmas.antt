@@ -30,7 +30,7 @@ pub silent-noticed : (s b : ℕ) (calls : List Call) → is_silent s b calls ≡
 silent-noticed s b [] h = h
 silent-noticed s b (call ∷ calls) h = ap (λ v. v || is_noticed s b calls) h
 
--- a packet makes no notice
+-- a packet causes no notice
 pub noticed-heard : (s b c : ℕ) (calls : List Call) → 0 < s → is_noticed s b (Heard c ∷ calls) ≡ is_noticed s b calls
 noticed-heard s b c calls positive =
     elim (nat_eq c b) as (λ v. nat_eq c b ≡ v → is_noticed s b (Heard c ∷ calls) ≡ is_noticed s b calls) [

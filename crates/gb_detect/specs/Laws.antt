@@ -4,7 +4,7 @@ use Rattle.gb_types.specs.declared.limits.TheConstants.{NODES, SILENCE_MIN}
 use Rattle.gb_detect.specs.Silence.{Call, is_noticed, SilentStretch}
 use Rattle.gb_detect.specs.Watch.{start, replay, AreNoticed}
 
--- after any calls on a new detector, its noticed set is the one that the calls define
+-- after any calls on a new detector, its noticed nodes are those that the calls define as noticed
 abbrev pub NoticedByCalls : Type 0
 NoticedByCalls =
     (me nodes silence : ℕ) → nodes ≤ NODES → SILENCE_MIN ≤ silence → (calls : List Call)

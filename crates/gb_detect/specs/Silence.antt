@@ -1,4 +1,4 @@
--- When a node has been silent for too long, over the calls on a detector, newest first
+-- When a node has been silent for too long, over the calls on a detector, the newest first
 -- (failure detection by timeout, as in Cachin, Guerraoui, Rodrigues 2011, Algorithm 2.5, with ticks for its timer).
 use Rattle.std.specs.Prelude.{◌≡◌, ℕ, Bool, false, true, not, ◌||◌, nat_eq, nat_le, List, [], ◌∷◌, ◌++◌, count_by}
 use Rattle.std.specs.List.{take_while, list_any}
@@ -8,12 +8,12 @@ pub data Call : Type 0 where
   Heard : ℕ → Call
   Tick : Call
 
--- true if the call heard the node
+-- whether the call heard the node
 abbrev pub is_heard : ℕ → Call → Bool
 is_heard b (Heard c) = nat_eq c b
 is_heard b Tick = false
 
--- true if the call was a tick
+-- whether the call was a tick
 abbrev pub is_tick : Call → Bool
 is_tick (Heard c) = false
 is_tick Tick = true
@@ -22,16 +22,16 @@ is_tick Tick = true
 abbrev pub since_heard : ℕ → List Call → List Call
 since_heard b calls = take_while (λ call. not (is_heard b call)) calls
 
--- true if there were `silence` ticks, with the node heard neither between nor after the last `silence` of them
+-- whether at least `silence` ticks came after the node was last heard
 abbrev pub is_silent : ℕ → ℕ → List Call → Bool
 is_silent silence b calls = nat_le silence (count_by is_tick (since_heard b calls))
 
--- true if that was so at some moment so far: then the node is noticed
+-- whether the node was silent in this sense at some moment so far; then it is noticed
 abbrev pub is_noticed : ℕ → ℕ → List Call → Bool
 is_noticed silence b [] = is_silent silence b []
 is_noticed silence b (call ∷ calls) = is_silent silence b (call ∷ calls) || is_noticed silence b calls
 
--- somewhere among the calls is an unbroken stretch with `silence` ticks, in which the node is never heard
+-- among the calls is an unbroken stretch with `silence` ticks, in which the node is never heard
 pub record SilentStretch (silence b : ℕ) (calls : List Call) : Type 0 where
   pub later : List Call
   pub stretch : List Call

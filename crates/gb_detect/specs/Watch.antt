@@ -7,8 +7,8 @@ use Rattle.gb_types.specs.Common.{below}
 use Rattle.gb_types.specs.declared.limits.TheConstants.{NODES, SILENCE_MIN}
 use Rattle.gb_detect.specs.Silence.{Call, Heard, Tick, is_noticed}
 
--- a detector at the node `me` of `nodes` nodes: for each node the number of ticks that it has been silent, up to the
--- limit `silence`, and the noticed nodes
+-- A detector at the node `me` of `nodes` nodes. It has for each node the number of ticks for which the node has been silent, up to the limit
+-- `silence`, and the noticed nodes.
 pub record Watch : Type 0 where
   pub me : ℕ
   pub nodes : ℕ
@@ -16,7 +16,7 @@ pub record Watch : Type 0 where
   pub silences : List ℕ
   pub noticed : set.FinSet nat_cmp
 
--- a value is stored as the tuple of its fields
+-- how it is coded: as the tuple of its fields
 abbrev pub watch_code : Coded Watch
 watch_code =
     code_by (ℕ × (ℕ × (ℕ × (List ℕ × set.FinSet nat_cmp)))) (coded× coded_ℕ (coded× coded_ℕ (coded× coded_ℕ (coded× (coded_list coded_ℕ) (set.code coded_ℕ)))))
@@ -28,11 +28,11 @@ watch_code =
 unfoldable pub nodes_where : ℕ → (ℕ → Bool) → set.FinSet nat_cmp
 nodes_where n p = set.retain (set.from_list (below n)) p
 
--- a detector that has heard nothing
+-- a new detector, which has heard nothing
 abbrev pub start : ℕ → ℕ → ℕ → Watch
 start me nodes silence = record { me = me; nodes = nodes; silence = silence; silences = replicate NODES 0; noticed = set.empty }
 
--- true if one more tick makes the node's silence too long
+-- whether one more tick makes the node's silence too long
 abbrev pub is_due : Watch → ℕ → Bool
 is_due d b = not (nat_eq b d.me) && (not (set.contains d.noticed b) && nat_le d.silence (slice_index d.silences b + 1))
 
@@ -53,25 +53,25 @@ abbrev pub after : Watch → Call → Watch
 after d (Heard b) = after_heard d b
 after d Tick = after_tick d
 
--- the detector after these calls, newest first
+-- the detector after these calls, the newest first
 abbrev pub replay : Watch → List Call → Watch
 replay d [] = d
 replay d (call ∷ calls) = after (replay d calls) call
 
--- the value stands for the calls, newest first: it is the detector that had heard nothing, after these calls
+-- the state is that of a new detector after these calls, the newest first
 pub record StandsFor (calls : List Call) (d : Watch) : Type 0 where
   pub cluster : d.nodes ≤ NODES
   pub limit : SILENCE_MIN ≤ d.silence
   pub made : d ≡ replay (start d.me d.nodes d.silence) calls
 
--- true if the node is another node of the cluster
+-- whether the node is another node of the cluster
 abbrev pub is_other : Watch → ℕ → Bool
 is_other d b = nat_lt b d.nodes && not (nat_eq b d.me)
 
--- the set has exactly the other nodes that are noticed over the calls
+-- the set has exactly the other nodes that the calls define as noticed
 abbrev pub AreNoticed : Watch → List Call → set.FinSet nat_cmp → Type 0
 AreNoticed d calls found = (b : ℕ) → set.contains found b ≡ (is_other d b && is_noticed d.silence b calls)
 
--- the set has exactly the other nodes that one more tick makes noticed
+-- the set has exactly the other nodes that are noticed after one more tick, and not before it
 abbrev pub AreNew : Watch → List Call → set.FinSet nat_cmp → Type 0
 AreNew d calls found = (b : ℕ) → set.contains found b ≡ (is_other d b && (is_noticed d.silence b (Tick ∷ calls) && not (is_noticed d.silence b calls)))

@@ -1,4 +1,4 @@
-//! The crash detector of one node, as a value: which nodes it has not heard for too many ticks.
+//! The crash detector of one node, as a value: the nodes that it has not heard for too many ticks.
 ghost use Rattle.std.specs.Prelude.{◌≡◌, ℕ, ◌+◌, ◌<◌, ◌≤◌, List, [], ◌∷◌, map, min};
 ghost use Rattle.std.specs.FinSet as set;
 ghost use Rattle.gb_detect.specs.Silence.{Call, Heard, Tick};
@@ -14,7 +14,7 @@ pub struct Detector {
     me: NodeId,
     nodes: u8,
     silence: u16,
-    /// For each node, the ticks since it was last heard, up to `silence`.
+    /// For each node, the number of ticks since it was last heard, up to `silence`.
     silences: [u16; NODES],
     noticed: NodeSet,
 }
@@ -63,8 +63,8 @@ fn count_tick(silences: &mut [u16; NODES], silence: u16)
 }
 
 impl Detector {
-    /// Returns a detector at the node `me` of a cluster of the nodes below `nodes`. It has heard nothing yet and holds no node for
-    /// crashed. It notices a node, that is, holds it for crashed, once it is silent for `silence` ticks. Takes no memory.
+    /// Returns a detector at the node `me` of a cluster of the nodes below `nodes`. It has heard nothing yet, and no node is noticed. It
+    /// notices a node, that is, holds it for crashed, once the node was silent for `silence` ticks. Takes no memory.
     pub fn new(me: NodeId, nodes: u8, silence: u16) -> Detector
         requires cluster { nodes ≤ NODES }
         requires member { me.number < nodes }
@@ -82,8 +82,8 @@ impl Detector {
         }
     }
 
-    /// Records that a packet of `node` was heard: its silence begins again at 0. A node that is held for crashed stays so. `node` may be
-    /// this node itself, or a node outside the cluster; both are never noticed.
+    /// Records that a packet of `node` was heard: its silence begins again at 0. A node that is noticed stays noticed. `node` may be this
+    /// node itself, or a node outside the cluster; both are never noticed.
     pub fn heard(&mut self, node: NodeId)
         ensures value { self.new ≡ after_heard self.old node.number }
         ensures stands { (calls : List Call) → StandsFor calls self.old → StandsFor (Heard node.number ∷ calls) self.new }
@@ -91,7 +91,7 @@ impl Detector {
         self.silences[node.number as usize] = 0;
     }
 
-    /// Returns true if a tick would notice this node of the cluster.
+    /// Returns true if a tick would notice this node of the cluster, and false otherwise.
     fn is_due(&self, node: NodeId) -> bool
         requires { node.number < self.now.nodes }
         ensures { result ≡ is_due self.now node.number }
@@ -101,8 +101,8 @@ impl Detector {
             && self.silences[node.number as usize].saturating_add(1) >= self.silence
     }
 
-    /// Returns the nodes that the next tick would notice: the other nodes of the cluster that are not noticed yet and whose silence is
-    /// one tick short. Changes nothing.
+    /// Returns the nodes that the next tick would notice: the other nodes of the cluster that are not noticed yet and whose silence is one
+    /// tick below the limit. Changes nothing.
     pub fn due(&self) -> NodeSet
         ensures value { result ≡ due self.now }
         ensures definition { (calls : List Call) → StandsFor calls self.now → AreNew self.now calls result }
@@ -117,8 +117,8 @@ impl Detector {
         found
     }
 
-    /// Records a tick: the silence of each node is one tick longer, and the nodes that are now silent for too long are noticed as
-    /// crashed, for good. Returns the nodes that this tick noticed; none of them was noticed before.
+    /// Records a tick and returns the nodes that this tick noticed. The silence of each node is one tick longer, and the nodes that are now
+    /// silent for too long are noticed as crashed, for good. None of those returned was noticed before.
     pub fn tick(&mut self) -> NodeSet
         ensures value { self.new ≡ after_tick self.old }
         ensures stands { (calls : List Call) → StandsFor calls self.old → StandsFor (Tick ∷ calls) self.new }
@@ -131,7 +131,7 @@ impl Detector {
         found
     }
 
-    /// Returns the set of all nodes that are noticed as crashed so far. Changes nothing.
+    /// Returns the set of all nodes that have been noticed as crashed so far. Changes nothing.
     pub fn noticed(&self) -> NodeSet
         ensures value { result ≡ self.now.noticed }
         ensures definition { (calls : List Call) → StandsFor calls self.now → AreNoticed self.now calls result }

@@ -1,6 +1,6 @@
-//! The crash detector of a node: it notices the nodes that it has not heard for a number of ticks, the silence. It reads no clock
-//! and sends nothing: its owner says when a packet was heard and when the time ticks. It may be wrong about a slow node, and it
-//! never takes a notice back. Read `detector::Detector` first.
+//! The crash detector of a node: it notices the nodes that it has not heard for a number of ticks, the silence. It reads no clock and sends
+//! nothing: its owner calls it for each packet that was heard and for each tick. It may be wrong about a slow node, and it never takes a
+//! notice back. Read `detector::Detector` first.
 #![tactic(auto)]
 
 pub mod detector;

@@ -1,4 +1,4 @@
--- What a fault of a directory rules out.
+-- A directory with a fault does not list the node.
 use Rattle.gb_types.specs.Common.{◌≡◌, ℕ, List, Option, Some, None, String, BTreeMap, Global, codes, decimal, option_and_then, refl, sym, ap, subst, ◌∙◌, is_some, same_Some, none-some}
 use Rattle.toml.specs.Data.{Data, string, integer, float, boolean, datetime, array, table, get, at, as_str, as_table, as_array}
 use Rattle.toml.specs.{Parse.parse_document, View.view, View.members_view}
@@ -10,7 +10,7 @@ use Rattle.gb_directory_file.specs.Faults.{IsClusterFault, IsFault}
 use Rattle.gb_directory_file.specs.declared.fault.DirectoryFault.{DirectoryFault}
 use Rattle.gb_directory_file.specs.declared.fault.DirectoryFault.TheVariants.{NoTenants, NoTenant, NoClusters, NoCluster, NoNodes, NoNode, NoPlace}
 
--- what is no table has nothing under a name
+-- a value that is no table has nothing under a name
 nothing_under : (k : List ℕ) (found : Option Data) → option_and_then as_table found ≡ None → option_and_then (get k) found ≡ None
 nothing_under k None none = refl
 nothing_under k (Some (string s)) none = refl
@@ -25,7 +25,7 @@ no_text_under : (k : List ℕ) (found : Option Data) → option_and_then as_tabl
 no_text_under k None none = refl
 no_text_under k (Some d) none = ap (option_and_then as_str) (nothing_under k (Some d) none)
 
--- nor has what is no list anything at a place
+-- a value that is no list has nothing at an index
 nothing_at : (i : ℕ) (found : Option Data) → option_and_then as_array found ≡ None → option_and_then (at i) found ≡ None
 nothing_at i None none = refl
 nothing_at i (Some (string s)) none = refl
@@ -36,12 +36,12 @@ nothing_at i (Some (datetime t)) none = refl
 nothing_at i (Some (table ms)) none = refl
 nothing_at i (Some (array ds)) none = absurd (none-some ds (sym none))
 
--- no table under a name has anything under another
+-- if there is no table under a name, nothing is under a name in it
 nothing_behind : (j k : List ℕ) (found : Option Data) → option_and_then (table_at j) found ≡ None → option_and_then (get k) (option_and_then (get j) found) ≡ None
 nothing_behind j k None none = refl
 nothing_behind j k (Some d) none = nothing_under k (get j d) none
 
--- where there is no list, no entry writes a place
+-- if there is no list, no entry writes a place
 no_entry : (i : ℕ) (list : Option Data) (host : List ℕ) (port : ℕ) → option_and_then (at i) list ≡ None → IsEntry (option_and_then (at i) list) host port → ⊥
 no_entry i list host port none entry = none-some entry.0 (sym (ap (option_and_then as_str) none) ∙ entry.1)
 
@@ -77,7 +77,7 @@ not_listed file tenant node NoNodes host port h is = named_so file tenant node N
 not_listed file tenant node NoNode host port h is = named_so file tenant node NoNode host port h is
 not_listed file tenant node NoPlace host port h is = named_so file tenant node NoPlace host port h is
 
--- the entry of a list that is found
+-- the entry for a node that a list has
 pub listed_by : (file list : Data) (tenant node : ℕ) (name host : List ℕ) (port : ℕ) → cluster_name tenant file ≡ Some name → cluster_nodes name file ≡ Some list
     → IsEntry (at node list) host port → IsListed file tenant node host port
 listed_by file list tenant node name host port named found entry = record {
@@ -90,7 +90,7 @@ listed_by file list tenant node name host port named found entry = record {
 pub document_is : (text : List ℕ) (m : BTreeMap (String Global) Value) → parse_document text ≡ Some (members_view m.entries) → IsDocument text (view (Table m))
 document_is text m parsed = (members_view m.entries, parsed, view-Table m)
 
--- the entry that is found, and the place that it writes
+-- the entry for a node, and the place that it writes
 pub entry_is : (list entry : Data) (node : ℕ) (text host : List ℕ) (port : ℕ) → Some entry ≡ at node list → Some text ≡ as_str entry → IsPlaceText text host port
     → IsEntry (at node list) host port
 entry_is list entry node text host port here is place = (text, ap (option_and_then as_str) (sym here) ∙ sym is, place)
@@ -98,14 +98,14 @@ entry_is list entry node text host port here is place = (text, ap (option_and_th
 entry_at : (file list entry : Data) (node : ℕ) (name : List ℕ) → Some entry ≡ at node list → cluster_nodes name file ≡ Some list → option_and_then (at node) (cluster_nodes name file) ≡ Some entry
 entry_at file list entry node name here found = ap (option_and_then (at node)) found ∙ sym here
 
--- an entry that is no text
+-- an entry that is no text is a fault
 pub no_text : (file list entry : Data) (tenant node : ℕ) (name : List ℕ) → Some entry ≡ at node list → None ≡ as_str entry → cluster_name tenant file ≡ Some name → cluster_nodes name file ≡ Some list
     → IsFault file tenant node NoPlace
 no_text file list entry tenant node name here none named found =
     let there = entry_at file list entry node name here found in
     (name, named, (ap is_some there, λ host port e. none-some e.0 (none ∙ (ap (option_and_then as_str) (sym there) ∙ e.1))))
 
--- an entry whose text is no place
+-- an entry whose text is no place is a fault
 pub no_place : (file list entry : Data) (text : List ℕ) (tenant node : ℕ) (name : List ℕ) → Some entry ≡ at node list → Some text ≡ as_str entry → ((host : List ℕ) (port : ℕ) → IsPlaceText text host port → ⊥)
     → cluster_name tenant file ≡ Some name → cluster_nodes name file ≡ Some list → IsFault file tenant node NoPlace
 no_place file list entry text tenant node name here is none named found =

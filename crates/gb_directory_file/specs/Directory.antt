@@ -1,10 +1,10 @@
--- What a directory file says.
+-- The contents of a directory file.
 use Rattle.std.specs.Prelude.{◌≡◌, ℕ, List, Option, Some, codes, decimal, option_and_then}
 use Rattle.toml.specs.Data.{Data, Items, Members, table, get, at, as_str, as_table, as_array}
 use Rattle.toml.specs.Parse.{parse_document}
 use Rattle.gb_cluster_file.specs.Places.{IsPlaceText}
 
--- the document that a text is, as a table
+-- the document of a text, as a table
 abbrev pub IsDocument : List ℕ → Data → Type 0
 IsDocument text file = (document : Members) × (parse_document text ≡ Some document) × (file ≡ table document)
 
@@ -18,11 +18,11 @@ list_at name value = option_and_then as_array (get name value)
 abbrev pub text_at : List ℕ → Data → Option (List ℕ)
 text_at name value = option_and_then as_str (get name value)
 
--- `tenant.T`: the name of a tenant's cluster
+-- `tenant.T`, which is the name of a tenant's cluster
 abbrev pub cluster_name : ℕ → Data → Option (List ℕ)
 cluster_name tenant file = option_and_then (text_at (decimal tenant)) (get (codes "tenant") file)
 
--- `cluster.NAME.nodes`: where the nodes of a cluster are
+-- `cluster.NAME.nodes`, which has the places of a cluster's nodes
 abbrev pub cluster_nodes : List ℕ → Data → Option Data
 cluster_nodes name file = option_and_then (get (codes "nodes")) (option_and_then (get name) (get (codes "cluster") file))
 

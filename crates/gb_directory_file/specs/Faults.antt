@@ -1,4 +1,4 @@
--- What a fault says of a text and of a directory.
+-- The meaning of each fault of a text and of a directory.
 use Rattle.std.specs.Prelude.{◌≡◌, ◌≤◌, ◌<◌, ℕ, List, None, Some, IsSome, length, codes, option_and_then}
 use Rattle.toml.specs.Data.{Data, get, at, as_array}
 use Rattle.toml.specs.Parse.{parse_document}
@@ -6,13 +6,13 @@ use Rattle.gb_directory_file.specs.Directory.{IsEntry, table_at, cluster_name, c
 use Rattle.gb_directory_file.specs.declared.{fault.DirectoryFault.DirectoryFault, fault.TextFault.TextFault, fault.TextFault.TheVariants.OutOfMemory, fault.TextFault.TheVariants.TooLong, fault.TextFault.TheVariants.NoDocument}
 use Rattle.gb_directory_file.specs.declared.fault.DirectoryFault.TheVariants.{NoTenants, NoTenant, NoClusters, NoCluster, NoNodes, NoNode, NoPlace}
 
--- why a text is no directory; lack of memory says nothing of the text
+-- the reason why a text is no directory; that memory ran out means nothing for the text
 abbrev pub IsTextFault : List ℕ → TextFault → Type 0
 IsTextFault text OutOfMemory = Unit {0}
 IsTextFault text TooLong = 65536 < length text
 IsTextFault text (NoDocument byte) = (parse_document text ≡ None) × (byte ≤ length text)
 
--- why a directory does not say where a node of a cluster is
+-- the reason why a directory does not name the place of a node of a cluster
 abbrev pub IsClusterFault : Data → List ℕ → ℕ → DirectoryFault → Type 0
 IsClusterFault file name node NoCluster = option_and_then (table_at name) (get (codes "cluster") file) ≡ None
 IsClusterFault file name node NoNodes = option_and_then as_array (cluster_nodes name file) ≡ None
@@ -21,7 +21,7 @@ IsClusterFault file name node NoPlace = IsSome (option_and_then (at node) (clust
     × ((host : List ℕ) (port : ℕ) → ¬ (IsEntry (option_and_then (at node) (cluster_nodes name file)) host port))
 IsClusterFault file name node _ = ⊥
 
--- why it does not say where a node of a tenant's cluster is
+-- the reason why a directory does not name the place of a node of a tenant's cluster
 abbrev pub IsFault : Data → ℕ → ℕ → DirectoryFault → Type 0
 IsFault file tenant node NoTenants = table_at (codes "tenant") file ≡ None
 IsFault file tenant node NoTenant = cluster_name tenant file ≡ None

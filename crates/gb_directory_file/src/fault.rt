@@ -1,17 +1,17 @@
-//! Why a text is no directory, and why a directory does not say where a node is.
+//! The reasons why a text is no directory, and why a directory does not name the place of a node.
 use std::fmt;
 use thiserror::Error;
 
 /// Why a text is no directory.
 #[derive(Clone, Copy, PartialEq, Eq, Error)]
 pub enum TextFault {
-    /// A request for memory was refused. It says nothing of the text.
+    /// A request for memory was refused. This means nothing for the text.
     #[error("out of memory")]
     OutOfMemory,
     /// The text has more than 65,536 bytes.
     #[error("too long")]
     TooLong,
-    /// The text is no TOML document. Why shows at byte `at` of it, counted from 0.
+    /// The text is no TOML document. The fault is found at byte `at` of it, counted from 0.
     #[error("no TOML document")]
     NoDocument { at: usize },
 }
@@ -23,7 +23,7 @@ impl fmt::Debug for TextFault {
     }
 }
 
-/// Why a directory does not say where the sessions of a node of a tenant's cluster are.
+/// Why a directory does not name the place of the sessions of a node of a tenant's cluster.
 #[derive(Clone, Copy, Debug, PartialEq, Eq, Error)]
 pub enum DirectoryFault {
     /// `tenant` is not there, or is no table.

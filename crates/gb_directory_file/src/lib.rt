@@ -1,4 +1,4 @@
-//! Directory files: which cluster a tenant lives in, and where the sessions of its nodes are. Read `read::sessions_of` first.
+//! Directory files: the cluster that each tenant lives in, and the places of its nodes' sessions. Read `read::sessions_of` first.
 #![tactic(auto)]
 
 pub mod fault;

@@ -1,4 +1,4 @@
-//! Reading a directory file: which cluster a tenant lives in, and where the sessions of a node of that cluster are.
+//! Reads a directory file: the cluster that a tenant lives in, and the places of the sessions of that cluster's nodes.
 ghost use Rattle.std.specs.Prelude.{◌≡◌, ◌≤◌, ℕ, List, None, Some, IfSome, IfNone, IfOk, IfErr, decimal, length, option_copied, option_map};
 ghost use Rattle.toml.specs.{Data.Data, Data.get, Data.at, Errors.IsMemory, Errors.IsWithin as IsSpanWithin, Parse.parse_document, View.view};
 ghost use Rattle.gb_directory_file.specs.Directory.{IsDocument, IsEntry, IsListed, table_at, text_at, list_at, cluster_name, cluster_nodes};
@@ -13,13 +13,13 @@ use std::alloc::Global;
 use toml::Value;
 use toml::de::Error;
 
-/// The bytes of the longest text.
+/// The number of bytes of the longest text.
 pub const TEXT: usize = 65_536;
 
-// What a definition cites.
+// The value that a definition cites.
 const _: () = prove!(TEXT == 65_536);
 
-// Returns what a parse that failed comes to.
+// Returns the fault for the error of a failed parse.
 fn fault_from(error: &Error) -> TextFault
     ensures { (text : List ℕ) → (¬ (IsMemory error.now) → parse_document text ≡ None) → IsSpanWithin text error.now → IsTextFault text result }
 {
@@ -29,7 +29,7 @@ fn fault_from(error: &Error) -> TextFault
     }
 }
 
-// Returns the document that a text is.
+// Returns the document of a text.
 #[tactic(auto, using(crate::proofs::ListedLemmas::document_is))]
 fn document_of(alloc: Global, text: &str) -> Result<Value, TextFault>
     ensures ok { IfOk result (λ file. IsDocument text.now (view file)) }
@@ -41,8 +41,8 @@ fn document_of(alloc: Global, text: &str) -> Result<Value, TextFault>
     }
 }
 
-/// Returns the TOML document of the text of a directory file, in memory that it takes. Which tenants and clusters it has is not checked
-/// here. Reads no file. `Err` with `TooLong` above 65,536 bytes, with `NoDocument` if it is no TOML, and with `OutOfMemory`.
+/// Returns the TOML document of the text of a directory file, in newly taken memory. Its tenants and clusters are not checked here. Reads
+/// no file. Returns `Err` with `TooLong` above 65,536 bytes, with `NoDocument` if the text is no TOML, and with `OutOfMemory`.
 pub fn read_directory(alloc: Global, text: &str) -> Result<Value, TextFault>
     ensures ok { IfOk result (λ file. IsDocument text.now (view file)) }
     ensures short { IfOk result (λ _. length text.now ≤ 65536) }
@@ -103,8 +103,8 @@ fn tenant_text(tenants: &Value, tenant: u16) -> Option<&str>
     text_in(tenants, digits.format(tenant))
 }
 
-/// Returns the name of the cluster that a tenant lives in, `tenant.T` of the directory `file`. `Err` with `NoTenants` if `tenant` is no
-/// table there, and with `NoTenant` if it has no text for this tenant.
+/// Returns the name of the cluster that a tenant lives in, `tenant.T` of the directory `file`. Returns `Err` with `NoTenants` if `tenant`
+/// is no table there, and with `NoTenant` if it has no text for this tenant.
 pub fn name_of(file: &Value, tenant: u16) -> Result<&str, DirectoryFault>
     ensures ok { IfOk result (λ name. cluster_name tenant (view file.now) ≡ Some name.now) }
     ensures err { IfErr result (λ fault. (node : ℕ) → IsFault (view file.now) tenant node fault) }
@@ -118,9 +118,9 @@ pub fn name_of(file: &Value, tenant: u16) -> Result<&str, DirectoryFault>
     }
 }
 
-/// Returns the list `cluster.NAME.nodes` of the directory `file`, where NAME is the cluster `name`. Its entries are not read. `Err` with
-/// `NoClusters` if `cluster` is no table, with `NoCluster` if it has no table of this name, and with `NoNodes` if that has no list
-/// `nodes`.
+/// Returns the list `cluster.NAME.nodes` of the directory `file`, where NAME is the cluster `name`. Its entries are not read. Returns `Err`
+/// with `NoClusters` if `cluster` is no table, with `NoCluster` if it has no table of this name, and with `NoNodes` if that table has no
+/// list `nodes`.
 pub fn nodes_of<'a>(file: &'a Value, name: &str) -> Result<&'a Value, DirectoryFault>
     ensures ok { IfOk result (λ nodes. cluster_nodes name.now (view file.now) ≡ Some (view nodes.now)) }
     ensures err { IfErr result (λ fault. (tenant node : ℕ) → cluster_name tenant (view file.now) ≡ Some name.now → IsFault (view file.now) tenant node fault) }
@@ -144,7 +144,7 @@ fn entry_in(nodes: &Value, node: NodeId) -> Option<&Value>
     nodes.get(node.index())
 }
 
-// Returns the place that the entry of a list for a node says.
+// Returns the place that the entry of a list for a node names.
 #[tactic(auto, using(crate::proofs::ListedLemmas::entry_is, crate::proofs::ListedLemmas::no_text, crate::proofs::ListedLemmas::no_place))]
 fn place_in(nodes: &Value, node: NodeId) -> Result<PlaceParts<'_>, DirectoryFault>
     ensures ok { IfOk result (λ place. IsEntry (at node.number (view nodes.now)) place.host.now place.port) }
@@ -166,7 +166,7 @@ fn place_in(nodes: &Value, node: NodeId) -> Result<PlaceParts<'_>, DirectoryFaul
     }
 }
 
-// Returns where the sessions of a node of a tenant's cluster are.
+// Returns the place of the sessions of a node of a tenant's cluster.
 #[tactic(auto, using(crate::proofs::ListedLemmas::listed_by))]
 fn find(file: &Value, tenant: u16, node: NodeId) -> Result<PlaceParts<'_>, DirectoryFault>
     ensures ok { IfOk result (λ place. IsListed (view file.now) tenant node.number place.host.now place.port) }
@@ -187,9 +187,9 @@ fn find(file: &Value, tenant: u16, node: NodeId) -> Result<PlaceParts<'_>, Direc
     }
 }
 
-/// Returns the host and the port of the sessions of `node` in the cluster that a tenant lives in, by the directory `file`. `Err` with the
-/// first fault: that of the tenant's cluster or of its list of nodes, `NoNode` if the list has no entry for the node, and `NoPlace` if
-/// the entry is no text `HOST:PORT`.
+/// Returns the host and the port of the sessions of `node` in the cluster that a tenant lives in, by the directory `file`. Returns `Err`
+/// with the first fault: that of the tenant's cluster or of its list of nodes, `NoNode` if the list has no entry for the node, or `NoPlace`
+/// if the entry is no text `HOST:PORT`.
 pub fn sessions_of(
     file: &Value,
     tenant: u16,

@@ -1,4 +1,4 @@
-//! Why a directory file is refused, or does not say where a node is, in words.
+//! The reasons why a directory file is refused, or does not name the place of a node, in words.
 use crate::fault::{DirectoryFault, TextFault};
 use crate::read::{name_of, nodes_of};
 use gb_cluster_file::words::document_text;
@@ -6,8 +6,8 @@ use gb_types::NodeId;
 use std::alloc::{AllocError, Global};
 use toml::Value;
 
-/// Returns one line, without its end, that says why `text` is no directory. `fault` is what `read_directory` returned for it. `Err` if
-/// memory runs out.
+/// Returns one line, without its line feed, which says why `text` is no directory. `fault` is the fault that `read_directory` returned for
+/// it. Returns `Err` if memory runs out.
 pub fn text_fault_text(alloc: Global, text: &str, fault: TextFault) -> Result<String, AllocError> {
     match fault {
         TextFault::OutOfMemory => format!(in alloc; "out of memory"),
@@ -16,7 +16,7 @@ pub fn text_fault_text(alloc: Global, text: &str, fault: TextFault) -> Result<St
     }
 }
 
-// Returns the name of a tenant's cluster; an empty text where the file does not have it.
+// Returns the name of a tenant's cluster, or an empty text if the file does not have it.
 fn name_or_empty(file: &Value, tenant: u16) -> &str {
     match name_of(file, tenant) {
         Ok(name) => name,
@@ -24,7 +24,7 @@ fn name_or_empty(file: &Value, tenant: u16) -> &str {
     }
 }
 
-// Returns how many nodes a cluster's list has.
+// Returns the number of nodes in a cluster's list.
 fn count_of(file: &Value, name: &str) -> usize {
     match nodes_of(file, name) {
         Ok(nodes) => match nodes.as_array() {
@@ -35,8 +35,8 @@ fn count_of(file: &Value, name: &str) -> usize {
     }
 }
 
-/// Returns one line, without its end, that says why the directory `file` does not say where the sessions of `node` of a tenant's cluster
-/// are. `fault` is what `sessions_of` returned for them. `Err` if memory runs out.
+/// Returns one line, without its line feed, which says why the directory `file` does not name the place of the sessions of `node` of a
+/// tenant's cluster. `fault` is the fault that `sessions_of` returned for them. Returns `Err` if memory runs out.
 pub fn fault_text(
     alloc: Global,
     file: &Value,

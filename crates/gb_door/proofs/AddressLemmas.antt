@@ -1,4 +1,4 @@
--- What is read of an address's entry that is there, and of origins.
+-- The address and the origins that are read of entries that are given.
 use Rattle.gb_types.specs.Common.{◌≡◌, ◌∙◌, ap, sym, true, List, Option, Some, None, is_some, IfSome, IfNone, map, [], true≢false, option_map, unwrap_or}
 use Rattle.std.specs.Borrow.{Bor}
 use Rattle.std.specs.declared.net.socket_addr.SocketAddr.{SocketAddr}
@@ -10,13 +10,13 @@ pub some_address : (entry : Option Text) (found : Option SocketAddr) → IsAddre
 some_address entry None is = tt
 some_address entry (Some a) is = is
 
--- where none is read of an entry that is there, its text writes none
+-- where no address is read of an entry that is given, its text spells none
 pub none_address : (entry : Option Text) (found : Option SocketAddr) → is_some entry ≡ true → IsAddressOf entry found → IfNone found (HasAddress entry → ⊥)
 none_address None found there is = absurd (true≢false (sym there))
 none_address (Some t) (Some a) there is = tt
 none_address (Some t) None there is = λ has. let bad : None ≡ Some is.0 = is.1 in cc bad
 
--- the texts of borrowed texts that stand for all that was given
+-- the borrowed texts that are read are those that were given
 pub all_given : (found : Option (Bor (List (Bor Text)))) (given : Option (List Text)) → option_map (λ s. map (λ v. v.now) s.now) found ≡ given
     → (texts : Bor (List (Bor Text))) → found ≡ Some texts → map (λ v. v.now) texts.now ≡ unwrap_or given []
 all_given found given e texts is = ap (λ (o : Option (Bor (List (Bor Text)))). unwrap_or (option_map (λ s. map (λ v. v.now) s.now) o) []) (sym is) ∙ ap (λ (o : Option (List Text)). unwrap_or o []) e

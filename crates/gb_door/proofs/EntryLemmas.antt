@@ -1,4 +1,4 @@
--- What a parse by gb_web's command leaves of its options.
+-- The entries of a parse by gb_web's command.
 use Rattle.gb_types.specs.Common.{◌≡◌, true, refl, codes, arith}
 use Rattle.clap.specs.Words.{IsParsedFrom, app_of, found_of, rows_of}
 use Rattle.clap.specs.declared.{builder.command.Command.Command, parser.matches.ArgMatches.ArgMatches}
@@ -10,7 +10,7 @@ use Rattle.gb_door.specs.Words.{IsGiven, web_app}
 has_own : has_own_options web_app ≡ true
 has_own = refl
 
--- what a parse by gb_web's command leaves of its options
+-- the matches of a parse by gb_web's command have both addresses, numbers in their ranges, and the flag
 pub given_by : (c : Command) (m : ArgMatches) → IsParsedFrom c m → app_of c ≡ web_app → IsGiven (rows_of (found_of m))
 given_by c m p app =
     let r = text_rule (codes "page") in

@@ -1,4 +1,4 @@
--- How a request by HTTP is answered. Source: RFC 9112 (messages) and RFC 9110 (status codes).
+-- The answers to requests by HTTP. Source: RFC 9112 (messages) and RFC 9110 (status codes).
 use Rattle.std.specs.Prelude.{ℕ, List, [], ◌++◌, ◌∷◌, codes, decimal, length}
 use Rattle.gb_door.specs.declared.{answer.Code.Code, answer.Kind.Kind, asked.Asked.Asked, page.Page.Page as PageFiles}
 use Rattle.gb_door.specs.declared.answer.Code.TheVariants.{Fine, BadRequest, Forbidden, NotFound, NotAllowed}
@@ -9,7 +9,7 @@ use Rattle.gb_door.specs.declared.asked.Asked.TheVariants.{Page, Script, Client,
 abbrev pub line_end : List ℕ
 line_end = 13 ∷ 10 ∷ []
 
--- the first line of an answer, and what is said only with this code
+-- the first line of an answer, and the lines that only this code has
 abbrev pub status_line : Code → List ℕ
 status_line Fine = codes "HTTP/1.1 200 OK" ++ line_end
 status_line BadRequest = codes "HTTP/1.1 400 Bad Request" ++ line_end
@@ -17,25 +17,25 @@ status_line Forbidden = codes "HTTP/1.1 403 Forbidden" ++ line_end
 status_line NotFound = codes "HTTP/1.1 404 Not Found" ++ line_end
 status_line NotAllowed = codes "HTTP/1.1 405 Method Not Allowed" ++ line_end ++ codes "Allow: GET" ++ line_end
 
--- the line that tells the kind of the body
+-- the line with the type of the body
 abbrev pub type_line : Kind → List ℕ
 type_line K.Html = codes "Content-Type: text/html; charset=utf-8" ++ line_end
 type_line K.Script = codes "Content-Type: text/javascript; charset=utf-8" ++ line_end
 type_line K.Style = codes "Content-Type: text/css; charset=utf-8" ++ line_end
 type_line K.Text = codes "Content-Type: text/plain; charset=utf-8" ++ line_end
 
--- the lines that each answer has: a page may load and ask only what comes from the same place, and stands in no other page
+-- the lines that each answer has: a page may load and ask only from its own origin, and may be in no frame of another page
 abbrev pub common_lines : List ℕ
 common_lines =
     codes "Connection: close" ++ line_end ++ codes "Cache-Control: no-cache" ++ line_end ++ codes "X-Content-Type-Options: nosniff" ++ line_end
     ++ codes "Referrer-Policy: no-referrer" ++ line_end ++ codes "Content-Security-Policy: default-src 'self'; frame-ancestors 'none'" ++ line_end
 
--- an answer with this code and a body of this kind
+-- an answer with this code and a body of this type
 abbrev pub response_text : Code → Kind → List ℕ → List ℕ
 response_text code kind body =
     status_line code ++ type_line kind ++ common_lines ++ codes "Content-Length: " ++ decimal (length body) ++ line_end ++ line_end ++ body
 
--- the code of the answer to what is asked for
+-- the code of the answer
 abbrev pub code_of : Asked → Code
 code_of Page = Fine
 code_of Script = Fine
@@ -48,7 +48,7 @@ code_of OtherMethod = NotAllowed
 code_of More = BadRequest
 code_of NoRequest = BadRequest
 
--- the kind of its body
+-- the type of the answer's body
 abbrev pub kind_of : Asked → Kind
 kind_of Page = K.Html
 kind_of Script = K.Script
@@ -56,7 +56,7 @@ kind_of Client = K.Script
 kind_of Style = K.Style
 kind_of other = K.Text
 
--- what is answered where no file of the page is asked for
+-- the text of an answer that is no file of the page
 abbrev pub note_of : Asked → List ℕ
 note_of Page = []
 note_of Script = []
@@ -77,6 +77,6 @@ file_of Client page = page.client.items
 file_of Style page = page.style.items
 file_of other page = []
 
--- the answer to what is asked for
+-- the whole answer
 abbrev pub answer_of : Asked → PageFiles → List ℕ
 answer_of asked page = response_text (code_of asked) (kind_of asked) (file_of asked page ++ note_of asked)

@@ -1,4 +1,4 @@
--- The words of gb_web's command line: the command, as `clap` reads it, and what it makes of the words.
+-- The words of gb_web's command line: the command, as `clap` reads it, and the settings in the words.
 use Rattle.std.specs.Prelude.{◌≡◌, ◌==◌, ◌≤◌, not, Bool, true, false, List, [], Some, is_some, length, map, option_map, unwrap_or, codes}
 use Rattle.std.specs.List.{list_all}
 use Rattle.std.specs.declared.net.socket_addr.SocketAddr.{SocketAddr}
@@ -36,7 +36,7 @@ web_app = with_rule (with_rule (with_rule (with_rule (with_rule (with_rule (with
     (named_rule (codes "sessions") 0 MOST_SESSIONS false))
     (flag_rule (codes "remote-clients"))
 
--- each field of the plan is what its option was given in these matches, or else what stands for an option that is left out; the
+-- each field of the plan is what its option was given in these matches, or else the value of an option that is left out; the
 -- addresses were given
 pub record IsPlanOf (rows : List Row) (plan : WebPlan) : Type 0 where
   pub listen : IsAddressOf (one_of (codes "listen") rows) (Some plan.listen)
@@ -60,7 +60,7 @@ pub record IsWithin (plan : WebPlan) : Type 0 where
 abbrev pub are_named : List Text → Bool
 are_named origins = list_all (λ origin. not (length origin == 0)) origins
 
--- the texts that were given for the addresses are addresses, HTTP may be served at the one that the first of them writes, and no origin is
+-- the texts that were given for the addresses are addresses, HTTP may be served at the address of `--listen`, and no origin is
 -- empty
 pub record CanServe (rows : List Row) : Type 0 where
   pub listen : HasAddress (one_of (codes "listen") rows)
@@ -68,7 +68,7 @@ pub record CanServe (rows : List Row) : Type 0 where
   pub reached : (address : SocketAddr) → IsAddressOf (one_of (codes "listen") rows) (Some address) → MayReach (is_set rows (codes "remote-clients")) address
   pub origins : are_named (unwrap_or (all_of (codes "origin") rows) []) ≡ true
 
--- what a parse by the command leaves
+-- the matches of a parse by the command: both addresses are given, numbers are in their ranges, and the flag is set or not
 pub record IsGiven (rows : List Row) : Type 0 where
   pub some_listen : is_some (one_of (codes "listen") rows) ≡ true
   pub some_node : is_some (one_of (codes "node") rows) ≡ true

@@ -1,4 +1,4 @@
-//! How a door answers a request by HTTP: the whole text of the answer.
+//! The answers of a door to requests by HTTP: the whole text of an answer.
 ghost use Rattle.std.specs.Prelude.{◌≡◌, IfOk};
 ghost use Rattle.gb_door.specs.Answer.{answer_of, code_of, common_lines, file_of, kind_of, note_of, response_text, status_line, type_line};
 
@@ -9,7 +9,7 @@ use gb_types::OutOfMemory;
 use gb_types::memory::put_bytes;
 use std::alloc::Global;
 
-/// What an answer is, by its status code.
+/// The status code of an answer.
 #[derive(Clone, Copy, Debug, PartialEq, Eq)]
 pub enum Code {
     /// 200.
@@ -24,7 +24,7 @@ pub enum Code {
     NotAllowed,
 }
 
-/// What the body of an answer is.
+/// The type of the body of an answer.
 #[derive(Clone, Copy, Debug, PartialEq, Eq)]
 pub enum Kind {
     Html,
@@ -34,7 +34,7 @@ pub enum Kind {
 }
 
 impl Code {
-    // The first line of an answer, and what is said only with this code.
+    // Returns the first line of an answer, and the lines that only this code has.
     fn line(self) -> &'static [u8]
         ensures { result.now ≡ status_line self }
     {
@@ -49,7 +49,7 @@ impl Code {
 }
 
 impl Kind {
-    // The line that tells the kind.
+    // Returns the line with the type of the body.
     fn line(self) -> &'static [u8]
         ensures { result.now ≡ type_line self }
     {
@@ -62,14 +62,14 @@ impl Kind {
     }
 }
 
-// The lines that each answer has, but for the length.
+// Returns the lines that each answer has, without that of the length.
 fn common_lines() -> &'static [u8]
     ensures { result.now ≡ common_lines }
 {
     b"Connection: close\r\nCache-Control: no-cache\r\nX-Content-Type-Options: nosniff\r\nReferrer-Policy: no-referrer\r\nContent-Security-Policy: default-src 'self'; frame-ancestors 'none'\r\n"
 }
 
-// An answer with this code and a body of this kind.
+// Returns an answer with this code and a body of this type. `Err` if memory runs out.
 fn response(alloc: Global, code: Code, kind: Kind, body: &[u8]) -> Result<Vec<u8>, OutOfMemory>
     ensures { IfOk result (λ text. text.items ≡ response_text code kind body.now) }
 {
@@ -84,7 +84,7 @@ fn response(alloc: Global, code: Code, kind: Kind, body: &[u8]) -> Result<Vec<u8
     Ok(out)
 }
 
-// The code of the answer to what is asked for.
+// Returns the code of the answer.
 fn code_of(asked: Asked) -> Code
     ensures { result ≡ code_of asked }
 {
@@ -97,7 +97,7 @@ fn code_of(asked: Asked) -> Code
     }
 }
 
-// The kind of its body.
+// Returns the type of the answer's body.
 fn kind_of(asked: Asked) -> Kind
     ensures { result ≡ kind_of asked }
 {
@@ -114,7 +114,7 @@ fn kind_of(asked: Asked) -> Kind
     }
 }
 
-// What is answered where no file of the page is asked for.
+// Returns the text of an answer that is no file of the page.
 fn note_of(asked: Asked) -> &'static [u8]
     ensures { result.now ≡ note_of asked }
 {
@@ -128,7 +128,7 @@ fn note_of(asked: Asked) -> &'static [u8]
     }
 }
 
-// The file of the page that is asked for; no bytes where none is.
+// Returns the file of the page that is asked for, or no bytes if none is.
 fn file_of(asked: Asked, page: &Page) -> &[u8]
     ensures { result.now ≡ file_of asked page.now }
 {
@@ -146,9 +146,9 @@ fn file_of(asked: Asked, page: &Page) -> &[u8]
     }
 }
 
-/// Returns the answer by HTTP to what was asked for, head and body. `Page`, `Script`, `Client` and `Style` are answered with status 200 and
-/// that file of `page`. All others are answered with a line of text that says why there is none: 400 for `More`, `NoRequest`, and a `Session`
-/// whose WebSocket handshake failed, 403 for `Foreign`, 404 for `OtherPlace`, 405 for `OtherMethod`. `Err` if memory runs out.
+/// Returns the whole answer by HTTP, head and body. `Page`, `Script`, `Client` and `Style` are answered with status 200 and that file of
+/// `page`. All others are answered with a line of text with the reason: 400 for `More`, `NoRequest`, and a `Session` whose WebSocket
+/// handshake failed, 403 for `Foreign`, 404 for `OtherPlace`, 405 for `OtherMethod`. `Err` if memory runs out.
 pub fn answer(alloc: Global, asked: Asked, page: &Page) -> Result<Vec<u8>, OutOfMemory>
     ensures { IfOk result (λ text. text.items ≡ answer_of asked page.now) }
 {

@@ -1,4 +1,4 @@
-//! What the head of a request by HTTP asks a door for.
+//! The head of a request by HTTP to a door.
 ghost use Rattle.std.specs.Prelude.{◌≡◌, ◌≤◌, All, length, map};
 ghost use Rattle.std.specs.{List.list_all, List.list_any, Str.bytes_eq};
 ghost use Rattle.httparse.specs.Spans.{IsHeaderWithin, header_bytes};
@@ -7,13 +7,13 @@ ghost use Rattle.gb_door.specs.Asked.{Asks, admits, is_origin, place_asked};
 use httparse::Status;
 use httparse::spans::{EMPTY_HEADER_SPAN, HeaderSpan, parse_request};
 
-/// How many fields the head of a request may have.
+/// The most fields of the head of a request.
 pub const FIELDS: usize = 64;
 
 // Definitions cite this value.
 const _: () = prove!(FIELDS == 64);
 
-/// What the head of a request asks for.
+/// The thing that the head of a request asks for.
 #[derive(Clone, Copy, Debug, PartialEq, Eq)]
 pub enum Asked {
     /// The page.
@@ -26,11 +26,11 @@ pub enum Asked {
     Style,
     /// A session, by WebSocket.
     Session,
-    /// A session, for a page of another origin than those that are let in.
+    /// A session, for a page of an origin that is not admitted.
     Foreign,
-    /// By GET, something else.
+    /// Something else, by GET.
     OtherPlace,
-    /// By another method than GET.
+    /// Anything, by another method than GET.
     OtherMethod,
     /// The head is not whole.
     More,
@@ -38,7 +38,7 @@ pub enum Asked {
     NoRequest,
 }
 
-// What a request by GET asks for.
+// Returns what a request by GET asks for.
 fn place_asked(target: &[u8], is_welcome: bool) -> Asked
     ensures { result ≡ place_asked is_welcome target.now }
 {
@@ -61,14 +61,14 @@ fn place_asked(target: &[u8], is_welcome: bool) -> Asked
     }
 }
 
-// Whether a name is that of an Origin, in letters of either case.
+// Returns true if a name is that of an Origin, in letters of either case.
 fn is_origin(name: &[u8]) -> bool
     ensures { result ≡ is_origin name.now }
 {
     name.eq_ignore_ascii_case(b"origin")
 }
 
-// Whether a value is one of these origins.
+// Returns true if a value is one of these origins.
 fn is_among(origins: &[&str], value: &[u8]) -> bool
     ensures { result ≡ list_any (λ origin. bytes_eq origin value.now) (map (λ origin. origin.now) origins.now) }
 {
@@ -78,14 +78,14 @@ fn is_among(origins: &[&str], value: &[u8]) -> bool
     first.as_bytes() == value || is_among(rest, value)
 }
 
-// Whether a field with this name and value lets its request in: it is no Origin, or names one of these origins.
+// Returns true if a field with this name and value admits its request: it is no Origin, or names one of these origins.
 fn admits(origins: &[&str], name: &[u8], value: &[u8]) -> bool
     ensures { result ≡ admits (map (λ origin. origin.now) origins.now) (name.now, value.now) }
 {
     !is_origin(name) || is_among(origins, value)
 }
 
-// Whether each field lets its request in.
+// Returns true if each field admits its request.
 fn is_welcome(origins: &[&str], bytes: &[u8], spans: &[HeaderSpan]) -> bool
     requires { All (IsHeaderWithin (length bytes.now)) spans.now }
     ensures { result ≡ list_all (admits (map (λ origin. origin.now) origins.now)) (map (header_bytes bytes.now) spans.now) }
@@ -97,9 +97,9 @@ fn is_welcome(origins: &[&str], bytes: &[u8], spans: &[HeaderSpan]) -> bool
 }
 
 /// Returns what the head of a request by HTTP at the front of `bytes` asks for. By GET that is `Page` for `/`, `Script` for `/page.js`,
-/// `Client` for `/foqradesh.js`, `Style` for `/page.css`, and `OtherPlace` for anything else. For `/session` it is `Session`, or `Foreign` if the head has an Origin
-/// that is none of `origins`. It is `OtherMethod` for another method, `More` if the head is not whole, and `NoRequest` if the bytes are
-/// no head of at most 64 fields.
+/// `Client` for `/foqradesh.js`, `Style` for `/page.css`, and `OtherPlace` for anything else. For `/session` it is `Session`, or `Foreign`
+/// if the head has an Origin that is none of `origins`. It is `OtherMethod` for another method, `More` if the head is not whole, and
+/// `NoRequest` if the bytes are no head of at most 64 fields.
 pub fn asked_for(bytes: &[u8], origins: &[&str]) -> Asked
     ensures { Asks (map (λ origin. origin.now) origins.now) bytes.now result }
 {

@@ -4,13 +4,13 @@ use std::io::{ErrorKind, Read, Write};
 use std::net::TcpStream;
 use std::time::{Clock, Duration, Instant};
 
-/// A connection, and the bytes that were read of it before and are read again. Reads and writes fail with `TimedOut` or `WouldBlock` once
+/// A connection, and bytes that were read of it before and are returned again. Reads and writes fail with `TimedOut` or `WouldBlock` once
 /// the time that they may take in all has passed.
 #[derive(Drop)]
 pub struct Deadline<'a, H> {
     rt: &'a H,
     stream: &'a TcpStream,
-    // What is read first, from `at` on.
+    // The bytes that reads return first, from `at` on.
     front: Vec<u8>,
     at: usize,
     begun: Option<Instant>,
@@ -43,7 +43,7 @@ impl<'a, H: Clock> Deadline<'a, H> {
         self.allowed = allowed;
     }
 
-    // How long the next call may take. Err: the time has passed, or the clock cannot be read.
+    // Returns the time that the next call may take. `Err` if the time has passed, or the clock cannot be read.
     fn left(&self) -> io::Result<Duration> {
         let Some(begun) = self.begun else {
             return Err(io::Error::from(ErrorKind::TimedOut));

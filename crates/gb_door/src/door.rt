@@ -1,19 +1,19 @@
-//! What a door is told.
+//! The settings of a door.
 use crate::limits::Limits;
 use crate::page::Page;
 use std::net::SocketAddr;
 
-/// What a door is told, beside where it listens.
+/// The settings of a door, beside the address where it listens.
 #[derive(Clone, Copy)]
 pub struct Door<'a, 'o> {
-    /// Where the sessions of its node are.
+    /// The address of the sessions of its node.
     pub node: SocketAddr,
     pub page: &'a Page,
-    /// The origins whose pages are let in.
+    /// The origins whose pages are admitted.
     pub origins: &'a [&'o str],
     pub limits: Limits,
-    /// How many connections are served at once; one more is closed.
+    /// The number of connections that are served at once. One more is closed.
     pub connections: u64,
-    /// How many connections are served in all.
+    /// The number of connections that are served in all.
     pub sessions: u64,
 }

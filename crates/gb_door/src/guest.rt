@@ -16,8 +16,8 @@ use tungstenite::{
     Bytes, CloseCode, CloseFrame, Error, Message, NoMask, Utf8Bytes, WebSocket, WebSocketConfig,
 };
 
-/// Returns the limits of a WebSocket connection for `tungstenite`: a message and a frame have at most `BODY` bytes, as the text of a
-/// request has, and at most 1,048,576 bytes wait to be written.
+/// Returns the limits of a WebSocket connection for `tungstenite`: a message and a frame have at most `BODY` bytes, like the text of a
+/// request, and at most 1,048,576 bytes wait to be written.
 pub fn config() -> WebSocketConfig {
     WebSocketConfig::default()
         .read_buffer_size(4_096)
@@ -35,7 +35,7 @@ pub struct Guest<'a, H> {
     limits: Limits,
 }
 
-// Why a connection ends that failed so.
+// Returns the reason why a connection ends that failed with this error.
 fn leave_of(error: &Error) -> Leave {
     match error {
         Error::Io(error) => match error.kind() {
@@ -49,7 +49,7 @@ fn leave_of(error: &Error) -> Leave {
     }
 }
 
-// What a client is told of why its connection ends. None: it is not told.
+// Returns the frame that tells a client why its connection ends. `None` if it gets none.
 fn close_of(leave: Leave) -> Option<CloseFrame> {
     let (code, reason) = match leave {
         Leave::Gone => return None,
@@ -79,7 +79,7 @@ impl<'a, H: Clock> Guest<'a, H> {
         }
     }
 
-    // What comes next. None: nothing whole came in time.
+    // Returns the next message. `None` if nothing whole came in time.
     fn read(&mut self) -> Result<Option<Message>, Leave> {
         self.socket.get_mut().allow(self.limits.silence);
         match self.socket.read() {
@@ -91,7 +91,7 @@ impl<'a, H: Clock> Guest<'a, H> {
         }
     }
 
-    // Sends a message.
+    // Sends a message. `Err` with the reason why the connection ends.
     fn send(&mut self, message: Message) -> Result<(), Leave> {
         self.socket.get_mut().allow(self.limits.write);
         match self.socket.send(message) {
@@ -100,7 +100,7 @@ impl<'a, H: Clock> Guest<'a, H> {
         }
     }
 
-    // The bytes of a text.
+    // Returns the bytes of a text. `Err` if it is longer than a message may be.
     fn bytes_of(&self, text: &str) -> Result<Vec<u8>, Leave>
         ensures { IfOk result (λ bytes. length bytes.items ≤ BODY) }
     {
@@ -112,8 +112,8 @@ impl<'a, H: Clock> Guest<'a, H> {
         Ok(bytes)
     }
 
-    /// Tells the browser why its WebSocket connection ends, unless it has left itself (`Gone`), and then reads until the browser has
-    /// closed the connection or `limits.close` has passed. What fails is ignored.
+    /// Sends the browser the reason why its WebSocket connection ends, unless it has left itself (`Gone`), and then reads until the browser has
+    /// closed the connection or `limits.close` has passed. Failures are ignored.
     pub fn close(&mut self, leave: Leave) {
         self.socket.get_mut().allow(self.limits.close);
         if leave != Leave::Gone {
@@ -130,7 +130,7 @@ impl<'a, H: Clock> Guest<'a, H> {
 impl<H: Clock> Visitor for Guest<'_, H> {
     ghost use Rattle.std.specs.Prelude.{⊤};
 
-    // No contract can say what a socket carries.
+    // No contract describes the bytes that a socket carries.
     ghost hears = { λ _ _ _. ⊤ };
 
     ghost tells = { λ _ _ _. ⊤ };

@@ -1,9 +1,9 @@
-//! Why a WebSocket connection ends.
+//! The reasons why a WebSocket connection ends.
 use gb_client::ClientFault;
 use gb_types::OutOfMemory;
 use thiserror::Error;
 
-/// Why a connection ends.
+/// The reason why a connection ends.
 #[derive(Clone, Copy, Debug, PartialEq, Eq, Error)]
 pub enum Leave {
     /// The client closed the connection, or it ended.
@@ -12,7 +12,7 @@ pub enum Leave {
     /// Nothing whole came in time, or the client did not take what was sent in time.
     #[error("the client was silent or slow")]
     Silent,
-    /// What came is no text of the protocol.
+    /// A message that came is no text of the protocol.
     #[error("what came is no text")]
     NoText,
     /// A text is longer than a message may be.

@@ -1,5 +1,5 @@
-//! A door to a node's sessions for browsers: a page by HTTP, and WebSocket connections whose texts are a session's messages. What is asked
-//! by HTTP and how it is answered, and how texts become messages and replies texts, are proved; the sockets and `tungstenite` are tested.
+//! A door to a node's sessions for browsers: a page by HTTP, and WebSocket connections whose texts are a session's messages. The reading
+//! of HTTP requests, their answers, and the exchange of texts and replies are proved; the sockets and `tungstenite` are tested.
 //! Read `talk` first, and then `asked`.
 #![tactic(auto)]
 

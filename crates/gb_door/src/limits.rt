@@ -1,18 +1,18 @@
-//! How long a door waits for its clients and for its node.
+//! The time limits of a door for its clients and its node.
 use std::time::Duration;
 
-/// How long a door waits.
+/// The time limits of a door.
 #[derive(Clone, Copy)]
 pub struct Limits {
-    /// For the whole head of a request, and for a client that takes an answer.
+    /// The time for the whole head of a request, and for a client to take an answer.
     pub head: Duration,
-    /// For the next whole message of a WebSocket client, before it is asked for a sign of life; and then for that.
+    /// The time for the next whole message of a WebSocket client, before it is asked for a sign of life; and then for that.
     pub silence: Duration,
-    /// For a WebSocket client that takes a message.
+    /// The time for a WebSocket client to take a message.
     pub write: Duration,
-    /// For a connection to the node, and for a reply. An `await` may take a minute.
+    /// The time for a connection to the node, and for a reply. An `await` may take a minute.
     pub reply: Duration,
-    /// For a client to close its connection, once it was told why.
+    /// The time for a client to close its connection, after it was sent the reason.
     pub close: Duration,
 }
 

@@ -1,4 +1,4 @@
-//! The node behind a door: requests go to its sessions over TCP, one after the other.
+//! The node behind a door: the door sends requests to its sessions over TCP, one after the other.
 ghost use Rattle.std.specs.{Prelude.◌≤◌, Prelude.length, Prelude.IfOk, Io.KnownBytes.Appends, Io.KnownBytes.Consumes};
 ghost use Rattle.gb_session.specs.Streams.{framed};
 ghost use Rattle.gb_session.specs.declared.grammar.TheConstants.{BODY};
@@ -23,7 +23,7 @@ impl<R: Read, W: Write> Desk for Streams<R, W> {
     ghost use Rattle.std.specs.Io.KnownBytes.{Appends, Consumes};
     ghost use Rattle.gb_session.specs.Streams.{framed};
 
-    // The text goes out as one message of a session, and the reply is the one that comes in.
+    // The text is written as one message of a session, and the reply is the message that is read.
     ghost asks = { λ old text reply new. Appends (W.contents old.writer) (W.contents new.writer) (framed text)
         × Consumes (R.remaining old.reader) (R.remaining new.reader) (framed reply) };
 
@@ -34,7 +34,7 @@ impl<R: Read, W: Write> Desk for Streams<R, W> {
     }
 }
 
-/// The sessions of a node at an address. A connection is made when something is asked, and made anew where the node has closed it since.
+/// The sessions of a node at an address. A connection is made for the first request, and made anew if the node has closed it since.
 #[derive(Drop)]
 pub struct NodeLink<'a, H> {
     rt: &'a H,
@@ -47,7 +47,7 @@ pub struct NodeLink<'a, H> {
 // The reply to a text that asks nothing.
 static MALFORMED: &[u8] = b"refused 14 Malformed";
 
-// Whether a connection on which nothing is to come is still there.
+// Returns true if a connection on which nothing is expected is still open.
 fn is_open(stream: &TcpStream) -> bool {
     if stream.set_nonblocking(true).is_err() {
         return false;
@@ -61,7 +61,7 @@ fn is_open(stream: &TcpStream) -> bool {
 }
 
 impl<'a, H: Net<Stream = TcpStream>> NodeLink<'a, H> {
-    /// Returns the link to the sessions of a node at `address`. It connects when something is asked first. Making a connection may take
+    /// Returns the link to the sessions of a node at `address`. It connects for the first request. Making a connection may take
     /// `wait`, and so may each read and each write on it.
     pub fn new(rt: &'a H, alloc: Global, address: SocketAddr, wait: Duration) -> NodeLink<'a, H> {
         NodeLink {
@@ -73,7 +73,7 @@ impl<'a, H: Net<Stream = TcpStream>> NodeLink<'a, H> {
         }
     }
 
-    // A new connection.
+    // Returns a new connection. `Err` with `NoReply` if it cannot be made.
     fn connect(&self) -> Result<TcpStream, Leave> {
         let Ok(stream) = TcpStream::connect_timeout(self.rt, &self.address, self.wait) else {
             return Err(Leave::NoReply);
@@ -92,7 +92,7 @@ impl<'a, H: Net<Stream = TcpStream>> NodeLink<'a, H> {
 impl<H: Net<Stream = TcpStream>> Desk for NodeLink<'_, H> {
     ghost use Rattle.std.specs.Prelude.{⊤};
 
-    // No contract can say what a socket carries.
+    // No contract describes the bytes that a socket carries.
     ghost asks = { λ _ _ _ _. ⊤ };
 
     fn ask(&mut self, text: &[u8]) -> Result<Vec<u8>, Leave> {
@@ -106,7 +106,7 @@ impl<H: Net<Stream = TcpStream>> Desk for NodeLink<'_, H> {
             writer: &stream,
         };
         let reply = streams.ask(text)?;
-        // Behind this reply the node ends a session.
+        // After this reply the node ends a session.
         if reply.as_slice() != MALFORMED {
             self.stream = Some(stream);
         }

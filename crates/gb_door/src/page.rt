@@ -6,7 +6,7 @@ use std::fs;
 use std::io::ErrorKind;
 use std::rt::Files;
 
-/// How many bytes each file of a page may have.
+/// The most bytes of each file of a page.
 pub const FILE: usize = 1_048_576;
 
 const _: () = prove!(FILE == 1_048_576);
@@ -24,14 +24,14 @@ pub struct Page {
     pub style: Vec<u8>,
 }
 
-// What stands where no page was given.
+// The index of the page if no page was given.
 static PLAIN: &[u8] =
     b"<!doctype html>\n<html lang=\"en\">\n<meta charset=\"utf-8\">\n<title>Foqradesh</title>\n<h1>Foqradesh</h1>\n<p>The sessions of a node are at <code>/session</code>, by WebSocket: each text message is a request, and each reply a text message.</p>\n</html>\n";
 
-// The module of a page without one: whoever imports it reads why it fails.
+// The client module of a folder without one. An importer of it gets an error with the reason.
 static NO_CLIENT: &[u8] = b"throw new Error(\"the folder of this page has no foqradesh.js\");\n";
 
-/// Why there is no page.
+/// The reason why there is no page.
 #[derive(Clone, Copy, Debug, PartialEq, Eq)]
 pub enum PageFault {
     /// A file of it is not there, cannot be read, or is too long.
@@ -52,7 +52,7 @@ pub fn plain_page(alloc: Global) -> Result<Page, OutOfMemory> {
     })
 }
 
-// Reads a file of the page in a folder.
+// Reads a file of the page in a folder, and returns it.
 fn read_file<H: Files + AllocGlobal>(
     rt: &H,
     folder: &str,
@@ -67,7 +67,7 @@ fn read_file<H: Files + AllocGlobal>(
     }
 }
 
-// Reads the module of a client in a folder. Where no file has its name, it is one that fails and says so.
+// Reads the module of a client in a folder, and returns it. If there is no file with its name, returns a module that fails with the reason.
 fn read_client<H: Files + AllocGlobal>(rt: &H, folder: &str) -> Result<Vec<u8>, PageFault> {
     let Ok(path) = format!(in rt.alloc(); "{folder}/foqradesh.js") else {
         return Err(PageFault::OutOfMemory);

@@ -1,27 +1,27 @@
-//! What a door is told by the words of a command line.
+//! The settings of a door by the words of a command line.
 use std::net::SocketAddr;
 
-/// What numbers and addresses the words of a command line give.
+/// The numbers and addresses in the words of a command line.
 #[derive(Clone, Copy, PartialEq, Eq)]
 pub struct WebPlan {
-    /// Where HTTP is served.
+    /// The address where HTTP is served.
     pub listen: SocketAddr,
-    /// Where the sessions of the node are.
+    /// The address of the sessions of the node.
     pub node: SocketAddr,
-    /// How many connections are served at once, 1 to 60,000.
+    /// The number of connections that are served at once, 1 to 60,000.
     pub connections: u16,
-    /// How many connections are served in all, 0 to 1,000. 0: they are served for ever.
+    /// The number of connections that are served in all, 0 to 1,000. 0: without a limit.
     pub sessions: u16,
-    /// Whether HTTP may be served at another address than loopback.
+    /// True if HTTP may be served at another address than loopback.
     pub remote_clients: bool,
 }
 
-/// What the words of a command line tell a door to do.
+/// The settings of a door in the words of a command line.
 #[derive(Drop)]
 pub struct WebWords<'a> {
     pub plan: WebPlan,
-    /// The folder with the page, as it was written; `None`: none was given.
+    /// The folder with the page, as it was written; `None` if none was given.
     pub page: Option<&'a str>,
-    /// The origins whose pages are let in, as they were written, in their order.
+    /// The origins whose pages are admitted, as they were written, in their order.
     pub origins: Vec<&'a str>,
 }

@@ -9,12 +9,12 @@ use std::thread;
 use std::thread::Threads;
 use std::time::{Clock, Duration};
 
-// How long nobody is taken in where a connection could not be, in milliseconds.
+// The pause after a connection could not be accepted, in milliseconds.
 const PAUSE: u64 = 10;
 
 const _: () = prove!(PAUSE == 10);
 
-// Serves a connection, and counts that it is over.
+// Serves a connection, and then counts it as ended.
 fn attend<H: Net<Listener = TcpListener, Stream = TcpStream> + Clock>(
     rt: &H,
     alloc: Global,

@@ -14,15 +14,15 @@ use std::time::Clock;
 use tungstenite::NoCallback;
 use tungstenite::handshake::server::start;
 
-/// How many bytes of a request's head are read at most.
+/// The most bytes of a request's head that are read.
 pub const HEAD: usize = 8_192;
 
-// How many bytes one read asks for.
+// The number of bytes that one read asks for.
 const PIECE: usize = 1_024;
 
 const _: () = prove!(HEAD == 8_192 && PIECE == 1_024);
 
-// Reads the head of a request, and returns what it asks for. None: it did not come in time, or the connection ended, or there is no memory.
+// Reads the head of a request, and returns what it asks for. `None` if it came too late, the connection ended, or memory ran out.
 fn read_head<R: Read>(reader: &mut R, origins: &[&str], head: &mut Vec<u8>) -> Option<Asked> {
     for _ in 0..HEAD {
         let mut space = [0u8; PIECE];
@@ -39,7 +39,7 @@ fn read_head<R: Read>(reader: &mut R, origins: &[&str], head: &mut Vec<u8>) -> O
     None
 }
 
-// Writes an answer, and reads on for a little, so that the answer is not lost with bytes that nobody read.
+// Writes an answer, and reads on for a little, so that unread bytes do not make the system drop the answer.
 fn tell<H: Clock>(rt: &H, alloc: Global, stream: &TcpStream, door: &Door<'_, '_>, asked: Asked) {
     let Ok(text) = answer(alloc, asked, door.page) else {
         return;
@@ -57,7 +57,7 @@ fn tell<H: Clock>(rt: &H, alloc: Global, stream: &TcpStream, door: &Door<'_, '_>
     }
 }
 
-// Holds a session. Returns false where the handshake failed, and nothing was told.
+// Holds a session. Returns false if the handshake failed, and then nothing was sent.
 fn hold<H: Net<Stream = TcpStream> + Clock>(
     rt: &H,
     alloc: Global,
@@ -78,7 +78,7 @@ fn hold<H: Net<Stream = TcpStream> + Clock>(
 
 /// Serves one connection of a browser until it ends: reads the head of a request by HTTP, and writes the answer, or holds a session by
 /// WebSocket between the browser and the node of `door`. Answers nothing if no head comes in time, the connection ends, or memory runs
-/// out. What fails ends the connection and is not told.
+/// out. A failure ends the connection and is not reported.
 pub fn visit<H: Net<Stream = TcpStream> + Clock>(
     rt: &H,
     alloc: Global,

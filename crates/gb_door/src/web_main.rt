@@ -17,7 +17,7 @@ use std::thread::Threads;
 use std::time::Clock;
 use thiserror::Error;
 
-/// Why a door does not serve.
+/// The reason why a door does not serve.
 #[derive(Clone, Copy, Debug, PartialEq, Eq, Error)]
 pub enum WebFault {
     /// The words are refused.
@@ -26,7 +26,7 @@ pub enum WebFault {
     /// A file of the page is not there, cannot be read or is longer than 1,048,576 bytes.
     #[error("the page has no {0} of at most 1,048,576 bytes")]
     Page(&'static str),
-    /// The address is not to be had, or is taken.
+    /// The address is not available, or is taken.
     #[error("the address is not to be had")]
     Address,
     /// Standard output cannot be written.
@@ -69,7 +69,7 @@ pub fn tell<W: Write>(writer: &mut W, text: &str) -> bool
     writer.write_all(text.as_bytes()).is_ok() && writer.flush().is_ok()
 }
 
-// The page that words name, or a plain one.
+// Returns the page that the words name, or a plain one.
 fn page_of<H: Files + AllocGlobal>(
     rt: &H,
     alloc: Global,
@@ -87,12 +87,12 @@ fn page_of<H: Files + AllocGlobal>(
     }
 }
 
-// The origin of the page at an address.
+// Returns the origin of the page at an address.
 fn own_origin(alloc: Global, address: SocketAddr) -> Result<String, AllocError> {
     format!(in alloc; "http://{address}")
 }
 
-// The other origin that a browser may have for it, where the address is the machine's own.
+// Returns the other origin that a browser may have for the page, if the address is the machine's own.
 fn local_origin(alloc: Global, address: SocketAddr) -> Result<String, AllocError> {
     if !address.ip().is_loopback() {
         return own_origin(alloc, address);
@@ -125,7 +125,7 @@ fn serve_for<H: Net<Listener = TcpListener, Stream = TcpStream> + Threads + Wait
     serve(rt, alloc, listener, &door);
 }
 
-// Serves what words tell.
+// Serves by these words.
 fn serve_words<
     H: Net<Listener = TcpListener, Stream = TcpStream>
         + Threads
@@ -160,8 +160,8 @@ fn serve_words<
 }
 
 /// Runs gb_web by the words of its command line, of which the first is the program's name: reads the page's files, listens, and serves
-/// connections until all that it is to serve have ended. Writes a line to `writer` that says where it serves, or why it does not. Returns
-/// the exit status: 0 if all connections were served, 2 if the words are refused, and 1 for any other fault.
+/// connections until all that it is to serve have ended. Writes a line to `writer` with the address where it serves, or the reason why it
+/// does not. Returns the exit status: 0 if all connections were served, 2 if the words are refused, and 1 for any other fault.
 pub fn web_main<
     H: Net<Listener = TcpListener, Stream = TcpStream>
         + Threads

@@ -15,13 +15,13 @@ use gb_serve_words::options::{
 use std::alloc::{AllocError, Global};
 use std::net::SocketAddr;
 
-/// How many connections are served at once where words give no number.
+/// The number of connections that are served at once if the words give no number.
 pub const CONNECTIONS: u16 = 256;
 
 // Definitions cite this value.
 const _: () = prove!(CONNECTIONS == 256);
 
-// The option `--origin`, which may be given several times.
+// Returns the option `--origin`, which may be given several times.
 fn origin_arg<'a>(alloc: Global) -> Arg<'a>
     ensures rule { rule_of result ≡ origin_rule }
     ensures local { result.global ≡ false }
@@ -36,11 +36,11 @@ fn origin_arg<'a>(alloc: Global) -> Arg<'a>
         )
 }
 
-// The command line.
+// Returns the command line.
 fn command<'a>(alloc: Global) -> Result<Command<'a>, AllocError>
     ensures { IfOk result (λ made. app_of made ≡ web_app) }
 {
-    // Each option is added as soon as it is made, so that none waits where adding another fails.
+    // Each option is added as soon as it is made, so that none waits while adding another fails.
     let bare = Command::new(alloc, "gb_web")
         .about("Serves a page, and the sessions of a node by WebSocket")
         .after_help(AFTER);
@@ -73,7 +73,7 @@ fn command<'a>(alloc: Global) -> Result<Command<'a>, AllocError>
     with_sessions.arg(remote)
 }
 
-/// What the help says behind the options.
+/// The text of the help behind the options.
 static AFTER: &str =
     "The page is at /, and sessions are at /session: each text message is the text of a request, and each reply is a text message. \
 An upgrade is refused whose Origin is none of those that are let in.\n\n\
@@ -82,7 +82,7 @@ Example:\n\n\
   gb_web --listen 127.0.0.1:8080 --node 127.0.0.1:42064 --page examples/chat\n\n\
 Exit status: 0 when all connections were served, 1 for a fault, 2 for words that are refused.";
 
-// Returns the address that is given for an option; `None` where its text is none.
+// Returns the address that is given for an option. `None` if its text is no address.
 fn address_of(matches: &ArgMatches<'_>, name: &'static str) -> Option<SocketAddr>
     requires { is_some (one_of name.now (rows_of (found_of matches.now))) ≡ true }
     ensures read { IfSome result (λ address. IsAddressOf (one_of name.now (rows_of (found_of matches.now))) (Some address)) }
@@ -94,7 +94,7 @@ fn address_of(matches: &ArgMatches<'_>, name: &'static str) -> Option<SocketAddr
     }
 }
 
-// The plan of words that `clap` took, with its addresses.
+// Returns the plan of words that `clap` took, with its addresses.
 fn plan_of(matches: &ArgMatches<'_>, listen: SocketAddr, node: SocketAddr) -> WebPlan
     requires given { IsGiven (rows_of (found_of matches.now)) }
     requires listens { IsAddressOf (one_of (codes "listen") (rows_of (found_of matches.now))) (Some listen) }
@@ -114,7 +114,7 @@ fn plan_of(matches: &ArgMatches<'_>, listen: SocketAddr, node: SocketAddr) -> We
     }
 }
 
-// The origins that are given, in their order.
+// Returns the origins that are given, in their order.
 fn origins_of<'a>(alloc: Global, matches: &ArgMatches<'a>) -> Result<Vec<&'a str>, AllocError>
     ensures { IfOk result (λ origins. map (λ origin. origin.now) origins.items ≡ unwrap_or (all_of (codes "origin") (rows_of (found_of matches.now))) []) }
 {
@@ -134,8 +134,8 @@ fn are_named(origins: &[&str]) -> bool
     !first.is_empty() && are_named(rest)
 }
 
-// Returns what words name and tell that `clap` took. Refused: one of their addresses is none, other machines reach that of `--listen`
-// and the words do not allow it, or one of their origins is empty.
+// Returns the settings in words that `clap` took. `Err` with `Refused` if one of their addresses is none, other machines reach that of
+// `--listen` and the words do not allow it, or one of their origins is empty.
 fn words_of<'a>(alloc: Global, matches: &ArgMatches<'a>) -> Result<WebWords<'a>, WordFault>
     requires { IsGiven (rows_of (found_of matches.now)) }
     ensures read { IfOk result (IsReadOf (rows_of (found_of matches.now))) }
@@ -164,7 +164,7 @@ fn words_of<'a>(alloc: Global, matches: &ArgMatches<'a>) -> Result<WebWords<'a>,
     })
 }
 
-/// Returns what the words of gb_web's command line tell a door to do. The first word is the program's name. Does no input or output.
+/// Returns the settings of a door in the words of gb_web's command line. The first word is the program's name. Does no input or output.
 /// `Err` with `Refused` if `clap` refuses the words, the text of `--listen` or `--node` is no address, other machines reach that of
 /// `--listen` without `--remote-clients`, or the text of an `--origin` is empty; and with `OutOfMemory`.
 pub fn read_words<'a>(alloc: Global, words: &'a [&'a str]) -> Result<WebWords<'a>, WordFault>
@@ -184,7 +184,7 @@ pub fn read_words<'a>(alloc: Global, words: &'a [&'a str]) -> Result<WebWords<'a
     }
 }
 
-// Returns why the text that is given for an address is none; no text where it is one.
+// Returns the reason why the text that is given for an address is none. It is empty if the text is an address.
 fn address_refusal(
     alloc: Global,
     matches: &ArgMatches<'_>,
@@ -199,7 +199,7 @@ fn address_refusal(
     )
 }
 
-// Returns why an address at which other machines reach the door is refused. It is empty if other machines do not, or may reach it.
+// Returns the reason why an address at which other machines reach the door is refused. It is empty if they do not, or may reach it.
 fn reach_refusal(alloc: Global, matches: &ArgMatches<'_>) -> Result<String, AllocError> {
     match matches.try_get_one::<SocketAddr>("listen") {
         Ok(Some(listen)) if !may_reach(matches.get_flag("remote-clients"), listen) => {
@@ -211,7 +211,7 @@ fn reach_refusal(alloc: Global, matches: &ArgMatches<'_>) -> Result<String, Allo
     }
 }
 
-// Returns why an origin is refused. It is empty if none is empty.
+// Returns the reason why an origin is refused. It is empty if no origin is.
 fn origin_refusal(alloc: Global, matches: &ArgMatches<'_>) -> Result<String, AllocError> {
     let origins = origins_of(alloc, matches)?;
     if are_named(&origins) {
@@ -222,7 +222,7 @@ fn origin_refusal(alloc: Global, matches: &ArgMatches<'_>) -> Result<String, All
     )
 }
 
-// Returns why words that `clap` took are refused. It is empty if they are not.
+// Returns the reason why words that `clap` took are refused. It is empty if they are not.
 fn words_refusal(alloc: Global, matches: &ArgMatches<'_>) -> Result<String, AllocError> {
     let listen = address_refusal(alloc, matches, "listen")?;
     if !listen.is_empty() {
@@ -239,7 +239,7 @@ fn words_refusal(alloc: Global, matches: &ArgMatches<'_>) -> Result<String, Allo
     origin_refusal(alloc, matches)
 }
 
-/// Returns the text that says why `read_words` refuses these words. The text is empty if it takes them. `Err` if memory runs out.
+/// Returns the text with the reason why `read_words` refuses these words. The text is empty if it takes them. `Err` if memory runs out.
 pub fn refusal_text(alloc: Global, words: &[&str]) -> Result<String, AllocError> {
     match command(alloc)?.try_get_matches_from(words) {
         Ok(matches) => words_refusal(alloc, &matches),

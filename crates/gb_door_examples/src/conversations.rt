@@ -5,12 +5,12 @@ use gb_session::grammar::BODY;
 use std::alloc::Global;
 use std::str;
 
-// A visitor that hands these texts over and leaves, and keeps what it is told, each text with a line feed behind it.
+// A visitor that sends these texts and leaves, and keeps the texts that it receives, each with a line feed after it.
 #[derive(Drop)]
 struct Reader<'a> {
     alloc: Global,
     texts: &'a [&'a str],
-    // How many of them were handed over.
+    // The number of texts that were sent.
     at: usize,
     told: Vec<u8>,
 }
@@ -46,7 +46,7 @@ impl Visitor for Reader<'_> {
     }
 }
 
-// Texts that are handed over, what the node writes, why the conversation ends, what was sent to the node, and what was told.
+// The texts that the visitor sends, the bytes of the node, the end of the conversation, the bytes to the node, and the received texts.
 static TALKS: [(&[&str], &[u8], Leave, &[u8], &[u8]); 5] = [
     (&[], b"", Leave::Gone, b"", b""),
     (
@@ -79,7 +79,7 @@ static TALKS: [(&[&str], &[u8], Leave, &[u8], &[u8]); 5] = [
     ),
 ];
 
-// Whether a conversation ends so.
+// Returns true if a conversation ends with these results.
 fn ends_so(
     alloc: Global,
     texts: &[&str],

@@ -12,7 +12,7 @@ use std::thread;
 use std::thread::Threads;
 use std::time::{Clock, Duration};
 
-// A port of this machine.
+// Returns the address of a port of this machine.
 fn local(port: u16) -> SocketAddr {
     SocketAddr::V4(SocketAddrV4::new(Ipv4Addr::LOCALHOST, port))
 }
@@ -30,7 +30,7 @@ fn echo(alloc: Global, stream: TcpStream) {
     }
 }
 
-// Replies on some connections, one after the other.
+// Replies on this number of connections, one after the other.
 fn echo_each(alloc: Global, listener: &TcpListener, times: u64) {
     for _ in 0..times {
         if let Ok((stream, _)) = listener.accept() {
@@ -39,7 +39,7 @@ fn echo_each(alloc: Global, listener: &TcpListener, times: u64) {
     }
 }
 
-// Waits that a test can wait for.
+// Returns time limits that a test can wait for.
 fn short_limits() -> Limits {
     Limits {
         head: Duration::from_millis(3_000),
@@ -50,21 +50,21 @@ fn short_limits() -> Limits {
     }
 }
 
-// The head of a handshake, and the answer to it (RFC 6455, section 1.3, has the key and what is made of it).
+// The head of a handshake, and the answer to it (RFC 6455, section 1.3, has the key and the answer's key).
 static HELLO: &[u8] =
     b"GET /session HTTP/1.1\r\nHost: x\r\nUpgrade: websocket\r\nConnection: Upgrade\r\nSec-WebSocket-Key: dGhlIHNhbXBsZSBub25jZQ==\r\nSec-WebSocket-Version: 13\r\n\r\n";
 
 static WELCOME: &[u8; 129] =
     b"HTTP/1.1 101 Switching Protocols\r\nconnection: Upgrade\r\nupgrade: websocket\r\nsec-websocket-accept: s3pPLMBiTxaQ9kYGzzhZRbK+xOo=\r\n\r\n";
 
-// A connection to a door.
+// Returns a connection to a door.
 fn connect<H: Net<Stream = TcpStream>>(rt: &H, port: u16) -> Option<TcpStream> {
     let stream = TcpStream::connect(rt, local(port)).ok()?;
     stream.set_read_timeout(Some(Duration::from_secs(10))).ok()?;
     Some(stream)
 }
 
-// A WebSocket connection to a door.
+// Returns a WebSocket connection to a door.
 fn upgraded<H: Net<Stream = TcpStream>>(rt: &H, port: u16) -> Option<TcpStream> {
     let mut stream = connect(rt, port)?;
     stream.write_all(HELLO).ok()?;
@@ -77,14 +77,14 @@ fn upgraded<H: Net<Stream = TcpStream>>(rt: &H, port: u16) -> Option<TcpStream> 
     }
 }
 
-// What is read from a connection to its end.
+// Returns the bytes that are read from a connection to its end.
 fn rest_of(alloc: Global, stream: &mut TcpStream) -> Option<Vec<u8>> {
     let mut text = Vec::new(alloc);
     stream.read_to_end(&mut text).ok()?;
     Some(text)
 }
 
-// Whether a WebSocket client that sends these bytes, and no more, is told those, up to the end.
+// Returns true if a WebSocket client that sends the first bytes, and no more, reads exactly the others, up to the end.
 fn is_told<H: Net<Stream = TcpStream>>(
     rt: &H,
     alloc: Global,
@@ -104,7 +104,7 @@ fn is_told<H: Net<Stream = TcpStream>>(
     }
 }
 
-// Whether one that sends these bytes by HTTP, and does not close, is told a text that begins so, and is closed.
+// Returns true if a client that sends these bytes by HTTP, and does not close, gets an answer that begins with those, and is closed.
 fn is_answered<H: Net<Stream = TcpStream>>(
     rt: &H,
     alloc: Global,
@@ -124,8 +124,8 @@ fn is_answered<H: Net<Stream = TcpStream>>(
     }
 }
 
-// What a WebSocket client sends, under a mask of zeros, and what it is told: texts in their order, with a pong and a close between; a
-// binary message; a frame without a mask; a text that is no UTF-8; one of 16,385 bytes.
+// The bytes that a WebSocket client sends, under a mask of zeros, and the bytes that it reads: texts in order, with a pong and a close
+// between; a binary message; a frame without a mask; a text that is no UTF-8; one of 16,385 bytes.
 static TALKS: [(&[u8], &[u8]); 5] = [
     (
         b"\x81\x85\x00\x00\x00\x00hello\x81\x80\x00\x00\x00\x00\x89\x82\x00\x00\x00\x00hi\x01\x81\x00\x00\x00\x00a\x80\x81\x00\x00\x00\x00b\x88\x82\x00\x00\x00\x00\x03\xe8\x81\x81\x00\x00\x00\x00x",
@@ -143,7 +143,7 @@ static TALKS: [(&[u8], &[u8]); 5] = [
     ),
 ];
 
-// What is sent by HTTP, and what the answer begins with.
+// Requests by HTTP, and the beginnings of the answers.
 static HEADS: [(&[u8], &[u8]); 4] = [
     (b"GET / HTTP/1.1\r\n\r\n", b"HTTP/1.1 200 OK\r\n"),
     (
@@ -157,7 +157,7 @@ static HEADS: [(&[u8], &[u8]); 4] = [
     (b"\x16\x03\x01\x02\x00", b"HTTP/1.1 400 Bad Request\r\n"),
 ];
 
-// Whether all clients of the tables are told what they should be.
+// Returns true if all clients of the tables read what they should.
 fn are_told<H: Net<Stream = TcpStream>>(rt: &H, alloc: Global, port: u16) -> bool {
     for (sent, want) in &TALKS {
         if !is_told(rt, alloc, port, sent, want) {
@@ -172,7 +172,7 @@ fn are_told<H: Net<Stream = TcpStream>>(rt: &H, alloc: Global, port: u16) -> boo
     true
 }
 
-// Whether a client that asks nothing is asked for a sign of life, and is closed.
+// Returns true if a client that asks nothing is asked for a sign of life, and is closed.
 fn is_left(alloc: Global, stream: &mut TcpStream) -> bool {
     match rest_of(alloc, stream) {
         Some(text) => text.as_slice() == b"\x89\x00\x88\x08\x03\xf0silent".as_slice(),
@@ -180,8 +180,8 @@ fn is_left(alloc: Global, stream: &mut TcpStream) -> bool {
     }
 }
 
-// Beside one that sends nothing, one that sends half a head, and one that is silent behind its handshake, all others are told what they
-// should be; then the silent ones are left.
+// Returns true if all other clients read what they should beside one that sends nothing, one that sends half a head, and one that is
+// silent after its handshake, and if the silent ones are then closed.
 fn are_undisturbed<H: Net<Stream = TcpStream>>(rt: &H, alloc: Global, port: u16) -> bool {
     let (Some(mut nothing), Some(mut half)) = (connect(rt, port), connect(rt, port)) else {
         return false;
@@ -200,7 +200,7 @@ fn are_undisturbed<H: Net<Stream = TcpStream>>(rt: &H, alloc: Global, port: u16)
         && second.is_some_and(|text| text.is_empty())
 }
 
-// Serves some connections of a door before a node.
+// Serves some connections of a door in front of a node.
 fn open<H: Net<Listener = TcpListener, Stream = TcpStream> + Threads + Wait + Clock + Sync>(
     rt: &H,
     alloc: Global,
@@ -247,7 +247,7 @@ fn clients_disturb_nobody(rt: HostRuntime) {
     assert!(rt; is_right);
 }
 
-// Whether somebody is served at last.
+// Returns true if a client is served at last.
 fn is_served_at_last<H: Net<Stream = TcpStream> + Clock>(rt: &H, alloc: Global, port: u16) -> bool {
     let (sent, front) = HEADS[0];
     for _ in 0..3_000 {
@@ -259,7 +259,7 @@ fn is_served_at_last<H: Net<Stream = TcpStream> + Clock>(rt: &H, alloc: Global, 
     false
 }
 
-// Whether a connection beside two others is closed at once, and one more is served when they have left.
+// Returns true if a connection beside two others is closed at once, and one more is served when they have left.
 fn is_one_too_many<H: Net<Stream = TcpStream> + Clock>(rt: &H, alloc: Global, port: u16) -> bool {
     let (Some(mut first), Some(mut second)) = (upgraded(rt, port), upgraded(rt, port)) else {
         return false;
@@ -291,7 +291,7 @@ fn one_more_is_closed(rt: HostRuntime) {
     assert!(rt; is_right);
 }
 
-// The head of a request for the page, of this many bytes.
+// Returns the head of a request for the page, of this number of bytes.
 fn long_head(alloc: Global, bytes: usize) -> Option<Vec<u8>> {
     let (front, back) = (b"GET / HTTP/1.1\r\nx: ", b"\r\n\r\n");
     let mut head = Vec::from_slice(alloc, front).ok()?;
@@ -302,7 +302,7 @@ fn long_head(alloc: Global, bytes: usize) -> Option<Vec<u8>> {
     Some(head)
 }
 
-// Whether a head of 8,192 bytes is answered by the page, and one of 9,216 refused: as many, and the bytes of one read.
+// Returns true if a head of 8,192 bytes is answered by the page, and one of 9,216, which is one read longer, is refused.
 fn are_bounded<H: Net<Stream = TcpStream>>(rt: &H, alloc: Global, port: u16) -> bool {
     let (Some(longest), Some(longer)) = (long_head(alloc, 8_192), long_head(alloc, 9_216)) else {
         return false;

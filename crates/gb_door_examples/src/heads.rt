@@ -1,10 +1,10 @@
-// What is asked by HTTP, and how it is answered.
+// Requests by HTTP and their answers.
 use gb_door::answer::answer;
 use gb_door::asked::asked_for;
 use gb_door::{Asked, Page};
 use std::alloc::Global;
 
-// The origins that are let in.
+// The origins that are admitted.
 static ORIGINS: [&str; 2] = ["https://chat.example.org", "http://127.0.0.1:8080"];
 
 // Bytes, and what they ask for.
@@ -62,7 +62,7 @@ fn heads_ask_for(rt: HostRuntime) {
     }
 }
 
-// What a head with this many fields asks for.
+// Returns what a head with this number of fields asks for.
 fn asked_with(alloc: Global, fields: usize) -> Option<Asked> {
     let mut head = Vec::from_slice(alloc, b"GET / HTTP/1.1\r\n").ok()?;
     for _ in 0..fields {
@@ -78,7 +78,7 @@ fn a_head_has_as_many_fields_as_it_may(rt: HostRuntime) {
     assert!(rt; asked_with(rt.alloc(), 65) == Some(Asked::NoRequest));
 }
 
-// Whether an answer begins and ends with these bytes.
+// Returns true if an answer begins and ends with these bytes.
 fn is_answered(alloc: Global, page: &Page, asked: Asked, front: &[u8], back: &[u8]) -> bool {
     match answer(alloc, asked, page) {
         Ok(text) => text.starts_with(front) && text.ends_with(back),
@@ -86,7 +86,7 @@ fn is_answered(alloc: Global, page: &Page, asked: Asked, front: &[u8], back: &[u
     }
 }
 
-// What is asked for, and what the answer begins and ends with.
+// Things asked for, and the beginning and the end of each answer.
 static ANSWERS: [(Asked, &[u8], &[u8]); 10] = [
     (
         Asked::Page,
@@ -140,7 +140,7 @@ static ANSWERS: [(Asked, &[u8], &[u8]); 10] = [
     ),
 ];
 
-// A page of few bytes.
+// Returns a page of few bytes.
 fn small_page(alloc: Global) -> Option<Page> {
     Some(Page {
         index: Vec::from_slice(alloc, b"<hr>").ok()?,

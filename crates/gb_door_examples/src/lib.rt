@@ -1,5 +1,5 @@
-//! Worked doors, as tests: what is asked by HTTP and how it is answered, words of gb_web, conversations, and whole doors with their clients
-//! and a node on sockets of this machine. There is nothing here but tests.
+//! Worked doors, as tests: requests by HTTP and their answers, words of gb_web, conversations, and whole doors with their clients
+//! and a node on sockets of this machine. This crate has tests only.
 #![tactic(auto)]
 
 #[cfg(test)]

@@ -6,7 +6,7 @@ use std::fs;
 use std::random::RandomSource;
 use std::rt::HostRuntime;
 
-// Makes a new folder, and returns its name. None where it cannot be made.
+// Makes a new folder, and returns its name. `None` if it cannot be made.
 fn folder(rt: &HostRuntime) -> Option<String> {
     let mut bytes = [0u8; 8];
     rt.fill_bytes(&mut bytes).ok()?;
@@ -16,7 +16,7 @@ fn folder(rt: &HostRuntime) -> Option<String> {
     Some(name)
 }
 
-// Writes a page to a folder, whose index has this many bytes and whose other files are empty. Returns what is read of it.
+// Writes a page to a folder, whose index has this number of bytes and whose other files are empty. Returns the result of reading it.
 fn read_with(rt: &HostRuntime, folder: &str, bytes: usize) -> Option<Result<Page, PageFault>> {
     let alloc = rt.alloc();
     let text = Vec::from_elem(alloc, b'a', bytes).ok()?;
@@ -29,8 +29,8 @@ fn read_with(rt: &HostRuntime, folder: &str, bytes: usize) -> Option<Result<Page
     Some(read_page(rt, folder))
 }
 
-// Whether an index of 1,048,576 bytes is read and answered, and one with a byte more is not; and whether the module of a client that
-// the folder lacks is one that fails.
+// Returns true if an index of 1,048,576 bytes is read and answered, and one with a byte more is not; and if the client module of
+// a folder without one is a module that fails.
 fn are_bounded(rt: &HostRuntime, folder: &str) -> Option<bool> {
     let longest = read_with(rt, folder, 1_048_576)?.ok()?;
     let told = answer(rt.alloc(), Asked::Page, &longest).ok()?;

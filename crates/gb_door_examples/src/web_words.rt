@@ -1,16 +1,16 @@
-// Words of gb_web, what they name and tell a door, and what is said of words that are refused.
+// Words of gb_web, the settings in them, and the reasons for refused words.
 use gb_door::WebPlan;
 use gb_door::words::{asked_text, read_words, refusal_text};
 use gb_serve_words::WordFault;
 use std::alloc::{AllocError, Global};
 use std::net::{Ipv4Addr, SocketAddr, SocketAddrV4};
 
-// The words of a line.
+// Returns the words of a line.
 fn words_of(alloc: Global, line: &str) -> Result<Vec<&str>, AllocError> {
     line.split(' ').collect(alloc)
 }
 
-// A port of this machine.
+// Returns the address of a port of this machine.
 fn local(port: u16) -> SocketAddr {
     SocketAddr::V4(SocketAddrV4::new(Ipv4Addr::LOCALHOST, port))
 }
@@ -55,7 +55,7 @@ static LINES: [(&str, u16, u16, u16, u16, Option<&str>, &[&str]); 4] = [
     ),
 ];
 
-// Whether the words of a line name this folder and these origins, and are this plan.
+// Returns true if the words of a line name this folder and these origins, and are this plan.
 fn is_read(alloc: Global, line: &str, plan: WebPlan, page: Option<&str>, origins: &[&str]) -> bool {
     let Ok(words) = words_of(alloc, line) else {
         return false;
@@ -94,7 +94,7 @@ fn words_let_other_machines_in(rt: HostRuntime) {
     let line = "gb_web --listen 0.0.0.0:80 --node 127.0.0.1:1 --remote-clients";
     let is_let = is_read(rt.alloc(), line, plan, None, &[]);
     assert!(rt; is_let);
-    // The last address of loopback, and the word beside one.
+    // The last address of loopback, without and with `--remote-clients`.
     let last = WebPlan {
         listen: SocketAddr::V4(SocketAddrV4::new(Ipv4Addr::new(127, 255, 255, 255), 80)),
         remote_clients: false,
@@ -112,7 +112,7 @@ fn words_let_other_machines_in(rt: HostRuntime) {
     assert!(rt; is_worded);
 }
 
-// Lines that are refused, and the text that tells why.
+// Lines that are refused, and the texts with the reasons.
 static REFUSED: [(&str, &str); 10] = [
     (
         "gb_web --listen 0.0.0.0:8080 --node 127.0.0.1:1",
@@ -156,7 +156,7 @@ static REFUSED: [(&str, &str); 10] = [
     ),
 ];
 
-// Whether the words of a line are refused, and this tells why.
+// Returns true if the words of a line are refused for this reason.
 fn is_refused(alloc: Global, line: &str, why: &str) -> bool {
     let Ok(words) = words_of(alloc, line) else {
         return false;
@@ -179,7 +179,7 @@ fn words_are_refused(rt: HostRuntime) {
     }
 }
 
-// Whether the words of a line ask for a text that begins so.
+// Returns true if the words of a line ask for a text that begins with this one.
 fn asks_for(alloc: Global, line: &str, front: &str) -> bool {
     let Ok(words) = words_of(alloc, line) else {
         return false;

@@ -1,4 +1,4 @@
--- If a group is settled, the logs of its running members agree: all that was put out has come, so what happens after it is any number of phases, even where nothing happens.
+-- If a group is settled, the logs of its running members agree: all queued items have come, so any number of phases follow, in which nothing happens.
 use Rattle.gb_types.specs.Common.{◌≡◌, ℕ, zero, suc, Bool, true, false, List, [], ◌++◌, length, refl, sym, ap, ◌∙◌, subst, arith, append-nil}
 use Rattle.gb_types.specs.declared.{plan.Bounds.Bounds, spec.Spec.Spec, address.Addr.Addr}
 use Rattle.gb_types.proofs.BoolLemmas.{both_ways}

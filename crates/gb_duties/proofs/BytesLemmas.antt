@@ -10,12 +10,12 @@ use Rattle.gb_alone.specs.Common.{Accepted, IsAccepted}
 use Rattle.gb_alone.proofs.KnownLemmas.{all_at}
 use Rattle.gb_duties.proofs.WordLemmas.{Found, found, find}
 
--- the entry stands in the list
+-- the list has the entry
 abbrev pub In : Entry → List Entry → Type 0
 In x [] = ⊥
 In x (y ∷ ys) = (y ≡ x) ⊎ In x ys
 
--- no message stands twice in the list
+-- no message is in the list twice
 abbrev pub Once : List Entry → Type 0
 Once [] = Unit {0}
 Once (x ∷ xs) = (has xs (message_of x) ≡ false) × Once xs
@@ -25,13 +25,13 @@ in_has [] y i = absurd i
 in_has (x ∷ xs) y (inl is) = or_first (same (message_of x) (message_of y)) (has xs (message_of y)) (subst (λ (z : Entry). same (message_of z) (message_of y) ≡ true) (sym is) (same_itself (message_of y)))
 in_has (x ∷ xs) y (inr later) = or_second (same (message_of x) (message_of y)) (has xs (message_of y)) (in_has xs y later)
 
--- what holds of all entries holds of one
+-- a fact of all entries of a list, for one of them
 pub of_in : (P : Entry → Type 0) (xs : List Entry) (y : Entry) → All P xs → In y xs → P y
 of_in P [] y all i = absurd i
 of_in P (x ∷ xs) y all (inl is) = subst P is (All-head P x xs all)
 of_in P (x ∷ xs) y all (inr later) = of_in P xs y (All-tail P x xs all) later
 
--- the list without an entry that stands there
+-- the list without an entry that it has
 record Without (s : ℕ) (x : Entry) (ys : List Entry) : Type 0 where
   pub rest : List Entry
   pub bytes : bytes_of s ys ≡ bytes_of s (x ∷ rest)
@@ -73,7 +73,7 @@ bytes_most s (x ∷ xs) ys once all = go (nat_eq x.origin.number s) refl (λ zs 
         let whole : bytes_of s ys ≡ length x.payload + bytes_of s w.rest = w.bytes ∙ ap (λ (t : Bool). (if t then length x.payload else 0) + bytes_of s w.rest) e in
         omega (arith, few, whole)
 
--- What is known.
+-- The known messages.
 
 once_append : (xs : List Entry) (x : Entry) → Once xs → has xs (message_of x) ≡ false → Once (xs ++ x ∷ [])
 once_append [] x once new = (refl, tt)
@@ -106,7 +106,7 @@ once_known (Own x ∷ told) = once_new (known told) x (once_known told)
 once_known (Other p x ∷ told) = once_new (known told) x (once_known told)
 once_known (Crashed q ∷ told) = once_known told
 
--- an accepted entry stands where its message does, among accepted ones
+-- an accepted entry is in the list if its message is, among accepted entries
 pub stands : (said : ℕ → List Accepted) (ys : List Entry) (x : Entry) → All (IsAccepted said) ys → IsAccepted said x → has ys (message_of x) ≡ true → In x ys
 stands said ys x all is there = go (find ys (message_of x) there)
   where

@@ -34,7 +34,7 @@ lead_loss kind =
     (and_then (loss_stopped kind) (at second (Notice first)) (notices 1 first (one_took kind)) (at third (Notice first) ∷ []) (group_lost kind) (refl, refl) (noticed_is kind 1 first (one_took kind) refl in_0 refl)
     (and_then (loss_one_noticed kind) (at third (Notice first)) (notices 2 first (ready kind)) [] (group_lost kind) (refl, refl) (noticed_is kind 2 first (ready kind) refl in_0 refl) (stop_here (group_lost kind)))))
 
--- With a kind that relays both relay the message.
+-- With a kind that relays, both nodes relay the message.
 
 abbrev pub one_relayed : Kind → Member
 one_relayed kind = carries 2 (notices 1 first (one_took kind))
@@ -57,7 +57,7 @@ one_heard kind = has_come 2 (called 1 (Other third message) (one_relayed kind))
 abbrev group_crashed : Kind → Group
 group_crashed kind = with_at (crash_two_relayed kind) 1 (one_heard kind)
 
--- both have put the message out to the other
+-- both nodes have queued the message for each other
 pub record BothRelay (kind : Kind) : Type 0 where
   pub one : (one_relayed kind).put 2 ≡ message ∷ []
   pub two : (two_relayed kind).put 1 ≡ message ∷ []
@@ -87,7 +87,7 @@ run_loss = join nobody (group_open (plain BestEffort)) (group_lost (plain BestEf
 run_crash : (kind : Kind) → BothRelay kind → Leads nobody (opened kind ++ crash) (group_crashed kind)
 run_crash kind relay = join nobody (group_open kind) (group_crashed kind) (opened kind) crash (open_all kind) (lead_crash kind relay)
 
--- When such a group is settled.
+-- The conditions under which such a group is settled.
 
 -- nothing is said while the group is opened
 unaccepted : (g : Group) (step : GroupStep) (s : ℕ) (rest : List GroupStep) → ((reply : Reply) → accepted_in step.event reply ≡ []) → accepted_from bounds address (after bounds address g step) rest s ≡ [] → accepted_from bounds address g (step ∷ rest) s ≡ []
@@ -150,7 +150,7 @@ for_pair kind p one two a b run_a run_b other = by (running kind a run_a) (runni
     by (inr e) (inl f) = subst (λ z. p z b) (sym e) (subst (λ z. p 2 z) (sym f) two)
     by (inr e) (inr f) = absurd (other (e ∙ sym f))
 
--- these facts about the nodes are all that is asked
+-- the group is settled if these facts about the nodes hold
 settle : (kind : Kind) (steps : List GroupStep) (g : Group) → alone bounds address (opened kind ++ steps) ≡ g
     → is_gone (g 1).phase ≡ false → is_gone (g 2).phase ≡ false
     → (g 1).taken 2 ≡ length ((g 1).put 2) → (g 2).taken 1 ≡ length ((g 2).put 1)

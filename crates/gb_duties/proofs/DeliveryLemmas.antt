@@ -1,4 +1,4 @@
--- If a group is up, what was accepted before enough phases is in the logs after them.
+-- If a group is up, messages accepted before enough phases are in the logs after them.
 use Rattle.gb_types.specs.Common.{◌≡◌, ◌≢◌, ℕ, ◌+◌, ◌-◌, ◌<◌, ◌≤◌, Bool, true, false, ◌&&◌, ◌||◌, ◌⊎◌, inl, inr, nat_eq, List, [], ◌++◌, length, Some, None, refl, sym, ap, ◌∙◌, subst, arith, slice_get, if◌then◌else◌, eqb-true, eq-eqb, not_from_false, All-from_recursion, fold-append, has_majority, append_assoc, append-nil}
 use Rattle.std.specs.FinSet as set
 use Rattle.gb_layer.specs.declared.call.Call.{Call}
@@ -33,7 +33,7 @@ pub record Ready (runs : ℕ → Bool) (spec : Spec) (group : Group) : Type 0 wh
   pub kept : (a : ℕ) → IsRunning runs spec a → is_gone (group a).phase ≡ false
   pub unnoticed : (a b : ℕ) → is_member spec a ≡ true → IsRunning runs spec b → was_noticed (calls_of (group a).told) b ≡ false
 
--- From one moment to another: each node has what it had, and all that was put out between running members has come.
+-- From one moment to another: each node keeps what it had, and all items that were queued between running members have come.
 pub record Brought (runs : ℕ → Bool) (spec : Spec) (old new : Group) : Type 0 where
   pub grows : (a : ℕ) → GrowsOn (old a) (new a)
   pub came : (a b : ℕ) → IsRunning runs spec a → IsRunning runs spec b → nat_eq a b ≡ false → (place : ℕ) → 0 < place → place ≤ length ((old a).put b) → is_marked place ((new b).come a) ≡ true
@@ -44,7 +44,7 @@ eq_comm a b e = refuted (nat_eq b a) (λ h. let f = eq-eqb a b (sym (eqb-true b 
 get_front : (xs ys : List Entry) (i : ℕ) → Grown xs ys → i < length xs → slice_get ys i ≡ slice_get xs i
 get_front xs ys i g lt = ap (λ t. slice_get t i) g.is ∙ get-append xs g.rest i lt
 
--- what is known and to be broadcast is broadcast, what is known and to be delivered is delivered
+-- a known message that is to be broadcast is broadcast, and one that is to be delivered is delivered
 out_is : (spec : Spec) (a : ℕ) (past : List Call) (m : MsgId) (k : Module) → spec.kind.module ≡ k → mentions past m ≡ true → is_broadcast k a past m ≡ true → now_broadcast spec.kind.module a past m ≡ true
 out_is spec a past m k kind known out = and_both known (ap (λ z. is_broadcast z a past m) kind ∙ out)
 
@@ -56,7 +56,7 @@ own_out a past m BestEffort own = eq-eqb m.origin.number a own
 own_out a past m Lazy own = or_first (nat_eq m.origin.number a) (was_noticed past m.origin.number) (eq-eqb m.origin.number a own)
 own_out a past m _ own = refl
 
--- what another holds is known
+-- a message that another node holds is known
 held_known : (a b : ℕ) (past : List Call) (m : MsgId) → holds b past a m ≡ true → mentions past m ≡ true
 held_known a b past m h = go (or_cases (came_from b past a m) (nat_eq b a && mentions past m) h)
   where
@@ -65,7 +65,7 @@ held_known a b past m h = go (or_cases (came_from b past a m) (nat_eq b a && men
     go (inr own) = and_right (nat_eq b a) (mentions past m) own
 
 module _ (runs : ℕ → Bool) (spec : Spec) (old new : Group) (ready : Ready runs spec old) (now : Ready runs spec new) (brought : Brought runs spec old new) where
-  -- what a running member broadcast comes from it to each other
+  -- a message that a running member broadcast comes from it to each other running member
   sends : (a b : ℕ) (m : MsgId) → IsRunning runs spec a → IsRunning runs spec b → nat_eq a b ≡ false → now_broadcast spec.kind.module a (calls_of (old a).told) m ≡ true → came_from b (calls_of (new b).told) a m ≡ true
   sends a b m run_a run_b other out = go (find ((old a).put b) m put)
     where
@@ -82,7 +82,7 @@ module _ (runs : ℕ → Bool) (spec : Spec) (old new : Group) (ready : Ready ru
           subst (λ (k : MsgId). came_from b (calls_of (new b).told) a k ≡ true) is
           (now.taking.taken a b run_a.0 run_b.0 other (now.kept b run_b) (i + 1) y place (ap (slice_get ((new a).put b)) e ∙ (get_front ((old a).put b) ((new a).put b) i grown lt ∙ at)))
 
-  -- and so each running member holds that the other has it
+  -- and so each running member knows that the other has it
   reaches : (a b : ℕ) (m : MsgId) → IsRunning runs spec a → IsRunning runs spec b → now_broadcast spec.kind.module a (calls_of (old a).told) m ≡ true → holds b (calls_of (new b).told) a m ≡ true
   reaches a b m run_a run_b out = go (nat_eq a b) refl
     where
@@ -96,13 +96,13 @@ module _ (runs : ℕ → Bool) (spec : Spec) (old new : Group) (ready : Ready ru
   spreads : (a b : ℕ) (m : MsgId) → IsRunning runs spec a → IsRunning runs spec b → now_broadcast spec.kind.module a (calls_of (old a).told) m ≡ true → mentions (calls_of (new b).told) m ≡ true
   spreads a b m run_a run_b out = held_known a b (calls_of (new b).told) m (reaches a b m run_a run_b out)
 
-  -- what a running member said is broadcast by it
+  -- a message that a running member said is broadcast by it
   said_out : (s : ℕ) (m : MsgId) → m.origin.number ≡ s → was_said (calls_of (old s).told) m ≡ true → now_broadcast spec.kind.module s (calls_of (old s).told) m ≡ true
   said_out s m own said = out_is spec s (calls_of (old s).told) m spec.kind.module refl (said_mentioned (calls_of (old s).told) m said) (own_out s (calls_of (old s).told) m spec.kind.module own)
 
   -- One phase.
 
-  -- best effort, lazy and eager: what a running member said is delivered at each
+  -- best effort, lazy and eager: a message that a running member said is delivered at each running member
   said_up : (s b : ℕ) (m : MsgId) → m.origin.number ≡ s → IsRunning runs spec s → IsRunning runs spec b → was_said (calls_of (old s).told) m ≡ true → (k : Module) → spec.kind.module ≡ k → phases_of k ≡ 1
       → now_delivered spec.kind.module b (set.items spec.members) (calls_of (new b).told) m ≡ true
   said_up s b m own run_s run_b said BestEffort kind one = up_is spec b (calls_of (new b).told) m BestEffort kind (spreads s b m run_s run_b (said_out s m own said)) (ap (λ o. came_from b (calls_of (new b).told) o m) own ∙ from (nat_eq s b) refl)
@@ -114,7 +114,7 @@ module _ (runs : ℕ → Bool) (spec : Spec) (old new : Group) (ready : Ready ru
   said_up s b m own run_s run_b said Eager kind one = up_is spec b (calls_of (new b).told) m Eager kind (spreads s b m run_s run_b (said_out s m own said)) refl
   said_up s b m own run_s run_b said _ kind one = absurd (cc)
 
-  -- lazy and eager: what a running member delivered is delivered at each
+  -- lazy and eager: a message that a running member delivered is delivered at each running member
   up_more : (b c : ℕ) (m : MsgId) → IsRunning runs spec b → IsRunning runs spec c → now_delivered spec.kind.module b (set.items spec.members) (calls_of (old b).told) m ≡ true → (k : Module) → spec.kind.module ≡ k → k ≢ BestEffort → phases_of k ≡ 1
       → ((o : ℕ) → k ≡ Lazy → is_member spec o ≡ true → runs o ≡ false → was_noticed (calls_of (old b).told) o ≡ true)
       → now_delivered spec.kind.module c (set.items spec.members) (calls_of (new c).told) m ≡ true
@@ -136,7 +136,7 @@ module _ (runs : ℕ → Bool) (spec : Spec) (old new : Group) (ready : Ready ru
           (out_is spec b (calls_of (old b).told) m Lazy kind known (or_second (nat_eq m.origin.number b) (was_noticed (calls_of (old b).told) m.origin.number) (noticed m.origin.number refl in_o stopped)))
   up_more b c m run_b run_c up _ kind reliable one noticed = absurd (cc)
 
-  -- all-ack: what each running member knew is delivered at each
+  -- all-ack: a message that each running member knew is delivered at each
   all_due : (b : ℕ) (m : MsgId) → spec.kind.module ≡ AllAck → IsRunning runs spec b → ((o : ℕ) → is_member spec o ≡ true → runs o ≡ false → was_noticed (calls_of (new b).told) o ≡ true)
       → ((p : ℕ) → IsRunning runs spec p → mentions (calls_of (old p).told) m ≡ true) → is_delivered AllAck b (set.items spec.members) (calls_of (new b).told) m ≡ true
   all_due b m kind run_b noticed all = all_members (λ p. was_noticed (calls_of (new b).told) p || holds b (calls_of (new b).told) p m) spec.members (λ p in_p. each p in_p (runs p) refl)
@@ -145,13 +145,13 @@ module _ (runs : ℕ → Bool) (spec : Spec) (old new : Group) (ready : Ready ru
       each p in_p true run = or_second (was_noticed (calls_of (new b).told) p) (holds b (calls_of (new b).told) p m) (reaches p b m (in_p, run) run_b (out_is spec p (calls_of (old p).told) m AllAck kind (all p (in_p, run)) refl))
       each p in_p false stopped = or_first (was_noticed (calls_of (new b).told) p) (holds b (calls_of (new b).told) p m) (noticed p in_p stopped)
 
-  -- majority-ack: the same
+  -- majority-ack: a message that each running member knew is delivered at each
   most_due : (b : ℕ) (m : MsgId) → AreEnough runs spec → spec.kind.module ≡ Majority → IsRunning runs spec b → ((p : ℕ) → IsRunning runs spec p → mentions (calls_of (old p).told) m ≡ true) → is_delivered Majority b (set.items spec.members) (calls_of (new b).told) m ≡ true
   most_due b m enough kind run_b all =
       (λ i. has_majority (λ p. listed spec.members p i) (λ p. holds b (calls_of (new b).told) p m))
       ∙ majority_more (is_member spec) runs (λ p. holds b (calls_of (new b).told) p m) (λ p in_p run. reaches p b m (in_p, run) run_b (out_is spec p (calls_of (old p).told) m Majority kind (all p (in_p, run)) refl)) (enough kind)
 
--- what a node holds by what another was told, that other has had
+-- if the calls at a node say that another node holds a message, that node has had it
 held_had : (group : Group) → Flow group → (b p : ℕ) (m : MsgId) → holds b (calls_of (group b).told) p m ≡ true → mentions (calls_of (group p).told) m ≡ true
 held_had group flow b p m held = go (or_cases (came_from b (calls_of (group b).told) p m) (nat_eq b p && mentions (calls_of (group b).told) m) held)
   where
@@ -162,7 +162,7 @@ held_had group flow b p m held = go (or_cases (came_from b (calls_of (group b).t
 -- Two phases, for the uniform modules.
 module _ (runs : ℕ → Bool) (spec : Spec) (old mid new : Group) (enough : AreEnough runs spec) (ready : Ready runs spec old) (half : Ready runs spec mid) (now : Ready runs spec new) (one : Brought runs spec old mid) (two : Brought runs spec mid new)
     (noticed : waits_for_notices spec.kind.module ≡ true → (a b : ℕ) → IsRunning runs spec a → is_member spec b ≡ true → runs b ≡ false → was_noticed (calls_of (new a).told) b ≡ true) where
-  -- what all running members know in the middle is delivered at each in the end
+  -- a message that all running members know in the middle is delivered at each at the end
   uniform_due : (b : ℕ) (m : MsgId) (k : Module) → spec.kind.module ≡ k → is_uniform k ≡ true → IsRunning runs spec b → ((p : ℕ) → IsRunning runs spec p → mentions (calls_of (mid p).told) m ≡ true)
       → now_delivered spec.kind.module b (set.items spec.members) (calls_of (new b).told) m ≡ true
   uniform_due b m AllAck kind uniform run_b all =
@@ -172,19 +172,19 @@ module _ (runs : ℕ → Bool) (spec : Spec) (old mid new : Group) (enough : Are
       up_is spec b (calls_of (new b).told) m Majority kind ((two.grows b).grows.mentioned m (all b run_b)) (most_due runs spec mid new half now two b m enough kind run_b all)
   uniform_due b m _ kind uniform run_b all = absurd (cc)
 
-  -- a uniform module broadcasts all that it knows
+  -- a uniform module broadcasts each message that it knows
   known_out : (p : ℕ) (m : MsgId) (k : Module) → spec.kind.module ≡ k → is_uniform k ≡ true → mentions (calls_of (old p).told) m ≡ true → now_broadcast spec.kind.module p (calls_of (old p).told) m ≡ true
   known_out p m AllAck kind uniform known = out_is spec p (calls_of (old p).told) m AllAck kind known refl
   known_out p m Majority kind uniform known = out_is spec p (calls_of (old p).told) m Majority kind known refl
   known_out p m _ kind uniform known = absurd (cc)
 
-  -- what one running member knew is delivered at each
+  -- a message that one running member knew is delivered at each
   known_up : (a b : ℕ) (m : MsgId) (k : Module) → spec.kind.module ≡ k → is_uniform k ≡ true → IsRunning runs spec a → IsRunning runs spec b → mentions (calls_of (old a).told) m ≡ true
       → now_delivered spec.kind.module b (set.items spec.members) (calls_of (new b).told) m ≡ true
   known_up a b m k kind uniform run_a run_b known =
       uniform_due b m k kind uniform run_b (λ p run_p. spreads runs spec old mid ready half one a p m run_a run_p (known_out a m k kind uniform known))
 
-  -- what any member delivered was known to one that runs
+  -- a message that any member delivered was known to a running member
   delivered_known : (b c : ℕ) (m : MsgId) (k : Module) → spec.kind.module ≡ k → is_uniform k ≡ true → is_member spec b ≡ true → IsRunning runs spec c → now_delivered spec.kind.module b (set.items spec.members) (calls_of (old b).told) m ≡ true
       → (a : ℕ) × IsRunning runs spec a × (mentions (calls_of (old a).told) m ≡ true)
   delivered_known b c m AllAck kind uniform in_b run_c up = (c, run_c, go (or_cases (was_noticed (calls_of (old b).told) c) (holds b (calls_of (old b).told) c m) (of_member (λ q. was_noticed (calls_of (old b).told) q || holds b (calls_of (old b).told) q m) spec c due run_c.0)))
@@ -211,7 +211,7 @@ module _ (runs : ℕ → Bool) (spec : Spec) (old mid new : Group) (enough : Are
 
 -- Moments of a list of events.
 
--- each node goes on to the end
+-- each node grows to the end of the list
 pub grows_to : (bounds : Bounds) (addr : Addr) (early late : List GroupStep) → IsLegal bounds addr (early ++ late) → (x : ℕ) → GrowsOn (alone bounds addr early x) (alone bounds addr (early ++ late) x)
 grows_to bounds addr early late legal x =
     let parts = legal_parts bounds addr early late nobody legal in
@@ -248,11 +248,11 @@ ready_at bounds addr runs spec early late legal first next moment made silent ve
 differ : (a b : ℕ) → nat_eq a b ≡ false → a ≢ b
 differ a b other is = let e = eq-eqb a b is in absurd (cc)
 
--- the ends of a list in two parts
+-- the end of a list in two parts
 joined : (early phase rest late : List GroupStep) → late ≡ phase ++ rest → (early ++ phase) ++ rest ≡ early ++ late
 joined early phase rest late is = append_assoc early phase rest ∙ ap (λ ss. early ++ ss) (sym is)
 
--- what a phase brings is there at the end
+-- the messages that a phase brings are there at the end
 brought_by : (bounds : Bounds) (addr : Addr) (runs : ℕ → Bool) (spec : Spec) (early phase rest late : List GroupStep) → late ≡ phase ++ rest → IsLegal bounds addr (early ++ late) → IsPhase bounds addr early phase runs spec → Brought runs spec (alone bounds addr early) (alone bounds addr (early ++ late))
 brought_by bounds addr runs spec early phase rest late is legal through = record {
   grows = grows_to bounds addr early late legal;
@@ -269,7 +269,7 @@ brought_by bounds addr runs spec early phase rest late is legal through = record
 
 module _ (has_delivered : ModuleLogHasDelivered) (numbers : (origin : NodeId) (delivered : List MsgId) → numbers_of origin.number (in_order delivered) ≡ upto (top origin delivered))
     (stand : (origin : NodeId) (delivered : List MsgId) (seq : ℕ) → 1 ≤ seq → seq ≤ top origin delivered → is_in delivered (numbered origin seq) ≡ true) (ends : (origin : NodeId) (delivered : List MsgId) → is_in delivered (numbered origin (top origin delivered + 1)) ≡ false) where
-  -- what is delivered is in the logs
+  -- the delivered messages are in the logs
   module _ (bounds : Bounds) (addr : Addr) (early late : List GroupStep) (runs : ℕ → Bool) (spec : Spec) (ready : Ready runs spec (alone bounds addr early)) (now : Ready runs spec (alone bounds addr late))
       (said_up : (s b : ℕ) (m : MsgId) → m.origin.number ≡ s → IsRunning runs spec s → IsRunning runs spec b → was_said (calls_of (alone bounds addr early s).told) m ≡ true → now_delivered spec.kind.module b (set.items spec.members) (calls_of (alone bounds addr late b).told) m ≡ true)
       (up_more : spec.kind.module ≢ BestEffort → (b c : ℕ) → IsRunning runs spec b → IsRunning runs spec c → (m : MsgId) → now_delivered spec.kind.module b (set.items spec.members) (calls_of (alone bounds addr early b).told) m ≡ true → now_delivered spec.kind.module c (set.items spec.members) (calls_of (alone bounds addr late c).told) m ≡ true)
@@ -277,7 +277,7 @@ module _ (has_delivered : ModuleLogHasDelivered) (numbers : (origin : NodeId) (d
     log_is : (group : Group) → Taking spec group → (b : ℕ) → is_member spec b ≡ true → is_gone (group b).phase ≡ false → (m : MsgId) → has (logs_of group b) m ≡ is_in (kind_log spec.kind b (set.items spec.members) (calls_of (group b).told)) m
     log_is group taking b in_b here m = logged-is b (held_spec (group b).phase (group b).spec) spec (group b).told m (ap (λ (gone : Bool). if gone then None else (group b).spec) here ∙ taking.made b in_b)
 
-    -- nothing stands in the log of a dropped group
+    -- the log of a dropped group is empty
     logged_here : (b : ℕ) (m : MsgId) (gone : Bool) → has (log_at b (if gone then None else (alone bounds addr early b).spec) (alone bounds addr early b).told) m ≡ true → gone ≡ false
     logged_here b m true h = absurd (cc)
     logged_here b m false h = refl

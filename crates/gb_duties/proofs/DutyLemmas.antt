@@ -18,7 +18,7 @@ use Rattle.gb_duties.proofs.InvariantLemmas.{FitsAt}
 use Rattle.gb_duties.proofs.LogLemmas.{in_log, logged-is, kind_delivered}
 use Rattle.gb_duties.proofs.StepLemmas.{calls_in, alone_fits}
 
--- a member passes what all members pass
+-- a test that all members pass, for one member
 pub of_member : (p : ℕ → Bool) (spec : Spec) (b : ℕ) → list_all p (set.items spec.members) ≡ true → is_member spec b ≡ true → p b ≡ true
 of_member p spec b all is = go (p b) refl
   where
@@ -26,7 +26,7 @@ of_member p spec b all is = go (p b) refl
     go true e = e
     go false e = let none = not_all_members p spec.members b is e in absurd (cc)
 
--- who is known to hold a message has had it
+-- a node that is known to hold a message has had it
 module _ (calls : ℕ → List Call) (b : ℕ) (member : Member) (fits : FitsAt calls b member) (is : calls b ≡ calls_of member.told) (m : MsgId) where
   held_had : (c : ℕ) → holds b (calls_of member.told) c m ≡ true → mentions (calls c) m ≡ true
   held_had c h = known (or_cases (came_from b (calls_of member.told) c m) (nat_eq b c && mentions (calls_of member.told) m) h)
@@ -35,7 +35,7 @@ module _ (calls : ℕ → List Call) (b : ℕ) (member : Member) (fits : FitsAt 
       known (inl from) = fits.from_known c m from
       known (inr own) = ap (λ n. mentions (calls n) m) (sym (eqb-true b c (and_left (nat_eq b c) _ own))) ∙ (ap (λ cs. mentions cs m) is ∙ and_right (nat_eq b c) _ own)
 
-  -- majority-ack: more than half of the members have had what is delivered
+  -- majority-ack: more than half of the members have had each delivered message
   majority_had : (spec : Spec) (had : ℕ → MsgId → Type 0) → ((c : ℕ) → mentions (calls c) m ≡ true → had c m) → now_delivered Majority b (set.items spec.members) (calls_of member.told) m ≡ true → IsHadByMajority spec had m
   majority_had spec had here up = record {
     holders = λ c. holds b (calls_of member.told) c m;
@@ -89,7 +89,7 @@ is_dutiful has_delivered within bounds addr steps legal = record {
         due : (m : MsgId) → delivered_at spec b (group b) m ≡ true → now_delivered spec.kind.module b (set.items spec.members) (calls_of (group b).told) m ≡ true
         due m up = sym (in_log has_delivered spec.kind.module b (set.items spec.members) (calls_of (group b).told) m) ∙ up
 
-    -- what stands in the log was delivered
+    -- each message in the log was delivered
     fewer : (b : ℕ) (spec : Spec) → held_spec (group b).phase (group b).spec ≡ Some spec → KeepsDuties spec b (noticed_at (group b)) (group b).put (HasHad group) (delivered_at spec b (group b))
         → KeepsDuties spec b (noticed_at (group b)) (group b).put (HasHad group) (logged_at b (group b))
     fewer b spec held all = record {
@@ -100,7 +100,7 @@ is_dutiful has_delivered within bounds addr steps legal = record {
         in_delivered : (m : MsgId) → logged_at b (group b) m ≡ true → delivered_at spec b (group b) m ≡ true
         in_delivered m h = kind_delivered within spec b (calls_of (group b).told) m (sym (logged-is b (held_spec (group b).phase (group b).spec) spec (group b).told m held) ∙ h)
 
--- What is delivered is of a member.
+-- Each delivered message is of a member.
 
 module _ (has_delivered : ModuleLogHasDelivered) (bounds : Bounds) (addr : Addr) (steps : List GroupStep) (b : ℕ) (spec : Spec) where
   pub delivered_origin : (alone bounds addr steps b).spec ≡ Some spec → (m : MsgId) → delivered_at spec b (alone bounds addr steps b) m ≡ true → is_member spec m.origin.number ≡ true
@@ -108,7 +108,7 @@ module _ (has_delivered : ModuleLogHasDelivered) (bounds : Bounds) (addr : Addr)
       let up = sym (in_log has_delivered spec.kind.module b (set.items spec.members) (calls_of (alone bounds addr steps b).told) m) ∙ h in
       ((alone_fits bounds addr steps b).fair spec made m (and_left (mentions (calls_of (alone bounds addr steps b).told) m) _ up)).member
 
-  -- what stands in a log is delivered, and the group was not dropped there
+  -- a message in a log is delivered, and the group was not dropped there
   pub logged_here : ((D : List MsgId) → AllIn D (in_order D)) → (alone bounds addr steps b).spec ≡ Some spec → (m : MsgId) → logged_at b (alone bounds addr steps b) m ≡ true
       → (is_gone (alone bounds addr steps b).phase ≡ false) × (delivered_at spec b (alone bounds addr steps b) m ≡ true)
   logged_here within made m = go (is_gone (alone bounds addr steps b).phase) refl

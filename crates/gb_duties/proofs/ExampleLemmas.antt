@@ -1,4 +1,4 @@
--- What the worked examples compute.
+-- The values of the worked examples.
 use Rattle.gb_types.specs.Common.{◌≡◌, ℕ, ◌+◌, ◌-◌, not, Option, Some, ◌⊎◌, inl, inr, Bool, true, false, nat_eq, arith, List, [], ◌∷◌, ◌++◌, ◌||◌, ◌&&◌, ◌≤◌, length, take, refl, sym, ap, ◌∙◌, subst, slice_get, if◌then◌else◌, list_all, list_any, eqb-true, eq-eqb, fold-append, message_of, version_at, has_majority}
 use Rattle.std.specs.FinSet as set
 use Rattle.gb_types.specs.declared.{entry.Entry.Entry, kind.Kind.Kind, kind.Module.Module, node.NodeId.NodeId, reply.Reply.TheVariants.Done, reply.Reply.TheVariants.Said, spec.Spec.Spec, version.Version.Version}
@@ -86,7 +86,7 @@ pub step_is : (g : Group) (step : GroupStep) (m : Member) → member_after bound
 unfolding after
 step_is g step m is = λ i x. if nat_eq x step.node.number then is i else g x
 
--- what was there before does not matter
+-- the member that was there before does not matter
 again : (g : Group) (a : ℕ) (m n : Member) → with_at (with_at g a m) a n ≡ with_at g a n
 again g a m n = λ i x. go x (nat_eq x a) i
   where
@@ -148,7 +148,7 @@ one_took kind = has_come 0 (called 1 (Other first message) (ready kind))
 abbrev pub group_one : Kind → Group
 group_one kind = with_at (group_said kind) 1 (one_took kind)
 
--- it was put out to each other member
+-- it was queued for each other member
 pub put_out : (kind : Kind) (b : ℕ) → set.contains members b ≡ true → nat_eq b 0 ≡ false → (zero_said kind).put b ≡ message ∷ []
 unfolding calls_of known
 put_out kind b inside other = ap (λ (t : Bool). if t then [] ++ puts_of (spec_of kind) 0 (Own message) [] else []) (reached b inside other) ∙ by kind.module
@@ -160,7 +160,7 @@ put_out kind b inside other = ap (λ (t : Bool). if t then [] ++ puts_of (spec_o
     by BestEffort = refl
     by _ = refl
 
--- the item is taken in
+-- the item is received
 pub comes : (kind : Kind) (me from : NodeId) (place : ℕ) (m : Member) → held_spec m.phase m.spec ≡ Some (spec_of kind) → falls_after (spec_of kind) me.number m.told from.number message ≡ false → (xs : List Entry) → slice_get xs (place - 1) ≡ Some message
     → taken_in texts.One me.number from place (slice_get xs (place - 1)) m ≡ record (called me.number (Other from message) m) { come = λ b. if nat_eq b from.number then place ∷ m.come b else m.come b }
 comes kind me from place m held stands xs there =
@@ -310,7 +310,7 @@ lead_sent =
     (comes (plain AllAck) third first 1 (ready (plain AllAck)) refl (simp in_0 refl) ((zero_said (plain AllAck)).put 2) (ap (λ xs. slice_get xs 0) (put_out (plain AllAck) 2 in_2 refl)))
     (and_then group_two (at third (Took second 1)) (carries 1 two_took) [] group_back (refl, omega arith, length_one (two_took.put 1) message back) refl (stop_here group_back)))
 
--- what comes to node 1 from node 2 there
+-- the item that then comes to node 1 from node 2
 lead_back : (g : Group) → g 1 ≡ one_took (plain AllAck) → slice_get ((g 2).put 1) 0 ≡ Some message → 1 ≤ (g 2).taken 1 → Leads g (at second (Came third 1) ∷ []) (with_at g 1 one_took_again)
 unfolding calls_of known
 lead_back g here there carried =
@@ -323,7 +323,7 @@ to_all_is =
     (join (group_open (plain AllAck)) (group_one (plain AllAck)) group_all to_one (at first (Took third 1) ∷ at third (Came first 1) ∷ at third (Took second 1) ∷ at second (Came third 1) ∷ []) (lead_one (plain AllAck))
     (join (group_one (plain AllAck)) group_back group_all (at first (Took third 1) ∷ at third (Came first 1) ∷ at third (Took second 1) ∷ []) (at second (Came third 1) ∷ []) lead_sent (lead_back group_back refl (ap (λ xs. slice_get xs 0) back) (omega arith))))).end
 
--- node 2 drops the group before what it sent comes
+-- node 2 drops the group before the item that it sent comes
 abbrev two_dropped : Member
 two_dropped = let next = did third Drop Done (carries 1 two_took) in record next { replies = next.replies ++ Done ∷ [] }
 

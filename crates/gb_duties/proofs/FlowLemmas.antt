@@ -1,4 +1,4 @@
--- An invariant of the whole group through every event that may happen: between members, each item that came was taken in.
+-- An invariant of the whole group through every legal event: between members, each item that came was received.
 use Rattle.gb_types.specs.Common.{◌≡◌, ℕ, ◌+◌, ◌-◌, ◌<◌, ◌≤◌, Bool, true, false, ◌&&◌, ◌||◌, ◌⊎◌, inl, inr, nat_eq, List, [], ◌∷◌, ◌++◌, length, Option, Some, None, refl, sym, ap, ◌∙◌, subst, arith, slice_get, if◌then◌else◌, eqb-true, eq-eqb, message_of, same, version_at}
 use Rattle.gb_types.specs.declared.{entry.Entry.Entry, message.MsgId.MsgId, node.NodeId.NodeId, plan.Bounds.Bounds, reply.Reply.Reply, reply.Reply.TheVariants.Done, reply.Reply.TheVariants.Said, spec.Spec.Spec, version.Version.Version, address.Addr.Addr}
 use Rattle.gb_types.proofs.{SameLemmas.same_itself, BoolLemmas.and_both, BoolLemmas.or_cases, BoolLemmas.or_first}
@@ -22,7 +22,7 @@ pub record Flow (group : Group) : Type 0 where
   pub bounded : (a : ℕ) → Bounded (group a)
   pub come : (a b place : ℕ) → is_marked place ((group b).come a) ≡ true → (0 < place) × (place ≤ (group a).taken b)
 
--- every node goes on
+-- every node grows
 pub all_goes : (bounds : Bounds) (addr : Addr) (group : Group) (step : GroupStep) → MayHappen addr step.node step.event group → ((a : ℕ) → Bounded (group a)) → (x : ℕ) → Goes x (group x) (after bounds addr group step x)
 unfolding after
 all_goes bounds addr group step may bounded x = go (nat_eq x step.node.number) refl
@@ -86,7 +86,7 @@ step_come bounds addr group step b y k h = go (nat_eq b step.node.number) refl h
         by (inr new) = inr (eqb-true b step.node.number is, new)
     go false is h = inl h
 
--- an item that may come has a carried place
+-- an item that comes in a legal event has the place of a carried item
 came_legal : (addr : Addr) (group : Group) (me : NodeId) (y place : ℕ) (event : GroupEvent) → IsArrival event y place → MayHappen addr me event group → (0 < place) × (place ≤ (group y).taken me.number)
 came_legal addr group me y place event new may =
     let h = subst (λ (e : GroupEvent). MayHappen addr me e group) new.is may in
@@ -117,7 +117,7 @@ pub run_flows : (bounds : Bounds) (addr : Addr) (steps : List GroupStep) (group 
 run_flows bounds addr [] group legal flow = flow
 run_flows bounds addr (step ∷ steps) group legal flow = run_flows bounds addr steps (after bounds addr group step) legal.1 (flow_after bounds addr group step legal.0 flow)
 
--- a group that was made stays so
+-- a group that was made stays made
 pub made_stays : (bounds : Bounds) (addr : Addr) (steps : List GroupStep) (group : Group) → IsLegalFrom bounds addr group steps → Flow group → (a : ℕ) (spec : Spec) → (group a).spec ≡ Some spec → (alone_from bounds addr group steps a).spec ≡ Some spec
 made_stays bounds addr [] group legal flow a spec made = made
 made_stays bounds addr (step ∷ steps) group legal flow a spec made =
@@ -128,9 +128,9 @@ pub legal_parts : (bounds : Bounds) (addr : Addr) (early late : List GroupStep) 
 legal_parts bounds addr [] late group legal = (tt, legal)
 legal_parts bounds addr (step ∷ early) late group legal = let rest = legal_parts bounds addr early late (after bounds addr group step) legal.1 in ((legal.0, rest.0), rest.1)
 
--- What came was taken in.
+-- The items that came were received.
 
--- each entry that is known or put out is what its origin said
+-- each entry that is known or queued was said by its origin
 abbrev pub IsSound : Group → Type 0
 IsSound group = (a : ℕ) → Fits (λ s. own_said (group s).told) (group a)
 
@@ -143,7 +143,7 @@ pub record Taking (spec : Spec) (group : Group) : Type 0 where
 abbrev pub SendAlike : Bounds → Spec → Version → Type 0
 SendAlike bounds spec version = (a : ℕ) → is_member spec a ≡ true → version_at bounds.versions a ≡ version
 
--- the bytes of what is known of an origin and of a new message are at most what its spec lets it have
+-- the bytes of the known messages of an origin and of a new message are within its spec's limit
 new_bytes : (spec : Spec) (group : Group) (b : ℕ) (x : Entry) → AllFit group → IsSound group → (group x.origin.number).spec ≡ Some spec → IsAccepted (λ s. own_said (group s).told) x → was_said (calls_in group x.origin.number) (message_of x) ≡ true
     → mentions (calls_of (group b).told) (message_of x) ≡ false → bytes_in (group b).told x.origin.number + length x.payload ≤ spec.bytes
 new_bytes spec group b x fits sound made is said new =
@@ -166,7 +166,7 @@ new_bytes spec group b x fits sound made is said new =
         subst (λ s. In y (known (group s).told)) own
         (there y (of_in (IsAccepted said_by) (known (group b).told) y (sound b).known i) ((fits b).known (message_of y) (sym (has-known (group b).told (message_of y)) ∙ in_has (known (group b).told) y i)))
 
--- an item that comes and is not too long is taken in, or was so before
+-- an item that comes and is not too long is received, or was received before
 arrival : (version : Version) (spec : Spec) (group : Group) (from : NodeId) (b place : ℕ) (x : Entry) → AllFit group → IsSound group → Taking spec group → is_member spec from.number ≡ true → is_member spec b ≡ true → nat_eq from.number b ≡ false → is_gone (group b).phase ≡ false
     → slice_get ((group from.number).put b) (place - 1) ≡ Some x → is_too_long version x.payload ≡ false → came_from b (calls_of (taken_in version b from place (slice_get ((group from.number).put b) (place - 1)) (group b)).told) from.number (message_of x) ≡ true
 unfolding calls_of
@@ -210,12 +210,12 @@ taking_after bounds addr spec version alike group step may flow sound short taki
     goes : (x : ℕ) → Goes x (group x) (after bounds addr group step x)
     goes = all_goes bounds addr group step may flow.bounded
 
-    -- what one member put out is not too long for another
+    -- an item that one member queued is not too long for another
     brief : (a place : ℕ) (x : Entry) → is_member spec a ≡ true → is_member spec step.node.number ≡ true → slice_get ((group a).put step.node.number) (place - 1) ≡ Some x → is_too_long (version_at bounds.versions step.node.number) x.payload ≡ false
     brief a place x in_a in_b item =
         ap (λ v. is_too_long v x.payload) (alike step.node.number in_b ∙ sym (alike a in_a)) ∙ all_at (IsShort bounds a) ((group a).put step.node.number) (place - 1) x ((short a).put step.node.number) item
 
-    -- a carried item stands where it stood
+    -- a carried item keeps its place
     before : (a b place : ℕ) (x : Entry) → (0 < place) × (place ≤ (group a).taken b) → slice_get ((after bounds addr group step a).put b) (place - 1) ≡ Some x → slice_get ((group a).put b) (place - 1) ≡ Some x
     before a b place x at item = let some = at.0 in let few = at.1 in sym ((goes a).stable b (place - 1) (omega (arith, some, few))) ∙ item
 
@@ -245,7 +245,7 @@ taking_after bounds addr spec version alike group step may flow sound short taki
         let few = subst (λ z. place ≤ (group a).taken z) (sym new.0) at.1 in
         new_one a b in_a in_b other ((goes b).here here) place x (before a b place x (at.0, few) item) new.0 new.1
 
--- so it stays, where the group is sound at every moment
+-- the invariant holds after all events if each entry is sound at every moment
 pub run_takes : (bounds : Bounds) (addr : Addr) (spec : Spec) (version : Version) → SendAlike bounds spec version → (steps : List GroupStep) (group : Group) → ((earlier later : List GroupStep) → steps ≡ earlier ++ later → IsSound (alone_from bounds addr group earlier)) → IsLegalFrom bounds addr group steps → Flow group → AllShort bounds group → Taking spec group
     → Taking spec (alone_from bounds addr group steps)
 run_takes bounds addr spec version alike [] group sound legal flow short taking = taking
@@ -253,7 +253,7 @@ run_takes bounds addr spec version alike (step ∷ steps) group sound legal flow
     run_takes bounds addr spec version alike steps (after bounds addr group step) (λ earlier later is. sound (step ∷ earlier) later (ap (λ rest. step ∷ rest) is)) legal.1 (flow_after bounds addr group step legal.0 flow) (step_short bounds addr group step short)
     (taking_after bounds addr spec version alike group step legal.0 flow (sound [] (step ∷ steps) refl) short taking)
 
--- where nothing was said yet nothing was put out
+-- if no message was said yet, no item was queued
 pub first_taking : (spec : Spec) (group : Group) → AllFit group → ((a : ℕ) → is_member spec a ≡ true → (group a).spec ≡ Some spec) → ((a : ℕ) (m : MsgId) → was_said (calls_in group a) m ≡ true → ⊥) → Taking spec group
 first_taking spec group fits made silent = record {
   made = made;

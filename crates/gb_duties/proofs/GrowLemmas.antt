@@ -1,4 +1,4 @@
--- What a node keeps while it has the group: what it was told, its notices, and what it put out to each node that it did not notice.
+-- What a node keeps while it has the group: the group's calls, its notices, and the items queued for each node that it did not notice.
 use Rattle.gb_types.specs.Common.{◌≡◌, ℕ, ◌-◌, Bool, true, false, not, ◌&&◌, ◌||◌, nat_eq, take, List, [], ◌∷◌, ◌++◌, Option, Some, None, refl, sym, ap, ◌∙◌, subst, append_assoc, append-nil, if◌then◌else◌, eqb-true, eq-eqb, version_at, slice_get}
 use Rattle.gb_types.specs.declared.{entry.Entry.Entry, message.MsgId.MsgId, node.NodeId.NodeId, plan.Bounds.Bounds, reply.Reply.Reply, reply.Reply.TheVariants.Done, reply.Reply.TheVariants.Said, spec.Spec.Spec, version.Version.Version, address.Addr.Addr}
 use Rattle.gb_types.proofs.BoolLemmas.{or_first, or_second}
@@ -23,7 +23,7 @@ same_list xs = record { rest = []; is = sym (append-nil xs) }
 longer : (xs ys zs : List Entry) → Grown xs ys → Grown ys zs → Grown xs zs
 longer xs ys zs g h = record { rest = g.rest ++ h.rest; is = h.is ∙ (ap (λ t. t ++ h.rest) g.is ∙ append_assoc xs g.rest h.rest) }
 
--- from m to n
+-- the member n keeps all that m has
 pub record Grows (m n : Member) : Type 0 where
   pub mentioned : (x : MsgId) → mentions (calls_of m.told) x ≡ true → mentions (calls_of n.told) x ≡ true
   pub said : (x : MsgId) → was_said (calls_of m.told) x ≡ true → was_said (calls_of n.told) x ≡ true
@@ -40,7 +40,7 @@ unmoved m n told put come = record {
   put = λ here b un. subst (λ (p : ℕ → List Entry). Grown (m.put b) (p b)) (sym put) (same_list (m.put b));
 }
 
--- and then the group is told something
+-- then the group receives a call
 called_grows : (a : ℕ) (c : GroupCall) (m : Member) → Grows m (called a c m)
 unfolding calls_of
 called_grows a c m = record {

@@ -1,4 +1,4 @@
--- Invariants of every node of a group alone, and of what all nodes were told.
+-- Invariants of every node of a group alone, and of the calls of all nodes.
 use Rattle.gb_types.specs.Common.{◌≡◌, ℕ, ◌+◌, ◌<◌, ◌≤◌, Bool, true, false, not, ◌&&◌, ◌||◌, ◌⊎◌, inl, inr, nat_eq, List, [], ◌∷◌, ◌++◌, length, Option, Some, None, refl, sym, ap, ◌∙◌, subst, arith, if◌then◌else◌, eqb-true, eq-eqb, cases_Bool, cases_lt, not_from_false, message_of, same}
 use Rattle.gb_types.specs.declared.{entry.Entry.Entry, message.MsgId.MsgId, spec.Spec.Spec}
 use Rattle.gb_types.proofs.SameLemmas.{same-true, same_itself}
@@ -12,31 +12,31 @@ use Rattle.gb_alone.specs.Common.{Member, put_to}
 use Rattle.gb_duties.proofs.WordLemmas.{has-append, has-entries, in_newly}
 use Rattle.gb_duties.proofs.ReplyLemmas.{IsFair}
 
--- what holds at the node a, where these are the calls of each node
+-- the invariant of the node a, where `calls` are the calls of each node
 pub record Fits (calls : ℕ → List Call) (a : ℕ) (gone : Bool) (o : Option Spec) (told : List GroupCall) (put : ℕ → List Entry) : Type 0 where
   pub unmade : o ≡ None → told ≡ []
   -- the node is a member
   pub inside : (spec : Spec) → o ≡ Some spec → is_member spec a ≡ true
-  -- what is known here may be the group's
+  -- each known message may be the group's
   pub fair : (spec : Spec) → o ≡ Some spec → (m : MsgId) → mentions (calls_of told) m ≡ true → IsFair spec m
-  -- and its origin said it
+  -- the origin of each known message said it
   pub known : (m : MsgId) → mentions (calls_of told) m ≡ true → was_said (calls m.origin.number) m ≡ true
-  -- the messages said here are numbered from 1 on
+  -- the messages said here are numbered from 1
   pub said_all : (m : MsgId) → m.origin.number ≡ a → 0 < m.seq → m.seq ≤ said_in told → was_said (calls_of told) m ≡ true
   pub said_few : (m : MsgId) → was_said (calls_of told) m ≡ true → m.seq ≤ said_in told
-  -- and have no more bytes than the spec lets them have
+  -- they have at most the bytes that the spec allows
   pub light : (spec : Spec) → o ≡ Some spec → bytes_in told a ≤ spec.bytes
   -- a node from which a message came has it
   pub from_known : (p : ℕ) (m : MsgId) → came_from a (calls_of told) p m ≡ true → mentions (calls p) m ≡ true
-  -- what is put out is known here
+  -- each queued message is known here
   pub put_known : (b : ℕ) (m : MsgId) → has (put b) m ≡ true → mentions (calls_of told) m ≡ true
-  -- where the group was not dropped, what is broadcast is put out to each other member that was not noticed
+  -- if the group was not dropped, each broadcast message is queued for each other member that was not noticed
   pub owes : gone ≡ false → (spec : Spec) → o ≡ Some spec → (b : ℕ) → is_other spec a b ≡ true → was_noticed (calls_of told) b ≡ false → (m : MsgId) → now_broadcast spec.kind.module a (calls_of told) m ≡ true → has (put b) m ≡ true
 
 abbrev pub FitsAt : (ℕ → List Call) → ℕ → Member → Type 0
 FitsAt calls a m = Fits calls a (is_gone m.phase) m.spec m.told m.put
 
--- each node was told the same and more
+-- each node has the same calls and more
 pub record Later (old new : ℕ → List Call) : Type 0 where
   pub mentioned : (a : ℕ) (m : MsgId) → mentions (old a) m ≡ true → mentions (new a) m ≡ true
   pub said : (a : ℕ) (m : MsgId) → was_said (old a) m ≡ true → was_said (new a) m ≡ true
@@ -55,7 +55,7 @@ fits_later old new later a gone o told put fits = record {
   owes = fits.owes;
 }
 
--- what the group may be told of at a node
+-- a call that the group may receive at a node
 abbrev pub Brings : (ℕ → List Call) → ℕ → Spec → List GroupCall → GroupCall → Type 0
 Brings calls a spec told (Own x) = (x.origin.number ≡ a) × (x.seq ≡ said_in told + 1) × (said_in told < spec.msgs) × (bytes_in told a + length x.payload ≤ spec.bytes)
 Brings calls a spec told (Other p x) = IsFair spec (message_of x) × (was_said (calls x.origin.number) (message_of x) ≡ true) × (mentions (calls p.number) (message_of x) ≡ true) × (x.origin.number ≡ a → mentions (calls_of told) (message_of x) ≡ true)
@@ -163,12 +163,12 @@ module _ (calls : ℕ → List Call) (a : ℕ) (spec : Spec) (told : List GroupC
       go false new = let e = bytes_of-append a (known told) x in let few = same_bytes (nat_eq x.origin.number a) refl new in omega (arith, e, few)
   light_called (Crashed q) brings light = light
 
--- what a call puts out
+-- the items that a call queues
 has-puts : (spec : Spec) (a : ℕ) (c : GroupCall) (told : List GroupCall) (m : MsgId)
     → has (puts_of spec a c told) m ≡ ((now_broadcast spec.kind.module a (call_of c ∷ calls_of told) m && not (now_broadcast spec.kind.module a (calls_of told) m)) && mentions (call_of c ∷ calls_of told) m)
 has-puts spec a c told m = has-entries (known (c ∷ told)) _ m ∙ in_newly (now_broadcast spec.kind.module a) (call_of c) (calls_of told) m
 
--- the group is told something at a node; before, what was broadcast was put out to each that is not noticed now
+-- the group receives a call at a node; before it, each broadcast message was queued for each node that is not noticed now
 pub fits_called : (calls : ℕ → List Call) (a : ℕ) (gone : Bool) (c : GroupCall) (spec : Spec) (told : List GroupCall) (put : ℕ → List Entry) → Brings calls a spec told c → calls a ≡ calls_of (c ∷ told)
     → (before : ℕ → List Entry) → Fits calls a gone (Some spec) told before
     → ((b : ℕ) (m : MsgId) → has (put b) m ≡ true → mentions (calls_of told) m ≡ true)

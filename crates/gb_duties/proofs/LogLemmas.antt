@@ -1,4 +1,4 @@
--- Which messages stand in a log, given what is delivered.
+-- The messages of a log, given the delivered messages.
 use Rattle.gb_types.specs.Common.{◌≡◌, ℕ, Bool, true, false, cond, ◌||◌, List, [], ◌∷◌, Option, Some, refl, ap, ◌∙◌, filter, if◌then◌else◌, list_any, same}
 use Rattle.std.specs.FinSet as set
 use Rattle.gb_types.specs.declared.{kind.Module.Module, kind.Order.Order, kind.Order.TheVariants.Any, kind.Order.TheVariants.Fifo, message.MsgId.MsgId, spec.Spec.Spec}
@@ -12,7 +12,7 @@ use Rattle.gb_rules.specs.declared.call.GroupCall.{GroupCall}
 use Rattle.gb_alone.specs.Common.{log_at}
 use Rattle.gb_duties.proofs.WordLemmas.{has-entries}
 
--- what a filter leaves is what a test finds
+-- a filter keeps a message if and only if a test finds it
 left_is : (p : MsgId → Bool) (xs : List MsgId) (m : MsgId) (b : Bool) → filter p xs ≡ (if b then m ∷ [] else []) → list_any p xs ≡ b
 left_is p [] m true h = absurd (cc)
 left_is p [] m false h = refl
@@ -23,16 +23,16 @@ left_is p (x ∷ xs) m b h = go (p x) b (left_is p xs m b) h
     go true false rest h = absurd (cc)
     go false b rest h = rest h
 
--- what stands in the log of a node is in the log of its kind
+-- each message in the log of a node is in the log of its kind
 pub logged-is : (me : ℕ) (o : Option Spec) (spec : Spec) (told : List GroupCall) (m : MsgId) → o ≡ Some spec → has (log_at me o told) m ≡ is_in (kind_log spec.kind me (set.items spec.members) (calls_of told)) m
 logged-is me o spec told m is = ap (λ (p : Option Spec). has (log_at me p told) m) is ∙ has-entries (known told) (delivered spec me told) m
 
 module _ (has_delivered : ModuleLogHasDelivered) where
-  -- a module's log has a message where it is delivered
+  -- a module's log has a message if and only if the message is delivered
   pub in_log : (base : Module) (me : ℕ) (members : List ℕ) (past : List Call) (m : MsgId) → is_in (log base me members past) m ≡ now_delivered base me members past m
   in_log base me members past m = left_is (λ x. same x m) (log base me members past) m (now_delivered base me members past m) (has_delivered base me members past m)
 
--- what stands in a kind's log is delivered, where the order gives up only what is delivered
+-- each message in a kind's log is delivered, if the order hands up only delivered messages
 pub kind_delivered : ((D : List MsgId) → AllIn D (in_order D)) → (spec : Spec) (me : ℕ) (past : List Call) (m : MsgId) → is_in (kind_log spec.kind me (set.items spec.members) past) m ≡ true
     → is_in (log spec.kind.module me (set.items spec.members) past) m ≡ true
 kind_delivered within spec me past m = go spec.kind.order

@@ -1,4 +1,4 @@
--- What an event that may happen leaves unchanged at its node.
+-- The parts of a node that a legal event does not change.
 use Rattle.gb_types.specs.Common.{◌≡◌, ℕ, zero, suc, ◌+◌, ◌-◌, ◌<◌, ◌≤◌, Bool, true, false, not, ◌&&◌, ◌||◌, nat_eq, take, List, [], ◌∷◌, ◌++◌, length, Option, Some, None, refl, sym, ◌∙◌, subst, arith, length-append, slice_get, if◌then◌else◌, eqb-true, length-take-le, version_at}
 use Rattle.gb_types.specs.declared.{entry.Entry.Entry, message.MsgId.MsgId, node.NodeId.NodeId, plan.Bounds.Bounds, reply.Reply.Reply, reply.Reply.TheVariants.Done, reply.Reply.TheVariants.Said, spec.Spec.Spec, version.Version.Version, address.Addr.Addr}
 use Rattle.gb_layer.specs.Common.{was_noticed, came_from}
@@ -10,14 +10,14 @@ use Rattle.gb_alone.specs.declared.event.GroupEvent.TheVariants.{Tenant, Make as
 use Rattle.gb_duties.proofs.ReplyLemmas.{open_accepts, shut_accepts, make_accepts}
 use Rattle.gb_kinds.proofs.DeliveryLemmas.{came_stays}
 
--- no more is carried than was put out
+-- at most as many items are carried as were queued
 abbrev pub Bounded : Member → Type 0
 Bounded m = (b : ℕ) → m.taken b ≤ length (m.put b)
 
--- from m to n at the node a
+-- the parts of the member m that n keeps, at the node a
 pub record Goes (a : ℕ) (m n : Member) : Type 0 where
   pub spec : (s : Spec) → m.spec ≡ Some s → n.spec ≡ Some s
-  -- a group that was dropped stays so
+  -- a group that was dropped stays dropped
   pub here : is_gone n.phase ≡ false → is_gone m.phase ≡ false
   pub from : (p : ℕ) (x : MsgId) → came_from a (calls_of m.told) p x ≡ true → came_from a (calls_of n.told) p x ≡ true
   -- carried items keep their places
@@ -39,7 +39,7 @@ get-take (suc n) [] i lt = refl
 get-take (suc n) (x ∷ xs) zero lt = refl
 get-take (suc n) (x ∷ xs) (suc i) lt = get-take n xs i (omega (arith, lt))
 
--- and then the group is told something
+-- then the group receives a call
 called_moves : (a : ℕ) (c : GroupCall) (m n : Member) → Goes a m n → Goes a m (called a c n)
 unfolding calls_of
 called_moves a c m n goes = record {

@@ -1,4 +1,4 @@
--- The notices of a group: as a node marks them, and as the group is told of them.
+-- The notices of a group: the marks of a node, and the notices that the group receives.
 use Rattle.gb_types.specs.Common.{◌≡◌, ℕ, ◌-◌, Bool, true, false, ◌||◌, ◌⊎◌, inl, inr, nat_eq, List, [], ◌∷◌, Option, Some, None, refl, sym, ap, ◌∙◌, subst, slice_get, is_some, if◌then◌else◌, eqb-true, version_at}
 use Rattle.gb_types.specs.declared.{entry.Entry.Entry, node.NodeId.NodeId, plan.Bounds.Bounds, reply.Reply.Reply, reply.Reply.TheVariants.Done, reply.Reply.TheVariants.Said, spec.Spec.Spec, version.Version.Version, address.Addr.Addr}
 use Rattle.gb_types.proofs.BoolLemmas.{or_cases, or_first, or_second}
@@ -11,11 +11,11 @@ use Rattle.gb_alone.specs.declared.event.GroupEvent.TheVariants.{Tenant, Make as
 use Rattle.gb_duties.proofs.ReplyLemmas.{open_accepts, shut_accepts, make_accepts}
 
 pub record Marked (a : ℕ) (m : Member) : Type 0 where
-  -- the group is told only of what is marked
+  -- the group receives only notices of marked nodes
   pub told : (q : ℕ) → was_noticed (calls_of m.told) q ≡ true → is_marked q m.noticed ≡ true
   -- nothing is marked before the group is made
   pub unmade : m.spec ≡ None → m.noticed ≡ []
-  -- and until it is dropped the group is told of each other member that is marked
+  -- until it is dropped the group receives a notice of each other member that is marked
   pub here : is_gone m.phase ≡ false → (spec : Spec) → m.spec ≡ Some spec → (q : ℕ) → is_other spec a q ≡ true → is_marked q m.noticed ≡ true → was_noticed (calls_of m.told) q ≡ true
 
 -- a notice comes where the group was made
@@ -64,7 +64,7 @@ notice_marked a q m due old = by (is_gone m.phase) refl m.spec refl
     noticed x (inl new) = or_first (nat_eq q.number x) (is_marked x m.noticed) new
     noticed x (inr was) = more x (old.told x was)
 
-    -- it is another member, or not
+    -- the noticed node is another member, or not
     joined : (spec : Spec) → m.spec ≡ Some spec → is_gone m.phase ≡ false → (t : Bool) → is_other spec a q.number ≡ t → Marked a (let next = (if t then called a (Crashed q) (cut q m) else m) in record next { noticed = q.number ∷ m.noticed })
     joined spec is here true other = record {
       told = λ x h. noticed x (or_cases (nat_eq q.number x) (was_noticed (calls_of m.told) x) h);
@@ -117,7 +117,7 @@ step_marked bounds addr group step due all a = go (nat_eq a step.node.number) re
     go true is = subst (λ y. Marked y (member_after bounds addr step.node step.event group)) (sym (eqb-true a step.node.number is)) (event_marked bounds addr step.node step.event group due (all step.node.number))
     go false is = all a
 
--- so each notice of these events
+-- each notice of these events comes where the group was made
 abbrev pub AreDue : Bounds → Addr → Group → List GroupStep → Type 0
 AreDue bounds addr group [] = Unit {0}
 AreDue bounds addr group (step ∷ steps) = IsDue step.event (group step.node.number) × AreDue bounds addr (after bounds addr group step) steps

@@ -1,4 +1,4 @@
--- Which messages an order has: those of each origin from number 1 to the origin's top.
+-- The messages of an order: those of each origin from number 1 to the origin's top.
 use Rattle.gb_types.specs.Common.{◌≡◌, ℕ, zero, suc, ◌+◌, ◌<◌, ◌≤◌, Bool, true, false, cond, ◌&&◌, ◌||◌, ◌⊎◌, inl, inr, nat_eq, List, [], ◌∷◌, refl, sym, ap, ◌∙◌, arith, map, filter, list_any, range_with_len, eqb-true, eq-eqb, cases_lt}
 use Rattle.std.specs.FinSet as set
 use Rattle.gb_types.specs.declared.{kind.Order.Order, kind.Order.TheVariants.Any, kind.Order.TheVariants.Fifo, message.MsgId.MsgId, node.NodeId.NodeId, spec.Spec.Spec}
@@ -25,7 +25,7 @@ has_range j a (suc n) h = go (has_range j (a + 1) n) (or_cases (nat_eq a j) (lis
     go rest (inl is) = let e = eqb-true a j is in (omega (arith, e), omega (arith, e))
     go rest (inr later) = let r = rest later in let low = r.0 in let high = r.1 in (omega (arith, low), omega (arith, high))
 
--- a list has a message where the origin's numbers have its number
+-- a list has a message if and only if its number is among the origin's numbers there
 in_numbers : (xs : List MsgId) (m : MsgId) → list_any (λ k. nat_eq k m.seq) (numbers_of m.origin.number xs) ≡ is_in xs m
 in_numbers [] m = refl
 in_numbers (x ∷ xs) m = go (nat_eq x.origin.number m.origin.number) (in_numbers xs m)
@@ -52,7 +52,7 @@ module _ (numbers : (origin : NodeId) (delivered : List MsgId) → numbers_of or
 
   module _ (stand : (origin : NodeId) (delivered : List MsgId) (seq : ℕ) → 1 ≤ seq → seq ≤ top origin delivered → is_in delivered (numbered origin seq) ≡ true) (ends : (origin : NodeId) (delivered : List MsgId) → is_in delivered (numbered origin (top origin delivered + 1)) ≡ false)
       (has_delivered : ModuleLogHasDelivered) where
-    -- numbers that all stand there are no more than the top
+    -- if a list has all numbers up to n, n is at most the top
     top_most : (s : NodeId) (xs : List MsgId) (n : ℕ) → ((k : ℕ) → 0 < k → k ≤ n → is_in xs (numbered s k) ≡ true) → n ≤ top s xs
     top_most s xs n all = go (cases_lt (top s xs) n)
       where
@@ -60,7 +60,7 @@ module _ (numbers : (origin : NodeId) (delivered : List MsgId) → numbers_of or
         go (inl lt) = let e = all (top s xs + 1) (omega arith) (omega (arith, lt)) in let f = ends s xs in absurd (cc)
         go (inr le) = le
 
-    -- a log has what another has, where its module delivers what the other's does
+    -- a log has the messages of another log, if its module delivers those that the other's module delivers
     pub log_more : (spec : Spec) (b c : ℕ) (xs ys : List Call) → ((m : MsgId) → now_delivered spec.kind.module b (set.items spec.members) xs m ≡ true → now_delivered spec.kind.module c (set.items spec.members) ys m ≡ true)
         → (m : MsgId) → is_in (kind_log spec.kind b (set.items spec.members) xs) m ≡ true → is_in (kind_log spec.kind c (set.items spec.members) ys) m ≡ true
     log_more spec b c xs ys more m h = go spec.kind.order h
@@ -82,7 +82,7 @@ module _ (numbers : (origin : NodeId) (delivered : List MsgId) → numbers_of or
             let rises : top m.origin this ≤ top m.origin that = top_most m.origin that (top m.origin this) (λ k some le. plain (numbered m.origin k) (stand m.origin this k (omega (arith, some)) le)) in
             in_order_has that m at.0 (omega (arith, few, rises))
 
-    -- a log has the first messages of an origin, where its module delivers them
+    -- a log has the first messages of an origin, if its module delivers them
     pub log_has : (spec : Spec) (b : ℕ) (ys : List Call) (s : NodeId) (n : ℕ) → ((k : ℕ) → 0 < k → k ≤ n → now_delivered spec.kind.module b (set.items spec.members) ys (numbered s k) ≡ true)
         → (k : ℕ) → 0 < k → k ≤ n → is_in (kind_log spec.kind b (set.items spec.members) ys) (numbered s k) ≡ true
     log_has spec b ys s n all k some few = go spec.kind.order

@@ -1,4 +1,4 @@
--- What follows from a make or a say that is accepted, and from an item that is not let fall.
+-- Facts that follow from a make or a say that is accepted, and from an item that is not discarded.
 use Rattle.gb_types.specs.Common.{◌≡◌, ℕ, ◌+◌, ◌<◌, ◌≤◌, Bool, true, false, not, ◌&&◌, ◌||◌, nat_eq, List, length, Option, Some, None, refl, arith, nat_lt, nat_le, is_some, if◌then◌else◌, eqb-true, nat_tests, message_of, version_at}
 use Rattle.gb_types.specs.declared.{entry.Entry.Entry, message.MsgId.MsgId, reply.Reply.Reply, plan.Bounds.Bounds, spec.Spec.Spec, version.Version.Version, new_message.NewMessage.NewMessage, address.Addr.Addr, reply.Reply.TheVariants.Done, reply.Reply.TheVariants.Said, reply.Reply.TheVariants.Refused}
 use Rattle.gb_types.specs.declared.refusal.Refusal.TheVariants.{NoGroup, Spent, NoRoom, BadMembers, OverReserve, Stopped}
@@ -18,7 +18,7 @@ held_made phase o spec h = go (is_gone phase) h
     go true h = absurd (cc)
     go false h = (refl, h)
 
--- only a group that was not dropped does what it is told
+-- only a group that was not dropped accepts a command
 pub awake : (answer : Shown → Reply) (me : ℕ) (m : Member) → on_group answer me m ≡ Done → is_gone m.phase ≡ false
 awake answer me m = by m.reserve m.spec
   where
@@ -111,7 +111,7 @@ pub record IsFair (spec : Spec) (m : MsgId) : Type 0 where
   pub counted : 0 < m.seq
   pub within : m.seq ≤ spec.msgs
 
--- an item that is not let fall may be the group's
+-- an item that is not discarded may be the group's
 pub fair_item : (spec : Spec) (me from : ℕ) (x : Entry) (before known : Bool) (seen : ℕ) → is_let_fall spec me from x before known seen ≡ false → IsFair spec (message_of x)
 fair_item spec me from x before known seen h =
     let second = or_right (not (is_member spec from)) _ h in
@@ -129,7 +129,7 @@ fair_item spec me from x before known seen h =
     below : nat_lt spec.msgs x.seq ≡ false → x.seq ≤ spec.msgs
     below e = grind (arith, nat_tests, e)
 
--- such an item is let fall between members only where it came from there before
+-- an item between members is discarded only if it came from there before
 pub fall_why : (spec : Spec) (me from : ℕ) (x : Entry) (before known : Bool) (seen : ℕ) → is_let_fall spec me from x before known seen ≡ true → is_member spec from ≡ true → nat_eq from me ≡ false → IsFair spec (message_of x)
     → (x.origin.number ≡ me → known ≡ true) → (known ≡ false → seen + length x.payload ≤ spec.bytes) → before ≡ true
 fall_why spec me from x before known seen h member other fair own light =

@@ -1,4 +1,4 @@
--- Which steps of the generations of a room are legal.
+-- The legal steps of the generations of a room.
 use Rattle.gb_types.specs.Common.{◌≡◌, ◌≢◌, ℕ, ◌<◌, List, [], ◌∷◌, ◌++◌, Some, None, refl, sym, ap, ◌∙◌, subst, arith, fold-append}
 use Rattle.gb_types.specs.declared.kind.Kind.{Kind}
 use Rattle.gb_rules.specs.declared.{reserve.Reserve.Reserve, room.TheConstants.GENERATIONS}
@@ -19,7 +19,7 @@ open_legal kind = ((refl, refl), (tt, (tt, tt)))
 opens_is : (kind : Kind) → alone bounds address (opened_at kind first) ≡ opens kind
 opens_is kind = node_opens kind nobody first in_0 refl
 
--- what follows once node 0 has opened the group
+-- the steps after node 0 has opened the group
 then_legal : (kind : Kind) (steps : List GroupStep) → IsLegalFrom bounds address (opens kind) steps → IsLegal bounds address (opened_at kind first ++ steps)
 then_legal kind steps legal = legal_join nobody (opened_at kind first) steps (open_legal kind) (subst (λ (g : Group). IsLegalFrom bounds address g steps) (sym (opens_is kind)) legal)
 
@@ -51,7 +51,7 @@ no_fifth kind legal =
     let few : living (alone bounds address (four_made kind) 0) < 4 = parts.1.0.2 in
     omega (arith, few, four_live kind)
 
--- but after a drop there is room for one
+-- after a drop there is room for one
 abbrev drop_and_make : List GroupStep
 drop_and_make = at first OtherDropped ∷ at first (OtherMade 4) ∷ []
 

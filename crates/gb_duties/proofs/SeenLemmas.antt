@@ -1,4 +1,4 @@
--- Duties and agreement stated with other names for what the nodes hold.
+-- Duties and agreement, stated with other names for the nodes' state.
 use Rattle.gb_types.specs.Common.{◌≡◌, ℕ, Bool, true, false, ◌&&◌, ◌⊎◌, inl, inr, nat_eq, List, Some, refl, sym, ap, ◌∙◌, subst, All, eqb-true, not_from_false}
 use Rattle.gb_types.specs.declared.{entry.Entry.Entry, message.MsgId.MsgId, spec.Spec.Spec, kind.Module.Module}
 use Rattle.gb_types.proofs.BoolLemmas.{and_both, and_left, and_right}
@@ -10,7 +10,7 @@ use Rattle.gb_duties.specs.Agreement.{KeepsAgreement}
 use Rattle.gb_duties.specs.Duties.{IsPutOut, Duty, KeepsDuties, noticed_at}
 use Rattle.gb_duties.proofs.NoticeLemmas.{Marked}
 
--- A notice is seen where it is marked.
+-- A notice is seen if and only if it is marked.
 
 module _ (b : ℕ) (member : Member) (spec : Spec) (made : member.spec ≡ Some spec) (marked : Marked b member) (seen : ℕ → Bool) (seen_is : (c : ℕ) → is_marked c member.noticed ≡ (is_other spec b c && seen c)) where
   pub noticed_seen : (c : ℕ) → noticed_at member c ≡ true → seen c ≡ true

@@ -1,4 +1,4 @@
--- Each message that a node was told of or puts out is no longer than the version that the node sends allows.
+-- Each message that a node knows or queues is no longer than the version that the node sends allows.
 use Rattle.gb_types.specs.Common.{◌≡◌, ℕ, Bool, true, false, nat_eq, List, [], ◌∷◌, refl, sym, ◌∙◌, subst, if◌then◌else◌, eqb-true, All-nil, version_at}
 use Rattle.gb_types.specs.declared.{entry.Entry.Entry, plan.Bounds.Bounds, address.Addr.Addr}
 use Rattle.gb_rules.specs.Common.{is_too_long, known}

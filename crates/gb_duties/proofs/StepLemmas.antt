@@ -22,13 +22,13 @@ calls_in group a = calls_of (group a).told
 abbrev pub AllFit : Group → Type 0
 AllFit group = (a : ℕ) → FitsAt (calls_in group) a (group a)
 
--- what the node a is after something happened there
+-- the node a after an event there
 pub record Result (group : Group) (a : ℕ) (n : Member) : Type 0 where
   pub mentioned : (m : MsgId) → mentions (calls_of (group a).told) m ≡ true → mentions (calls_of n.told) m ≡ true
   pub said : (m : MsgId) → was_said (calls_of (group a).told) m ≡ true → was_said (calls_of n.told) m ≡ true
   pub fits : (calls : ℕ → List Call) → Later (calls_in group) calls → calls a ≡ calls_of n.told → FitsAt calls a n
 
--- it was told nothing
+-- the event makes no call
 kept : (group : Group) (a : ℕ) (n : Member) → AllFit group → n.told ≡ (group a).told → ((calls : ℕ → List Call) → FitsAt calls a (group a) → FitsAt calls a n) → Result group a n
 kept group a n all same keeps = record {
   mentioned = λ m h. ap (λ told. mentions (calls_of told) m) same ∙ h;
@@ -36,7 +36,7 @@ kept group a n all same keeps = record {
   fits = λ calls later is. keeps calls (fits_later (calls_in group) calls later a (is_gone (group a).phase) (group a).spec (group a).told (group a).put (all a));
 }
 
--- it was told something; these are the items put out before
+-- the event makes a call; these are the items queued before
 call_fits : (group : Group) (a : ℕ) (c : GroupCall) (spec : Spec) (put : ℕ → List Entry) → (group a).spec ≡ Some spec → AllFit group
     → ((b : ℕ) (m : MsgId) → has (put b) m ≡ true → mentions (calls_of (group a).told) m ≡ true)
     → (is_gone (group a).phase ≡ false → (b : ℕ) → is_other spec a b ≡ true → was_noticed (calls_of (c ∷ (group a).told)) b ≡ false → (m : MsgId) → now_broadcast spec.kind.module a (calls_of (group a).told) m ≡ true → has (put b) m ≡ true)
@@ -144,7 +144,7 @@ made_fits calls a spec m makes fits = record {
     silent : (base : Module) (x : MsgId) → now_broadcast base a (calls_of m.told) x ≡ true → ⊥
     silent base x h = let e : now_broadcast base a (calls_of []) x ≡ true = ap (λ (told : List GroupCall). now_broadcast base a (calls_of told) x) (sym none) ∙ h in absurd (cc)
 
--- the group goes to another phase, and is not dropped
+-- the group moves to another phase, and is not dropped
 in_phase : (calls : ℕ → List Call) (a : ℕ) (phase : Phase) (m : Member) → is_gone m.phase ≡ false → FitsAt calls a m → FitsAt calls a (record m { phase = phase })
 in_phase calls a phase m here fits = record {
   unmade = fits.unmade;
@@ -201,7 +201,7 @@ event_result bounds addr group me (Notice q) all = notice_result group me.number
 event_result bounds addr group me Stop all = kept group me.number (member_after bounds addr me Stop group) all refl (λ calls fits. fits)
 event_result bounds addr group me event all = commanded_result bounds addr group me event all
 
--- every node keeps it through every event, and was told the same and more
+-- every node keeps the invariant through every event, and has the same calls and more
 pub step_fits : (bounds : Bounds) (addr : Addr) (group : Group) (step : GroupStep) → AllFit group → AllFit (after bounds addr group step) × Later (calls_in group) (calls_in (after bounds addr group step))
 unfolding after
 step_fits bounds addr group step all = (λ x. at x (nat_eq x step.node.number) refl, later)

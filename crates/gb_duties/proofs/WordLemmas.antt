@@ -12,7 +12,7 @@ pub has-append : (xs ys : List Entry) (m : MsgId) → has (xs ++ ys) m ≡ (has 
 has-append [] ys m = refl
 has-append (x ∷ xs) ys m = ap (λ b. same (message_of x) m || b) (has-append xs ys m) ∙ sym (or_assoc (same (message_of x) m) (has xs m) (has ys m))
 
--- what the first ones have all have
+-- a message in the first items of a list is in the list
 pub has-take : (n : ℕ) (xs : List Entry) (m : MsgId) → has (take n xs) m ≡ true → has xs m ≡ true
 has-take zero xs m h = cc
 has-take (suc n) [] m h = h
@@ -22,13 +22,13 @@ has-take (suc n) (x ∷ xs) m h = go (has-take n xs m) (or_cases (same (message_
     go rest (inl is) = ap (λ b. b || has xs m) is
     go rest (inr later) = or_second (same (message_of x) m) (has xs m) (rest later)
 
--- the item with a place is there
+-- the item at a place is in the list
 pub has-get : (xs : List Entry) (i : ℕ) (x : Entry) → slice_get xs i ≡ Some x → has xs (message_of x) ≡ true
 has-get [] i x h = absurd (cc)
 has-get (y ∷ xs) zero x h = let e : y ≡ x = cc in ap (λ b. b || has xs (message_of x)) (ap (λ z. same (message_of z) (message_of x)) e ∙ same_itself (message_of x))
 has-get (y ∷ xs) (suc i) x h = or_second (same (message_of y) (message_of x)) (has xs (message_of x)) (has-get xs i x h)
 
--- where a list has a message
+-- the index at which a list has a message
 pub data Found (xs : List Entry) (m : MsgId) : Type 0 where
   found : (i : ℕ) (y : Entry) → slice_get xs i ≡ Some y → i < length xs → message_of y ≡ m → Found xs m
 
@@ -40,12 +40,12 @@ find (z ∷ xs) m h = go (find xs m) (or_cases (same (message_of z) m) (has xs m
     go rest (inl is) = found 0 z refl (omega arith) (same-true (message_of z) m is)
     go rest (inr later) = elim (rest later) [ found i y at lt is ↦ found (suc i) y at (omega arith) is ]
 
--- entries with these messages
+-- the entries of these messages
 pub has-entries : (xs : List Entry) (ms : List MsgId) (m : MsgId) → has (map (entry_in xs) ms) m ≡ is_in ms m
 has-entries xs [] m = refl
 has-entries xs (k ∷ ms) m = ap (λ b. same k m || b) (has-entries xs ms m)
 
--- what a test keeps
+-- the messages that a filter keeps
 in_filter : (q : MsgId → Bool) (xs : List MsgId) (m : MsgId) → is_in (filter q xs) m ≡ (q m && is_in xs m)
 in_filter q [] m = sym (and-false (q m))
 in_filter q (x ∷ xs) m = go (q x) refl (same x m) refl (in_filter q xs m)
@@ -60,7 +60,7 @@ in_filter q (x ∷ xs) m = go (q x) refl (same x m) refl (in_filter q xs m)
         rest ∙ (ap (λ b. b && is_in xs m) lost ∙ sym (ap (λ b. b && true) lost))
     go false k false e rest = rest
 
--- which messages pass a test newly at a call
+-- the messages that pass a test after a call and did not before
 pub in_newly : (test : List Call → MsgId → Bool) (c : Call) (past : List Call) (m : MsgId) → is_in (newly test c past) m ≡ ((test (c ∷ past) m && not (test past m)) && mentions (c ∷ past) m)
 in_newly test c past m =
     in_filter (λ x. test (c ∷ past) x && not (test past x)) (first_mentions (c ∷ past)) m
@@ -73,7 +73,7 @@ said_stays (Say x) past m h = or_second (same x m) (was_said past m) h
 said_stays (Came p x) past m h = h
 said_stays (Notice q) past m h = h
 
--- what was said came from this node
+-- a message that was said counts as coming from this node
 pub said_came : (me : ℕ) (past : List Call) (m : MsgId) → was_said past m ≡ true → came_from me past me m ≡ true
 said_came me [] m h = cc
 said_came me (Say x ∷ past) m h = go (said_came me past m) (or_cases (same x m) (was_said past m) h)

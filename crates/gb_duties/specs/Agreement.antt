@@ -1,6 +1,6 @@
--- Agreement: which messages the logs of a group have in common. Cachin, Guerraoui, Rodrigues, Introduction to Reliable and Secure Distributed Programming, 2011:
--- Validity (Module 3.1), Agreement (Module 3.2, RB4) and Uniform Agreement (Module 3.3, URB4). There they say that a message is delivered eventually. Here they
--- are safety: they say what the logs are if the group is settled, not that it ever settles.
+-- Agreement: which messages the logs of a group have in common. Cachin, Guerraoui, Rodrigues, Introduction to Reliable and Secure Distributed
+-- Programming, 2011: Validity (Module 3.1), Agreement (Module 3.2, RB4) and Uniform Agreement (Module 3.3, URB4). In the book a message is delivered
+-- eventually. Here these are safety: they describe the logs of a settled group, and do not say that a group ever settles.
 use Rattle.std.specs.Prelude.{ℕ, ◌≡◌, ◌≢◌, ◌≤◌, ◌<◌, Bool, true, false, List, [], ◌++◌, All, length, Some}
 use Rattle.gb_types.specs.declared.{entry.Entry.Entry, message.MsgId.MsgId, node.NodeId.NodeId, plan.Bounds.Bounds, spec.Spec.Spec, version.Version.Version, kind.Module.Module, address.Addr.Addr}
 use Rattle.gb_types.specs.Common.{version_at, has_majority}
@@ -10,7 +10,7 @@ use Rattle.gb_rules.specs.Common.{is_gone, is_member, calls_of, has}
 use Rattle.gb_alone.specs.Common.{Group, alone, is_marked, IsLegal, Accepted, accepted, log_of_member}
 use Rattle.gb_alone.specs.declared.event.GroupStep.{GroupStep}
 
--- a member that runs; `runs` says which nodes run, and the others have stopped
+-- a is a member that runs; `runs` accepts the nodes that run, and the others have stopped
 abbrev pub IsRunning : (ℕ → Bool) → Spec → ℕ → Type 0
 IsRunning runs spec a = (is_member spec a ≡ true) × (runs a ≡ true)
 
@@ -34,7 +34,7 @@ pub record IsSettled (bounds : Bounds) (addr : Addr) (steps : List GroupStep) (r
   pub noticed : (a b : ℕ) → IsRunning runs spec a → is_member spec b ≡ true → runs b ≡ false → was_noticed (calls_of (alone bounds addr steps a).told) b ≡ true
   pub unnoticed : (a b : ℕ) → is_member spec a ≡ true → IsRunning runs spec b → was_noticed (calls_of (alone bounds addr steps a).told) b ≡ false
 
--- with majority-ack more than half of the members run: if they do not, nothing is promised of the group's logs
+-- with majority-ack more than half of the members run: if fewer run, nothing is promised of the group's logs
 abbrev pub AreEnough : (ℕ → Bool) → Spec → Type 0
 AreEnough runs spec = spec.kind.module ≡ Majority → has_majority (is_member spec) runs ≡ true
 
@@ -46,7 +46,7 @@ is_uniform Eager = false
 is_uniform AllAck = true
 is_uniform Majority = true
 
--- What these logs have of the messages that were accepted at each node; `runs` says which nodes run.
+-- The agreement of these logs, for these messages that were accepted at each node. `runs` accepts the nodes that run.
 pub record KeepsAgreement (accepted : ℕ → List Accepted) (log : ℕ → List Entry) (runs : ℕ → Bool) (spec : Spec) : Type 0 where
   -- Validity: the log of each running member has each message that was accepted at a running member
   pub validity : (s : NodeId) (b : ℕ) → IsRunning runs spec s.number → IsRunning runs spec b → All (λ (x : Accepted). has (log b) (numbered s x.seq) ≡ true) (accepted s.number)
@@ -59,7 +59,7 @@ pub record KeepsAgreement (accepted : ℕ → List Accepted) (log : ℕ → List
 abbrev pub logs_of : Group → ℕ → List Entry
 logs_of group b = log_of_member b (group b)
 
--- the logs of a settled group agree, whichever nodes are taken as those that run, provided that enough of them run
+-- the logs of a settled group agree, whichever nodes are taken as those that run, if enough of them run
 abbrev pub IsAgreed : Type 0
 IsAgreed =
     (bounds : Bounds) (addr : Addr) (steps : List GroupStep) → IsLegal bounds addr steps → (runs : ℕ → Bool) (spec : Spec) → IsSettled bounds addr steps runs spec → AreEnough runs spec

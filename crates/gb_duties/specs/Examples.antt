@@ -49,7 +49,7 @@ at a event = record { node = a; event = event }
 abbrev pub opened_at : Kind → NodeId → List GroupStep
 opened_at kind a = at a (Tenant (record { groups = 4; msgs = 8; bytes = 64; window = 4 })) ∷ at a (Make (spec_of kind)) ∷ at a Open ∷ []
 
--- the group's tenant is taken in at node 0
+-- the group's tenant is added at node 0
 abbrev pub tenant : GroupStep
 tenant = at first (Tenant (record { groups = 4; msgs = 8; bytes = 64; window = 4 }))
 
@@ -77,7 +77,7 @@ to_one = at first (Say one_byte) ∷ at first (Took second 1) ∷ at second (Cam
 abbrev pub to_all : List GroupStep
 to_all = to_one ++ (at first (Took third 1) ∷ at third (Came first 1) ∷ at third (Took second 1) ∷ at second (Came third 1) ∷ [])
 
--- the message comes to node 2, which relays it and drops the group; what it relayed still comes to node 1
+-- the message comes to node 2, which relays it and drops the group; the relayed message still comes to node 1
 abbrev pub third_drops : List GroupStep
 third_drops = to_one ++ (at first (Took third 1) ∷ at third (Came first 1) ∷ at third (Took second 1) ∷ at third Drop ∷ at second (Came third 1) ∷ [])
 
@@ -85,11 +85,11 @@ third_drops = to_one ++ (at first (Took third 1) ∷ at third (Came first 1) ∷
 abbrev pub loss : List GroupStep
 loss = to_one ++ (at first Stop ∷ at second (Notice first) ∷ at third (Notice first) ∷ [])
 
--- node 0 stops before the message goes to node 2, the others notice node 0, and what they relay comes
+-- node 0 stops before the message goes to node 2, the others notice node 0, and the messages that they relay arrive
 abbrev pub crash : List GroupStep
 crash = loss ++ (at second (Took third 1) ∷ at third (Came second 1) ∷ at third (Took second 1) ∷ at second (Came third 1) ∷ [])
 
--- a phase after that: what node 1 relayed is carried to node 2 and comes
+-- a phase after that: the message that node 1 relayed is carried to node 2 and arrives
 abbrev pub relay : List GroupStep
 relay = at second (Took third 1) ∷ at third (Came second 1) ∷ []
 
@@ -105,7 +105,7 @@ only_first a = nat_eq a 0
 abbrev pub runs : ℕ → Bool
 runs a = not (nat_eq a 0)
 
--- for a group of this kind after these steps: the log of a node, and what the node has put out to another
+-- for a group of this kind after these steps: the log of a node, and the items that the node has queued for another
 abbrev pub log_in : Kind → List GroupStep → ℕ → List Entry
 log_in kind steps b = log_of_member b (alone bounds address (opened kind ++ steps) b)
 

@@ -1,4 +1,4 @@
--- The greatest number of pairs of one call of a fifo.
+-- The greatest number of pairs that one call of a fifo delivers.
 use Rattle.gb_types.specs.Common.{◌≡◌, ℕ, ◌+◌, ◌≤◌, Bool, true, false, cond, not, List, [], ◌∷◌, ◌++◌, length, map, count_by, refl, ap, arith, zero, suc, length-append, list_any, count_by-le-length}
 use Rattle.gb_types.specs.declared.message.MsgId.{MsgId}
 use Rattle.gb_layer.specs.declared.{effects.Up.Up, call.Call.Call, call.Call.TheVariants.Say, call.Call.TheVariants.Came, call.Call.TheVariants.Notice}
@@ -8,7 +8,7 @@ use Rattle.gb_fifo.specs.declared.entry.Entry.{Entry}
 use Rattle.gb_fifo.specs.Entries.{is_for, blank, noted_by, brought, given_entry, is_ungiven, up_of, next_of, given_of, give, pick, released, released_ups, taken_one, taken_one_ups, taken, taken_ups}
 use Rattle.gb_fifo.specs.EntryLemmas.{brought_same, next_new}
 
--- each pair is of a message that was not handed up before
+-- each released pair is of a message that was not released before
 picked_few : (p : Entry → Bool) → ((e : Entry) → p e ≡ true → e.given ≡ false) → (es : List Entry) → length (pick p es) + count_by is_ungiven (give p es) ≡ count_by is_ungiven es
 picked_few p new [] = omega arith
 picked_few p new (e ∷ es) =
@@ -49,7 +49,7 @@ length-noted_by (Say m) es = length-added (list_any (is_for m) es) es (blank m)
 length-noted_by (Came p m) es = length-added (list_any (is_for m) es) es (blank m)
 length-noted_by (Notice q) es = omega arith
 
--- one pair for each message
+-- a call delivers at most one pair for each message
 pub fifo_ups_few : (us : List Up) (c : Call) (es : List Entry) → length (taken_ups us (noted_by c es)) ≤ length es + 1
 fifo_ups_few us c es =
     let a = taken_few us (noted_by c es) in

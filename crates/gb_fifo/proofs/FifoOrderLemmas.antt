@@ -1,4 +1,4 @@
--- A fifo hands up, in order, the messages that the layer below brings up.
+-- A fifo delivers, in order, the messages that the layer below delivers.
 use Rattle.gb_types.specs.Common.{◌≡◌, ℕ, ◌+◌, ◌<◌, ◌≤◌, Bool, true, false, cond, not, ◌&&◌, ◌||◌, nat_eq, nat_lt, List, [], ◌∷◌, ◌++◌, length, map, filter, count_by, drop, refl, ap, ◌∙◌, sym, arith, subst, zero, suc, append_assoc, list_any, AllByRecursion, or-true, and-false, eqb-true, eq-eqb, nat_tests, append-nil, count_by-le-length, same}
 use Rattle.gb_types.specs.declared.{node.NodeId.NodeId, message.MsgId.MsgId}
 use Rattle.gb_types.proofs.{SameLemmas.same_itself, SameLemmas.same_number, BoolLemmas.and_left, BoolLemmas.and_right, BoolLemmas.refuted}
@@ -14,7 +14,7 @@ use Rattle.gb_fifo.proofs.PlacedLemmas.{none_given, stays}
 use Rattle.gb_fifo.proofs.OrderLemmas.{drop_upto, top_is, ordered_append}
 use Rattle.gb_fifo.proofs.NumberLemmas.{messages-append, next_origin, next_seq, more_given, given_brought, taken_one_numbers}
 
--- a test that a mark as handed up keeps
+-- releasing an entry keeps a test that ignores whether entries were released
 any_give : (f : Entry → Bool) → ((e : Entry) → f (given_entry e) ≡ f e) → (p : Entry → Bool) (es : List Entry) → list_any f (give p es) ≡ list_any f es
 any_give f k p [] = refl
 any_give f k p (e ∷ es) =
@@ -23,7 +23,7 @@ any_give f k p (e ∷ es) =
       | false ↦ ap (λ b. f e || b) (any_give f k p es)
     ]
 
--- the release ends
+-- each release makes the number of messages that are not released smaller
 fewer : (p : Entry → Bool) → ((e : Entry) → p e ≡ true → e.given ≡ false) → (es : List Entry) → count_by is_ungiven (give p es) + cond {A = ℕ} (list_any p es) 1 0 ≡ count_by is_ungiven es
 fewer p new [] = refl
 fewer p new (e ∷ es) =
@@ -52,21 +52,21 @@ settles s (suc n) es h =
       | false ↦ λ e. subst (λ (xs : List Entry). list_any (next_of s xs) xs ≡ false) (sym (stays s (suc n) es e)) e
     ] refl
 
--- the entry is of m, and came up
+-- the entry is of m, and the layer below delivered m
 abbrev pub is_here : MsgId → Entry → Bool
 is_here m e = is_for m e && e.here
 
--- each entry that is marked as handed up has a number up to its origin's count
+-- each released entry has a number up to its origin's count
 abbrev pub Below : (ℕ → ℕ) → List Entry → Type 0
 Below t = AllByRecursion (λ e. e.given ≡ true → e.m.seq ≤ t e.m.origin.number)
 
--- what came up below is marked so; the messages marked as handed up are those of each origin up to its count, which all came up
+-- the entries mark what the layer below delivered; the released messages of an origin are those up to its count, all delivered from below
 pub record IsMarked (es : List Entry) (delivered : List MsgId) : Type 0 where
   pub here : (m : MsgId) → list_any (is_here m) es ≡ is_in delivered m
   pub below : Below (λ q. given_of q es) es
   pub run : (s : NodeId) (j : ℕ) → j < given_of s.number es → is_in delivered (numbered s (j + 1)) ≡ true
 
--- and of no origin did the next message come up
+-- the entries are marked, and no next message of an origin is delivered yet
 pub record IsSettled (es : List Entry) (delivered : List MsgId) : Type 0 where
   pub marked : IsMarked es delivered
   pub ends : (s : NodeId) → is_in delivered (numbered s (given_of s.number es + 1)) ≡ false
@@ -117,7 +117,7 @@ cond_more : (b : Bool) (n : ℕ) → n ≤ n + cond {A = ℕ} b 1 0
 cond_more true n = omega arith
 cond_more false n = omega arith
 
--- one more is handed up
+-- the marks stay right after one more message is released
 marked_give : (s : NodeId) (es : List Entry) (delivered : List MsgId) → IsMarked es delivered → IsMarked (give (next_of s.number es) es) delivered
 marked_give s es delivered marked =
     let k = given_of s.number es in
@@ -154,7 +154,7 @@ marked_released : (s : NodeId) (n : ℕ) (es : List Entry) (delivered : List Msg
 marked_released s zero es delivered marked = marked
 marked_released s (suc n) es delivered marked = marked_released s n (give (next_of s.number es) es) delivered (marked_give s es delivered marked)
 
--- one more is here
+-- the entries after the layer below delivered one more message
 here_brought : (es : List Entry) (x m : MsgId) → list_any (is_for x) es ≡ true → list_any (is_here m) (map (brought x) es) ≡ (same x m || list_any (is_here m) es)
 here_brought es x m h = any_marked (λ e. e.m) (λ e. e.here) brought_entry (λ e. refl) (λ e. refl) es x m h
 
@@ -165,7 +165,7 @@ marked_brought m es delivered there marked = record {
   run = λ s j lt. any_push (λ y. same y (numbered s (j + 1))) delivered m ∙ (ap (λ b. same m (numbered s (j + 1)) || b) (marked.run s j (let a = given_brought s.number m es in omega (arith, a, lt))) ∙ or-true _);
 }
 
--- another origin's count stays
+-- releasing messages of one origin keeps the count of another origin
 released_other : (q s n : ℕ) (es : List Entry) → nat_eq s q ≡ false → given_of q (released s n es) ≡ given_of q es
 released_other q s zero es h = refl
 released_other q s (suc n) es h =
@@ -197,7 +197,7 @@ settled_one m es delivered there settled =
           ] refl;
     }
 
--- what is handed up then
+-- the released messages of an origin are those with their numbers
 renumbered : (o : NodeId) (us : List Up) → AllByRecursion (λ (u : Up). u.m.origin.number ≡ o.number) us → messages us ≡ map (numbered o) (numbers_of o.number (messages us))
 renumbered o [] a = refl
 renumbered o (u ∷ us) a =
@@ -236,14 +236,14 @@ there_keys : (es es' : List Entry) → keys es' ≡ keys es → (us : List Up) �
 there_keys es es' k [] a = tt
 there_keys es es' k (u ∷ us) a = (any_keys (λ e. e.m) u.m es' ∙ (ap (list_any (λ y. same y u.m)) k ∙ (sym (any_keys (λ e. e.m) u.m es) ∙ a.0)), there_keys es es' k us a.1)
 
--- once these pairs were taken the entries have settled again
+-- once these pairs were taken no next message waits again
 pub settled_all : (us : List Up) (es : List Entry) (delivered : List MsgId) → There es us → IsSettled es delivered → IsSettled (taken us es) (delivered ++ messages us)
 settled_all [] es delivered a settled = subst (λ (xs : List MsgId). IsSettled es xs) (sym (append-nil delivered)) settled
 settled_all (u ∷ us) es delivered a settled =
     subst (λ (xs : List MsgId). IsSettled (taken us (taken_one u.m es)) xs) (append_assoc delivered (u.m ∷ []) (messages us))
     (settled_all us (taken_one u.m es) (delivered ++ u.m ∷ []) (there_keys es (taken_one u.m es) (keys_taken_one u.m es) us a.1) (settled_one u.m es delivered a.0 settled))
 
--- what these pairs set free is what the order gives up for them, in view of what was delivered before
+-- the messages that these pairs release are those that the order releases for them after the earlier ones
 pub gives_all : (us : List Up) (es : List Entry) (delivered : List MsgId) → There es us → IsSettled es delivered → messages (taken_ups us es) ≡ ordered_after delivered (messages us)
 gives_all [] es delivered a settled = refl
 gives_all (u ∷ us) es delivered a settled =
@@ -251,7 +251,7 @@ gives_all (u ∷ us) es delivered a settled =
     ∙ (λ i. gives_one u.m es delivered a.0 settled i
     ++ gives_all us (taken_one u.m es) (delivered ++ u.m ∷ []) (there_keys es (taken_one u.m es) (keys_taken_one u.m es) us a.1) (settled_one u.m es delivered a.0 settled) i)
 
--- a new entry changes nothing
+-- a new entry keeps all numbers below the counts
 below_push : (t t' : ℕ → ℕ) (m : MsgId) → ((q : ℕ) → t q ≤ t' q) → (es : List Entry) → Below t es → Below t' (es ++ blank m ∷ [])
 below_push t t' m f [] b = ((λ g. cc), tt)
 below_push t t' m f (e ∷ es) b = ((λ g. let h = b.0 g in let k = f e.m.origin.number in omega (arith, h, k)), below_push t t' m f es b.1)
@@ -280,7 +280,7 @@ settled_noted_by (Notice q) es delivered settled = settled
 settled_new : IsSettled [] []
 settled_new = record { marked = record { here = λ m. refl; below = tt; run = λ s j lt. absurd (omega arith) }; ends = λ s. refl }
 
--- what comes up below was mentioned
+-- each message that the layer below delivers was mentioned
 all_mentioned : (b : MsgId → Bool) (us : List Up) → ((m : MsgId) → b m ≡ false → count_by (is_of m) us ≡ 0) → AllByRecursion (λ (u : Up). b u.m ≡ true) us
 all_mentioned b [] f = tt
 all_mentioned b (u ∷ us) f = (
@@ -310,14 +310,14 @@ module _ {S : Type 0} (next : S → Call → S) (gives : S → Call → Gives) (
   abbrev pub lower_ups : List Call → List Up
   lower_ups past = all_ups next gives s.lower past
 
-  -- whatever the layer below brings up has an entry
+  -- each message that the layer below delivers has an entry
   pub there : (past : List Call) (c : Call) → There (noted_by c (after N s past).entries) (gives (after next s.lower past) c).ups
   there past c =
       let us = (gives (after next s.lower past) c).ups in
       there_mentioned (c ∷ past) (noted_by c (after N s past).entries) (keys_noted_by c past (after N s past).entries (keys_after next gives s new.entries past)) us
       (all_mentioned (mentions (c ∷ past)) us (λ m e. let a = ups_handed_in s.lower (c ∷ past) m new.lower e in let b = count_by-append (is_of m) (lower_ups past) us in omega (arith, a, b)))
 
-  -- after each history the entries have settled
+  -- after each history no next message waits
   pub settled_after : (past : List Call) → IsSettled (after N s past).entries (messages (lower_ups past))
   settled_after [] = subst (λ (es : List Entry). IsSettled es []) (sym new.entries) settled_new
   settled_after (c ∷ past) =
@@ -327,7 +327,7 @@ module _ {S : Type 0} (next : S → Call → S) (gives : S → Call → Gives) (
       (subst (λ (xs : List MsgId). IsSettled (taken us es) xs) (sym (messages-append (lower_ups past) us))
       (settled_all us es (messages (lower_ups past)) (there past c) (settled_noted_by c (after N s past).entries (messages (lower_ups past)) (settled_after past))))
 
-  -- what a call gives up is what its messages from below set free, in view of those before
+  -- a call releases what its messages from below complete after those before
   pub call_order : (past : List Call) (c : Call)
       → messages (fifo_gives next gives (after (fifo_next next gives) s past) c).ups ≡ ordered_after (messages (all_ups next gives s.lower past)) (messages (gives (after next s.lower past) c).ups)
   call_order past c =
@@ -336,7 +336,7 @@ module _ {S : Type 0} (next : S → Call → S) (gives : S → Call → Gives) (
       (λ i. messages (taken_ups (gives (lower_after next gives s past i) c).ups es))
       ∙ gives_all us es (messages (lower_ups past)) (there past c) (settled_noted_by c (after N s past).entries (messages (lower_ups past)) (settled_after past))
 
-  -- what comes up over a history is, in order, what the layer below brings up
+  -- the messages that a fifo delivers over a history are those that the layer below delivers, in order
   pub fifo_order : (past : List Call) → messages (all_ups (fifo_next next gives) (fifo_gives next gives) s past) ≡ in_order (messages (all_ups next gives s.lower past))
   fifo_order [] = refl
   fifo_order (c ∷ past) =

@@ -1,4 +1,4 @@
--- The order of any list of messages: exactly the messages of each origin from 1 to its top, each once.
+-- The order of any list of messages has exactly the messages of each origin from 1 to its top, each once.
 use Rattle.gb_types.specs.Common.{◌≡◌, ℕ, ◌+◌, ◌-◌, ◌<◌, ◌≤◌, Bool, true, false, cond, ◌&&◌, ◌||◌, nat_eq, List, [], ◌∷◌, ◌++◌, length, map, filter, drop, refl, ap, ◌∙◌, sym, arith, zero, suc, inl, inr, append_assoc, subst, range_with_len, AllByRecursion, eqb-true, cases_lt, nat_tests, append-nil, drop-append-le, list_any-append, same}
 use Rattle.gb_types.specs.declared.{limits.TheConstants.NODES, node.NodeId.NodeId, message.MsgId.MsgId}
 use Rattle.gb_types.proofs.SameLemmas.{same_number}
@@ -8,7 +8,7 @@ use Rattle.gb_fifo.specs.OrderLaws.{AllIn, NoneTwice}
 use Rattle.gb_fifo.proofs.NumberLemmas.{numbers-append}
 use Rattle.gb_fifo.proofs.OrderLemmas.{upto_more, length_upto, drop_short, top_is, stands, ends}
 
--- ---- the top, when one more message is delivered
+-- ---- the top after one more message is delivered
 
 in_append : (xs ys : List MsgId) (m : MsgId) → is_in (xs ++ ys) m ≡ (is_in xs m || is_in ys m)
 in_append xs ys m = list_any-append (λ x. same x m) xs ys
@@ -29,7 +29,7 @@ top_rises s xs ys =
       | inr le ↦ le
     ]
 
--- another origin's message leaves it
+-- another origin's message keeps the top
 top_stays : (s : NodeId) (xs : List MsgId) (m : MsgId) → nat_eq m.origin.number s.number ≡ false → top s (xs ++ m ∷ []) ≡ top s xs
 top_stays s xs m other =
     let k = top s xs in
@@ -39,7 +39,7 @@ top_stays s xs m other =
 
 -- ---- the numbers of an origin
 
--- the numbers to a, and those from there on
+-- the numbers up to a, followed by those from there on
 seam : (a n : ℕ) → upto a ++ drop a (upto (a + n)) ≡ upto (a + n)
 seam a zero =
     let e : a + 0 ≡ a = omega arith in
@@ -67,7 +67,7 @@ numbers_numbered q o (k ∷ ks) = go (nat_eq o.number q) (numbers_numbered q o k
     go true h = ap (λ xs. k ∷ xs) h
     go false h = h
 
--- one message after others
+-- the numbers that one message releases continue those up to the top before
 given_numbers : (s : NodeId) (earlier : List MsgId) (m : MsgId) → upto (top s earlier) ++ numbers_of s.number (given_at earlier m) ≡ upto (top s (earlier ++ m ∷ []))
 given_numbers s earlier m =
     let later = earlier ++ m ∷ [] in
@@ -80,7 +80,7 @@ given_numbers s earlier m =
       | false ↦ λ e. append-nil (upto (top s earlier)) ∙ ap upto (sym (top_stays s earlier m e))
     ] refl)
 
--- messages one by one after others
+-- the numbers that more messages release continue those up to the top before
 ordered_numbers : (s : NodeId) (earlier ms : List MsgId) → upto (top s earlier) ++ numbers_of s.number (ordered_after earlier ms) ≡ upto (top s (earlier ++ ms))
 ordered_numbers s earlier [] = append-nil (upto (top s earlier)) ∙ ap (λ xs. upto (top s xs)) (sym (append-nil earlier))
 ordered_numbers s earlier (m ∷ ms) =
@@ -90,7 +90,7 @@ ordered_numbers s earlier (m ∷ ms) =
     ∙ (ap (λ xs. xs ++ numbers_of s.number (ordered_after later ms)) (given_numbers s earlier m)
     ∙ (ordered_numbers s later ms ∙ ap (λ xs. upto (top s xs)) (append_assoc earlier (m ∷ []) ms))))
 
--- of each origin the order gives up 1 to its top
+-- of each origin the order releases 1 to its top
 pub order_numbers : (s : NodeId) (delivered : List MsgId) → numbers_of s.number (in_order delivered) ≡ upto (top s delivered)
 order_numbers s delivered = ordered_numbers s [] delivered
 
@@ -103,7 +103,7 @@ no_numbers q le (m ∷ ms) =
     let e : nat_eq m.origin.number q ≡ false = grind (arith, nat_tests, below, le) in
     ap (λ b. map (λ (x : MsgId). x.seq) (cond b (m ∷ ks) ks)) e ∙ no_numbers q le ms
 
--- each origin's messages stand in it as 1, 2, 3, ..
+-- the order has each origin's messages as 1, 2, 3, ..
 pub order_runs : (delivered : List MsgId) → RunsFromOne (in_order delivered)
 order_runs delivered q =
     elim (cases_lt q NODES) [
@@ -113,7 +113,7 @@ order_runs delivered q =
       | inr le ↦ let k = no_numbers q le (in_order delivered) in k ∙ ap (λ xs. upto (length xs)) (sym k)
     ]
 
--- ---- what it gives up was delivered
+-- ---- each message that the order releases was delivered
 
 all_both : (P : MsgId → Type 0) (xs ys : List MsgId) → AllByRecursion P xs → AllByRecursion P ys → AllByRecursion P (xs ++ ys)
 all_both P [] ys a b = b
@@ -140,13 +140,13 @@ ordered_delivered earlier (m ∷ ms) =
     (all_numbered P o 1 (top o later) (λ k le lt. ap (λ xs. is_in xs (numbered o k)) (sym whole) ∙ in_more later ms (numbered o k) (stands o later k le (omega (arith, lt))))))
     (subst (λ (xs : List MsgId). AllIn xs (ordered_after later ms)) whole (ordered_delivered later ms))
 
--- only what was delivered is given up
+-- the order releases only delivered messages
 pub order_delivered : (delivered : List MsgId) → AllIn delivered (in_order delivered)
 order_delivered delivered = ordered_delivered [] delivered
 
--- ---- no message comes twice
+-- ---- the order releases no message twice
 
--- the copies of a message are the places of its number among those of its origin
+-- a list has a message as often as the numbers of its origin have its number
 copies : (m : MsgId) (xs : List MsgId) → length (filter (λ x. same x m) xs) ≡ length (filter (λ k. nat_eq k m.seq) (numbers_of m.origin.number xs))
 copies m [] = refl
 copies m (x ∷ xs) = go (nat_eq x.origin.number m.origin.number) (nat_eq x.seq m.seq) refl (copies m xs)
@@ -172,7 +172,7 @@ none_lower s from (suc n) lt =
     let e : nat_eq from s ≡ false = grind (arith, nat_tests, lt) in
     ap (λ b. length (cond b (from ∷ ks) ks)) e ∙ none_lower s (from + 1) n (omega (arith, lt))
 
--- and each number once at most
+-- a range has each number once at most
 range_once : (s from n : ℕ) → length (filter (λ k. nat_eq k s) (range_with_len from n)) ≤ 1
 range_once s from zero = omega arith
 range_once s from (suc n) =
@@ -185,7 +185,7 @@ range_once s from (suc n) =
       | false ↦ λ _. range_once s (from + 1) n
     ] refl
 
--- a list in which each origin's messages run from 1 has none twice
+-- a list in which each origin's messages run from 1 has no message twice
 pub runs_once : (messages : List MsgId) → RunsFromOne messages → NoneTwice messages
 runs_once messages runs m =
     let ns = numbers_of m.origin.number messages in
@@ -193,6 +193,6 @@ runs_once messages runs m =
     let b : length (filter (λ k. nat_eq k m.seq) ns) ≡ length (filter (λ k. nat_eq k m.seq) (upto (length ns))) = ap (λ xs. length (filter (λ k. nat_eq k m.seq) xs)) (runs m.origin.number) in
     let c = range_once m.seq 1 (length ns) in omega (arith, a, b, c)
 
--- no message is given up twice
+-- the order releases no message twice
 pub order_once : (delivered : List MsgId) → NoneTwice (in_order delivered)
 order_once delivered = runs_once (in_order delivered) (order_runs delivered)

@@ -1,4 +1,4 @@
--- What a fifo's marks say of the messages that wait.
+-- The messages that wait, by the marks of a fifo.
 use Rattle.gb_types.specs.Common.{◌≡◌, ℕ, ◌+◌, ◌≤◌, ◌<◌, true, false, cond, not, ◌&&◌, nat_lt, List, [], ◌∷◌, length, set, get_or, slice_get, refl, ap, sym, ◌∙◌, arith, Some, list_any, and-false, get_or_past, ltb-true, ltb-false, get_or_from_slice_get, same}
 use Rattle.gb_types.specs.declared.{node.NodeId.NodeId, limits.TheConstants.NODES, message.MsgId.MsgId}
 use Rattle.gb_types.proofs.{SameLemmas.same_itself, SameLemmas.same-true, BoolLemmas.and_left, BoolLemmas.and_right}
@@ -8,7 +8,7 @@ use Rattle.gb_fifo.specs.Entries.{brought, brought_entry, given_entry, is_next, 
 use Rattle.gb_fifo.proofs.PlacedLemmas.{given_at, picked_at, any_at, one_more, counted_more, next_number}
 use Rattle.gb_fifo.specs.Marks.{came_up, was_delivered, come_up, entry_of, marked, AreCounted}
 
--- the mark of a message that comes up is that of the entry
+-- the mark after a message was delivered from below is that of the entry
 brought_mark : (m : MsgId) (k : Mark) → brought_entry (entry_of m k) ≡ entry_of m (come_up k)
 brought_mark m Missing = refl
 brought_mark m Waiting = refl
@@ -17,15 +17,15 @@ brought_mark m Delivered = refl
 pub brought_there : (m : MsgId) (k : Mark) → brought m (entry_of m k) ≡ entry_of m (come_up k)
 brought_there m k = ap (λ b. cond b (brought_entry (entry_of m k)) (entry_of m k)) (same_itself m) ∙ brought_mark m k
 
--- other messages keep theirs
+-- a delivered message keeps the marks of other messages
 pub not_brought : (m x : MsgId) (k : Mark) → same x m ≡ false → brought m (entry_of x k) ≡ entry_of x k
 not_brought m x k h = ap (λ b. cond b (brought_entry (entry_of x k)) (entry_of x k)) h
 
--- another message is not the next one
+-- a message with other numbers is not the next one
 pub not_next : (origin : NodeId) (k : ℕ) (x : MsgId) (mark : Mark) → same x (numbered origin (k + 1)) ≡ false → is_next origin.number k (entry_of x mark) ≡ false
 not_next origin k x mark h = ap (λ b. (came_up mark && not (was_delivered mark)) && b) h ∙ and-false (came_up mark && not (was_delivered mark))
 
--- the next message is this one
+-- the next message has this origin and number
 pub next_is : (origin : NodeId) (k : ℕ) (m : MsgId) (mark : Mark) → is_next origin.number k (entry_of m mark) ≡ true → m ≡ numbered origin (k + 1)
 next_is origin k m mark h = same-true m (numbered origin (k + 1)) (and_right (came_up mark && not (was_delivered mark)) (same m (numbered origin (k + 1))) h)
 
@@ -34,11 +34,11 @@ waits Missing h = absurd (cc)
 waits Waiting h = refl
 waits Delivered h = absurd (cc)
 
--- and it waits
+-- the next message waits
 pub next_waits : (origin : NodeId) (k : ℕ) (m : MsgId) (mark : Mark) → is_next origin.number k (entry_of m mark) ≡ true → mark ≡ Waiting
 next_waits origin k m mark h = waits mark (and_left (came_up mark && not (was_delivered mark)) (same m (numbered origin (k + 1))) h)
 
--- a place without a mark has no next message
+-- the next message is at a position with a mark
 pub next_within : (ms : List MsgId) (ks : List Mark) (origin : NodeId) (k p : ℕ) → is_next origin.number k (entry_of (message_at ms p) (get_or ks p Missing)) ≡ true → p < length ks
 next_within ms ks origin k p h =
     elim (nat_lt p (length ks)) as (λ b. nat_lt p (length ks) ≡ b → p < length ks) [
@@ -49,7 +49,7 @@ next_within ms ks origin k p h =
           absurd (cc)
     ] refl
 
--- the place of the next message
+-- the next message at a position is at the first such position
 pub next_place : (ms : List MsgId) (ks : List Mark) (origin : NodeId) (k p : ℕ) → all_differ ms ≡ true → p < length ms → is_next origin.number k (entry_of (message_at ms p) (get_or ks p Missing)) ≡ true
     → IsPlace (is_next origin.number k) (marked ms ks) (Some p)
 next_place ms ks origin k p differ lt h =
@@ -63,11 +63,11 @@ next_place ms ks origin k p differ lt h =
       first_there entry_of ms ks p (is_next origin.number k) (λ x j other. not_next origin k x j (ap (same x) (sym is) ∙ other)) differ lt,
     )
 
--- where the next message has no place, none is next
+-- where the index lacks the next message, no entry is the next one
 pub none_next : (ms : List MsgId) (ks : List Mark) (origin : NodeId) (k : ℕ) → is_in ms (numbered origin (k + 1)) ≡ false → list_any (is_next origin.number k) (marked ms ks) ≡ false
 none_next ms ks origin k none = found_nowhere entry_of (numbered origin (k + 1)) (is_next origin.number k) (λ x j other. not_next origin k x j other) ms ks none
 
--- where it does not wait at its place, none is next
+-- where the message at its position is not waiting, no entry is the next one
 pub not_next_there : (ms : List MsgId) (ks : List Mark) (origin : NodeId) (k p : ℕ) → all_differ ms ≡ true → p < length ms → message_at ms p ≡ numbered origin (k + 1)
     → is_next origin.number k (entry_of (message_at ms p) (get_or ks p Missing)) ≡ false → list_any (is_next origin.number k) (marked ms ks) ≡ false
 not_next_there ms ks origin k p differ lt is h =
@@ -89,7 +89,7 @@ paired_short ms ks p lt =
     no_longer (m ∷ ms) [] = omega arith
     no_longer (m ∷ ms) (k ∷ ks) = let h = no_longer ms ks in omega (arith, h)
 
--- its place is one of the index
+-- the position of the next message is within the index
 pub next_within_place : (ms : List MsgId) (ks : List Mark) (origin : NodeId) (k p : ℕ) → IsPlace (is_next origin.number k) (marked ms ks) (Some p) → p < length ms
 next_within_place ms ks origin k p here =
     elim (nat_lt p (length ms)) as (λ b. nat_lt p (length ms) ≡ b → p < length ms) [
@@ -102,7 +102,7 @@ next_within_place ms ks origin k p here =
     no_more (m ∷ ms) [] = omega arith
     no_more (m ∷ ms) (k ∷ ks) = let h = no_more ms ks in omega (arith, h)
 
--- the next message of an origin is handed up
+-- the entries and the counts after the next message of an origin is released
 module _ (ms : List MsgId) (ks : List Mark) (origin : NodeId) (k p : ℕ) (lt : p < length ms) (here : IsPlace (is_next origin.number k) (marked ms ks) (Some p)) where
   es : List Entry
   es = marked ms ks

@@ -1,4 +1,4 @@
--- A fifo hands up each origin's messages as 1, 2, 3, ..
+-- A fifo delivers each origin's messages as 1, 2, 3, ..
 use Rattle.gb_types.specs.Common.{◌≡◌, ℕ, ◌+◌, Bool, true, false, cond, not, ◌&&◌, ◌||◌, nat_eq, List, [], ◌∷◌, ◌++◌, length, map, filter, refl, ap, ◌∙◌, sym, arith, zero, suc, append_assoc, list_any, and-true, and-false, eqb-true, append-nil, map-append, filter-append}
 use Rattle.gb_types.specs.declared.message.MsgId.{MsgId}
 use Rattle.gb_types.proofs.BoolLemmas.{and_left, and_right}
@@ -23,7 +23,7 @@ messages-append us vs = map-append (λ (u : Up). u.m) us vs
 pub next_origin : (s k : ℕ) (e : Entry) → is_next s k e ≡ true → e.m.origin.number ≡ s
 next_origin s k e h = eqb-true e.m.origin.number s (and_left (nat_eq e.m.origin.number s) _ (and_right (e.here && not e.given) _ h))
 
--- and has the next number
+-- the next message of an origin has the next number
 pub next_seq : (s k : ℕ) (e : Entry) → is_next s k e ≡ true → e.m.seq ≡ k + 1
 next_seq s k e h = eqb-true e.m.seq (k + 1) (and_right (nat_eq e.m.origin.number s) _ (and_right (e.here && not e.given) _ h))
 
@@ -31,7 +31,7 @@ one_number : (b : Bool) (m : MsgId) → map (λ (m : MsgId). m.seq) (cond b (m �
 one_number true m = refl
 one_number false m = refl
 
--- the number that is handed up
+-- the number of the message that is released
 picked_number : (q s k : ℕ) (es : List Entry) → numbers_of q (messages (pick (is_next s k) es)) ≡ cond (nat_eq s q && list_any (is_next s k) es) ((k + 1) ∷ []) []
 picked_number q s k [] = ap (λ b. cond b ((k + 1) ∷ []) []) (sym (and-false (nat_eq s q)))
 picked_number q s k (e ∷ es) =
@@ -43,7 +43,7 @@ picked_number q s k (e ∷ es) =
       | false ↦ λ _. picked_number q s k es
     ] refl
 
--- how many were handed up then
+-- the number of released messages after one more may be released
 pub more_given : (q s k : ℕ) (es : List Entry) → given_of q (give (is_next s k) es) ≡ given_of q es + cond {A = ℕ} (nat_eq s q && list_any (is_next s k) es) 1 0
 more_given q s k [] = let e : cond {A = ℕ} (nat_eq s q && false) 1 0 ≡ 0 = ap (λ b. cond {A = ℕ} b 1 0) (and-false (nat_eq s q)) in omega (arith, e)
 more_given q s k (e ∷ es) =
@@ -70,7 +70,7 @@ step_numbers q s es =
     ∙ (one_more (nat_eq s q && list_any (is_next s k) es) (given_of q es) k (λ h. ap (λ n. given_of n es) (sym (eqb-true s q (and_left (nat_eq s q) _ h))))
     ∙ ap upto (sym (more_given q s k es)))
 
--- one list after the other
+-- the numbers of one list are followed by those of another one
 joined : (q : ℕ) (us vs : List Up) (xs ys zs : List ℕ) → xs ++ numbers_of q (messages us) ≡ ys → ys ++ numbers_of q (messages vs) ≡ zs → xs ++ numbers_of q (messages (us ++ vs)) ≡ zs
 joined q us vs xs ys zs a b =
     ap (λ l. xs ++ l) (ap (numbers_of q) (messages-append us vs) ∙ numbers-append q (messages us) (messages vs))
@@ -82,11 +82,11 @@ released_numbers q s (suc n) es =
     let es' = give (next_of s es) es in
     joined q (pick (next_of s es) es) (released_ups s n es') (upto (given_of q es)) (upto (given_of q es')) (upto (given_of q (released s n es'))) (step_numbers q s es) (released_numbers q s n es')
 
--- a mark that a message came up keeps the counts
+-- marking that the layer below delivered a message keeps the counts
 pub given_brought : (q : ℕ) (m : MsgId) (es : List Entry) → given_of q (map (brought m) es) ≡ given_of q es
 given_brought q m es = count_by-map (is_given_of q) (brought m) (brought_same (is_given_of q) m (λ e. refl)) es
 
--- the numbers of an origin that come up follow those that came up
+-- the numbers of an origin that are newly released follow those that were released before
 pub taken_one_numbers : (q : ℕ) (m : MsgId) (es : List Entry) → upto (given_of q es) ++ numbers_of q (messages (taken_one_ups m es)) ≡ upto (given_of q (taken_one m es))
 taken_one_numbers q m es =
     ap (λ n. upto n ++ numbers_of q (messages (taken_one_ups m es))) (sym (given_brought q m es)) ∙ released_numbers q m.origin.number (length es) (map (brought m) es)
@@ -107,7 +107,7 @@ module _ {S : Type 0} (next : S → Call → S) (gives : S → Call → Gives) (
   abbrev G : FifoState S → Call → Gives
   G = fifo_gives next gives
 
-  -- the numbers of an origin that came up are 1 to the count of those that are marked
+  -- the released numbers of an origin are 1 to the count of its marked entries
   all_numbers : (q : ℕ) (past : List Call) → numbers_of q (messages (all_ups N G s past)) ≡ upto (given_of q (after N s past).entries)
   all_numbers q [] = ap (λ es. upto (given_of q es)) (sym new)
   all_numbers q (c ∷ past) =
@@ -115,7 +115,7 @@ module _ {S : Type 0} (next : S → Call → S) (gives : S → Call → Gives) (
       joined q (all_ups N G s past) (G r c).ups [] (upto (given_of q r.entries)) (upto (given_of q (N r c).entries)) (all_numbers q past)
       (ap (λ n. upto n ++ numbers_of q (messages (G r c).ups)) (sym (given_noted q c r.entries)) ∙ taken_numbers q (gives r.lower c).ups (noted_by c r.entries))
 
-  -- each origin's messages come up as 1, 2, 3, ..
+  -- each origin's messages are delivered as 1, 2, 3, ..
   pub one_two_three : (past : List Call) → RunsFromOne (messages (all_ups (fifo_next next gives) (fifo_gives next gives) s past))
   one_two_three past q =
       let k = all_numbers q past in

@@ -1,4 +1,4 @@
--- The words of the order: numbers from 1 on, and the greatest number that stands without a gap.
+-- The terms of the order: numbers from 1 on, and the greatest number up to which all are in a list.
 use Rattle.gb_types.specs.Common.{◌≡◌, ℕ, max, ◌+◌, ◌<◌, ◌≤◌, Bool, true, false, cond, ◌||◌, nat_lt, List, [], ◌∷◌, ◌++◌, length, map, take, drop, get_or, ◌-◌, refl, ap, ◌∙◌, arith, zero, suc, append_assoc, add-one, sym, prefix_len, range_with_len, drop-append_seam, nat_tests, append-nil, drop_all, drop-append-le, map-append, take_more, prefix_len-le-length, prefix_len_passes, prefix_len_stops, same}
 use Rattle.std.proofs.lemmas.List.FromFn.{length-range_with_len, get_or-range_with_len}
 use Rattle.gb_types.specs.declared.{node.NodeId.NodeId, message.MsgId.MsgId}
@@ -12,14 +12,14 @@ range_more a (suc n) =
     let e : a + suc n ≡ (a + 1) + n = omega arith in
     ap (λ xs. a ∷ xs) (ap (λ j. range_with_len (a + 1) n ++ j ∷ []) e ∙ range_more (a + 1) n)
 
--- one more number
+-- the numbers up to one more
 pub upto_more : (n : ℕ) → upto n ++ (n + 1) ∷ [] ≡ upto (n + 1)
 upto_more n = ap (λ j. upto n ++ j ∷ []) (let e : n + 1 ≡ 1 + n = omega arith in e) ∙ (range_more 1 n ∙ ap upto (sym (add-one n)))
 
 pub length_upto : (n : ℕ) → length (upto n) ≡ n
 length_upto n = length-range_with_len 1 n
 
--- what follows the numbers 1 to k
+-- the list that follows the numbers 1 to k
 pub drop_upto : (k : ℕ) (ys zs : List ℕ) → upto k ++ ys ≡ zs → ys ≡ drop k zs
 drop_upto k ys zs h = sym (drop-append_seam (upto k) ys) ∙ (λ i. drop (length_upto k i) (h i))
 
@@ -48,12 +48,12 @@ prefix_is p k (suc n) i a b f g =
     ] refl
 
 module _ (origin : NodeId) (delivered : List MsgId) where
-  -- numbers that all stand there are no more than the greatest
+  -- if the messages 1 to k are all in the list, k is at most the greatest number
   most : (k : ℕ) → ((j : ℕ) → j < k → is_in delivered (numbered origin (j + 1)) ≡ true) → k ≤ greatest delivered
   most zero f = omega arith
   most (suc n) f = let a : n + 1 ≤ greatest delivered = in_greatest delivered (numbered origin (n + 1)) (f n (omega arith)) in omega (arith, a)
 
-  -- the top is the number up to which all stand there, while the next does not
+  -- the top is k if the messages 1 to k are in the list and the next one is not
   pub top_is : (k : ℕ) → ((j : ℕ) → j < k → is_in delivered (numbered origin (j + 1)) ≡ true) → is_in delivered (numbered origin (k + 1)) ≡ false → top origin delivered ≡ k
   top_is k f g =
       let a = most k f in
@@ -61,7 +61,7 @@ module _ (origin : NodeId) (delivered : List MsgId) where
       let e : 0 + prefix_len p (range_with_len 1 (greatest delivered)) ≡ k = prefix_is p k (greatest delivered) 0 (omega arith) (omega (arith, a)) f g in
       omega (arith, e)
 
-  -- each up to the top stands there
+  -- each message up to the top is in the list
   pub stands : (seq : ℕ) → 1 ≤ seq → seq ≤ top origin delivered → is_in delivered (numbered origin seq) ≡ true
   stands seq some below =
       let p = λ (n : ℕ). is_in delivered (numbered origin n) in
@@ -73,7 +73,7 @@ module _ (origin : NodeId) (delivered : List MsgId) where
       let at : get_or (range_with_len 1 last) j 0 ≡ seq = get_or-range_with_len 1 last j 0 (omega (arith, l, e, lt)) ∙ omega (arith, some) in
       ap p (sym at) ∙ prefix_len_passes p (upto last) j 0 lt
 
-  -- the one after it does not
+  -- the message after the top is not in the list
   pub ends : is_in delivered (numbered origin (top origin delivered + 1)) ≡ false
   ends =
       let p = λ (n : ℕ). is_in delivered (numbered origin n) in
@@ -93,7 +93,7 @@ module _ (origin : NodeId) (delivered : List MsgId) where
             ] refl
       ] refl
 
--- one more number that stands there
+-- a prefix that passes a test is longer by a further number that passes
 pub counted_more : (p : ℕ → Bool) (k last n : ℕ) → k < last → p (k + 1) ≡ true → k + prefix_len p (range_with_len (k + 1) (last - k)) ≡ n → (k + 1) + prefix_len p (range_with_len ((k + 1) + 1) (last - (k + 1))) ≡ n
 counted_more p k last n lt h is =
     let rest = prefix_len p (range_with_len ((k + 1) + 1) (last - (k + 1))) in
@@ -105,11 +105,11 @@ counted_more p k last n lt h is =
 pub drop_short : (k n : ℕ) → n ≤ k → drop k (upto n) ≡ []
 drop_short k n h = drop_all k (upto n) (let e = length_upto n in omega (arith, e, h))
 
--- messages are added one by one: none yet
+-- no message was added at the start
 pub added_none : (origin : NodeId) (from : ℕ) (given : List MsgId) → given ≡ given ++ map (numbered origin) (drop from (upto from))
 added_none origin from given = sym (append-nil given) ∙ ap (λ xs. given ++ map (numbered origin) xs) (sym (drop_short from from (omega arith)))
 
--- one more
+-- one more message is added
 pub added_more : (origin : NodeId) (from k : ℕ) (first given given' : List MsgId) → from ≤ k → given ≡ first ++ map (numbered origin) (drop from (upto k)) → given' ≡ given ++ numbered origin (k + 1) ∷ []
     → given' ≡ first ++ map (numbered origin) (drop from (upto (k + 1)))
 added_more origin from k first given given' le is new =
@@ -120,7 +120,7 @@ added_more origin from k first given given' le is new =
     ∙ (append_assoc first (map (numbered origin) xs) (numbered origin (k + 1) ∷ [])
     ∙ ap (λ ys. first ++ ys) (sym (map-append (numbered origin) xs ((k + 1) ∷ [])) ∙ ap (map (numbered origin)) (sym e))))
 
--- all of them
+-- all messages are added
 pub added_all : (origin : NodeId) (from to k : ℕ) (first given : List MsgId) → to ≤ k → k ≤ max from to → given ≡ first ++ map (numbered origin) (drop from (upto k)) → given ≡ first ++ map (numbered origin) (drop from (upto to))
 added_all origin from to k first given le most is =
     is ∙ ap (λ xs. first ++ map (numbered origin) xs)
@@ -133,14 +133,14 @@ added_all origin from to k first given le most is =
           let eq : k ≡ to = omega (arith, no_less, le, most) in ap (λ n. drop from (upto n)) eq
     ] refl)
 
--- the order grows at its end
+-- later messages only add to the end of the order
 pub ordered_append : (earlier xs ys : List MsgId) → ordered_after earlier (xs ++ ys) ≡ ordered_after earlier xs ++ ordered_after (earlier ++ xs) ys
 ordered_append earlier [] ys = ap (λ e. ordered_after e ys) (sym (append-nil earlier))
 ordered_append earlier (x ∷ xs) ys =
     ap (λ l. given_at earlier x ++ l) (ordered_append (earlier ++ x ∷ []) xs ys ∙ ap (λ e. ordered_after (earlier ++ x ∷ []) xs ++ ordered_after e ys) (append_assoc earlier (x ∷ []) xs))
     ∙ sym (append_assoc (given_at earlier x) (ordered_after (earlier ++ x ∷ []) xs) (ordered_after (earlier ++ x ∷ xs) ys))
 
--- one more message is delivered
+-- the order after one more message is delivered
 pub order_more : (delivered given given' : List MsgId) (i from to : ℕ) (m : MsgId) → i < length delivered → m ≡ get_or delivered i m → given ≡ in_order (take i delivered)
     → from ≡ top m.origin (take i delivered) → to ≡ top m.origin (take (i + 1) delivered) → given' ≡ given ++ map (numbered m.origin) (drop from (upto to)) → given' ≡ in_order (take (i + 1) delivered)
 order_more delivered given given' i from to m lt at is from_is to_is new =

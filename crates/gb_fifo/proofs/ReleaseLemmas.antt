@@ -1,4 +1,4 @@
--- The next messages of an origin are handed up to a sink, one after the other.
+-- The next messages of an origin are delivered to a sink, one after the other.
 use Rattle.gb_types.specs.Common.{◌≡◌, ℕ, ◌+◌, ◌-◌, ◌<◌, false, List, [], ◌++◌, fold, refl, ap, sym, ◌∙◌, subst, append_assoc, list_any, fold-append}
 use Rattle.gb_types.specs.declared.message.MsgId.{MsgId}
 use Rattle.gb_layer.specs.declared.effects.Up.{Up}
@@ -8,23 +8,23 @@ use Rattle.gb_fifo.specs.Entries.{next_of, give, pick, released_ups}
 use Rattle.gb_fifo.proofs.PlacedLemmas.{released_ups_more, released_ups_done}
 use Rattle.gb_fifo.specs.Ordered.{HasRoomFor, then_many}
 
--- the pairs of one time, and those of the others
+-- the pairs of one release, followed by those of the others, are all pairs
 parts : (s a i : ℕ) (es es' : List Entry) → i < a → es' ≡ give (next_of s es) es → pick (next_of s es) es ++ released_ups s (a - (i + 1)) es' ≡ released_ups s (a - i) es
 parts s a i es es' lt new = released_ups_more s a i es es' [] (pick (next_of s es) es) (released_ups s (a - i) es) lt new refl refl
 
--- where nothing is next, there are no others
+-- where no entry is next, nothing more is released
 pub no_parts : (s n : ℕ) (es : List Entry) → list_any (next_of s es) es ≡ false → pick (next_of s es) es ≡ released_ups s n es
 no_parts s n es none = released_ups_done s n es [] (pick (next_of s es) es) (released_ups s n es) none refl refl
 
 module _ {S : Type 0} (sent : S → MsgId → S) (risen : S → Up → S) (takes : S → Gives → Type 0) (law : SplitsRoom sent risen takes) where
-  -- room for the first
+  -- a sink with room for all pairs has room for the first ones
   pub first_room : (t : S) (us vs all : List Up) → us ++ vs ≡ all → HasRoomFor takes t [] all → HasRoomFor takes t [] us
   first_room t us vs all is h = record {
     more = vs ++ h.more;
     room = subst (λ (xs : List Up). takes t (ups_alone xs)) (ap (λ xs. xs ++ h.more) (sym is) ∙ append_assoc us vs h.more) h.room;
   }
 
-  -- and then for the others
+  -- a sink with room for all pairs has room for the others after the first ones
   pub then_room : (t : S) (us vs all : List Up) → us ++ vs ≡ all → HasRoomFor takes t [] all → HasRoomFor takes (fold risen t us) [] vs
   then_room t us vs all is h = record {
     more = h.more;

@@ -1,4 +1,4 @@
--- The messages that have entries, and the number of those that were handed up.
+-- The messages that have entries, and the number of those that were released.
 use Rattle.std.proofs.Common.{◌≡◌, ℕ, ◌+◌, Bool, true, false, cond, not, ◌&&◌, List, [], ◌∷◌, length, map, count_by, refl, ap, ◌∙◌, arith, zero, suc}
 use Rattle.std.specs.List.{list_any, AllByRecursion}
 use Rattle.std.proofs.Math.Bool.{and-true, and-false}
@@ -13,7 +13,7 @@ use Rattle.gb_fifo.specs.Entries.{is_for, blank, noted_by, brought, brought_entr
 abbrev pub keys : List Entry → List MsgId
 keys = map (λ e. e.m)
 
--- a mark that a message came up keeps all else
+-- a field of an entry that ignores deliveries from below stays as a message is delivered
 pub brought_same : {A : Type 0} (p : Entry → A) (x : MsgId) → ((e : Entry) → p (brought_entry e) ≡ p e) → (e : Entry) → p (brought x e) ≡ p e
 brought_same p x k e = elim (is_for x e) as (λ b. p (cond b (brought_entry e) e) ≡ p e) [ true ↦ k e | false ↦ refl ]
 
@@ -36,23 +36,23 @@ pub keys_taken : (us : List Up) (es : List Entry) → keys (taken us es) ≡ key
 keys_taken [] es = refl
 keys_taken (u ∷ us) es = keys_taken us (taken_one u.m es) ∙ keys_taken_one u.m es
 
--- the entries stay those of the first mentions
+-- the entries have the messages of the calls, in the order of first mention, also after one more call
 pub keys_noted_by : (c : Call) (past : List Call) (es : List Entry) → keys es ≡ first_mentions past → keys (noted_by c es) ≡ first_mentions (c ∷ past)
 keys_noted_by (Say m) past es k = keys_noted (λ e. e.m) past es (blank m) k
 keys_noted_by (Came p m) past es k = keys_noted (λ e. e.m) past es (blank m) k
 keys_noted_by (Notice q) past es k = k
 
--- the entry is of m, and was handed up
+-- the entry is of m, and was released
 abbrev pub given_for : MsgId → Entry → Bool
 given_for m e = is_for m e && e.given
 
--- the count of a test that fails for a new entry stays
+-- the number of entries that pass a test stays, if a new entry fails the test
 pub count_noted_by : (p : Entry → Bool) → ((m : MsgId) → p (blank m) ≡ false) → (c : Call) (es : List Entry) → count_by p (noted_by c es) ≡ count_by p es
 count_noted_by p f (Say m) es = count_by-grown p (list_any (is_for m) es) es (blank m) (f m)
 count_noted_by p f (Came q m) es = count_by-grown p (list_any (is_for m) es) es (blank m) (f m)
 count_noted_by p f (Notice q) es = refl
 
--- each entry that is handed up now was not handed up before
+-- the entries that a release newly marks are those that it delivers
 given_give : (p : Entry → Bool) → ((e : Entry) → p e ≡ true → e.given ≡ false) → (es : List Entry) (m : MsgId) → count_by (given_for m) es + count_by (is_of m) (pick p es) ≡ count_by (given_for m) (give p es)
 given_give p new [] m = refl
 given_give p new (e ∷ es) m =
@@ -73,7 +73,7 @@ new_of true true b h = cc
 new_of true false b h = refl
 new_of false g b h = cc
 
--- the next message of an origin was not handed up yet
+-- the next message of an origin was not released yet
 pub next_new : (s k : ℕ) (e : Entry) → is_next s k e ≡ true → e.given ≡ false
 next_new s k e h = new_of e.here e.given _ h
 
@@ -89,7 +89,7 @@ given_taken_one x es m =
     let a = given_released x.origin.number (length es) (map (brought x) es) m in
     let b = count_by-map (given_for m) (brought x) (brought_same (given_for m) x (λ e. refl)) es in omega (arith, a, b)
 
--- the number of times that m comes up is the number of times that it is newly marked as handed up
+-- the number of times that m is delivered is the number of times that it is newly marked as released
 pub given_taken : (us : List Up) (es : List Entry) (m : MsgId) → count_by (given_for m) es + count_by (is_of m) (taken_ups us es) ≡ count_by (given_for m) (taken us es)
 given_taken [] es m = omega arith
 given_taken (u ∷ us) es m =
@@ -97,7 +97,7 @@ given_taken (u ∷ us) es m =
     let b = given_taken us (taken_one u.m es) m in
     let c = count_by-append (is_of m) (taken_one_ups u.m es) (taken_ups us (taken_one u.m es)) in omega (arith, a, b, c)
 
--- each pair that comes up came from the message's origin
+-- the pair came from the message's origin
 abbrev IsOwn : Up → Type 0
 IsOwn u = u.via.number ≡ u.m.origin.number
 

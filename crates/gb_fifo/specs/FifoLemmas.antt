@@ -19,7 +19,7 @@ module _ {S : Type 0} (next : S → Call → S) (gives : S → Call → Gives) w
   pub fifo_own : ComesFromItsOrigin (fifo_gives next gives)
   fifo_own s c = own_taken (gives s.lower c).ups (noted_by c s.entries)
 
-  -- the layer below takes the same calls
+  -- the layer below has taken the same calls
   pub lower_after : (s : FifoState S) (past : List Call) → (after (fifo_next next gives) s past).lower ≡ after next s.lower past
   lower_after s [] = refl
   lower_after s (c ∷ past) = ap (λ r. next r c) (lower_after s past)
@@ -28,7 +28,7 @@ module _ {S : Type 0} (next : S → Call → S) (gives : S → Call → Gives) w
   fifo_sends s [] = refl
   fifo_sends s (c ∷ past) = λ i. fifo_sends s past i ++ (gives (lower_after s past i) c).sends
 
-  -- the entries are of the first mentions
+  -- the entries have the messages of the calls, in the order of first mention
   pub keys_after : (s : FifoState S) → s.entries ≡ [] → (past : List Call) → keys (after (fifo_next next gives) s past).entries ≡ first_mentions past
   keys_after s es [] = ap keys es
   keys_after s es (c ∷ past) =

@@ -10,16 +10,16 @@ pub record FifoState (S : Type 0) : Type 0 where
   pub lower : S
   pub entries : List Entry
 
--- no call was made to the fifo or to the layer below
+-- neither the fifo nor the layer below has received a call
 pub record IsNew {S : Type 0} (is_fresh : S → Type 0) (s : FifoState S) : Type 0 where
   pub lower : is_fresh s.lower
   pub entries : s.entries ≡ []
 
 module _ {S : Type 0} (next : S → Call → S) (gives : S → Call → Gives) where
-  -- the state after a call: the layer below takes the call, and the messages that it brings up are received one by one
+  -- the state after a call: the layer below takes the call, and the fifo takes the messages that it delivers, one by one
   abbrev pub fifo_next : FifoState S → Call → FifoState S
   fifo_next s c = record { lower = next s.lower c; entries = taken (gives s.lower c).ups (noted_by c s.entries) }
 
-  -- the effects of a call: what the layer below sends, and of each origin the messages that are newly without a gap
+  -- the effects of a call: what the layer below sends, and of each origin the messages that now follow without a gap
   abbrev pub fifo_gives : FifoState S → Call → Gives
   fifo_gives s c = record { sends = (gives s.lower c).sends; ups = taken_ups (gives s.lower c).ups (noted_by c s.entries) }

@@ -17,11 +17,11 @@ greatest (m ∷ ms) = max m.seq (greatest ms)
 abbrev pub top : NodeId → List MsgId → ℕ
 top origin delivered = prefix_len (λ seq. is_in delivered (numbered origin seq)) (upto (greatest delivered))
 
--- what is handed up when m is delivered after others: of m's origin the messages that are newly without a gap, from the old top to the new one
+-- the messages that are released when m is delivered after others: those of m's origin from the old top to the new one
 abbrev pub given_at : List MsgId → MsgId → List MsgId
 given_at earlier m = map (numbered m.origin) (drop (top m.origin earlier) (upto (top m.origin (earlier ++ m ∷ []))))
 
--- what is handed up when messages are delivered one by one after others
+-- the messages that are released when messages are delivered one by one after others
 abbrev pub ordered_after : List MsgId → List MsgId → List MsgId
 ordered_after earlier [] = []
 ordered_after earlier (m ∷ ms) = given_at earlier m ++ ordered_after (earlier ++ m ∷ []) ms

@@ -10,7 +10,7 @@ use Rattle.gb_fifo.specs.declared.{entry.Entry.Entry, marks.Mark.Mark}
 use Rattle.gb_fifo.specs.Entries.{given_of, taken_one, taken_one_ups, taken, taken_ups}
 use Rattle.gb_fifo.specs.Marks.{marked, AreCounted}
 
--- for each of the first n nodes the count is the number of its messages that were handed up
+-- for each of the first n nodes the count is the number of its messages that the fifo released
 pub counted_below : ℕ → List ℕ → List Entry → Bool
 counted_below zero given es = true
 counted_below (suc n) given es = counted_below n given es && nat_eq (slice_index given n) (given_of n es)
@@ -32,7 +32,7 @@ unfolding counted_below
 counted_to zero given es h = refl
 counted_to (suc n) given es h = and_both (counted_to n given es (λ o lt. h o (omega (arith, lt)))) (eq-eqb (slice_index given n) (given_of n es) (h n (omega arith)))
 
--- no more places have marks than the index has, and the counts are right
+-- there are at most as many marks as messages in the index, and the counts are right
 abbrev pub are_sound : List MsgId → List Mark → List ℕ → Bool
 are_sound ms ks given = not (nat_lt (length ms) (length ks)) && counted_below NODES given (marked ms ks)
 
@@ -45,7 +45,7 @@ sound_counted ms ks given h = counted_from NODES given (marked ms ks) (and_right
 pub sound_from : (ms : List MsgId) (ks : List Mark) (given : List ℕ) → length ks ≤ length ms → AreCounted given (marked ms ks) → are_sound ms ks given ≡ true
 sound_from ms ks given le counted = and_both (ap not (le-ltb (length ms) (length ks) le)) (counted_to NODES given (marked ms ks) counted)
 
--- Which marks and which sink are borrowed, the number of the marks and the memory for them, whether they are sound, their entries, and the sink's state.
+-- the borrowed marks and sink, the number of marks and their memory, whether they are sound, their entries, and the sink's state
 pub record OrderedState (S : Type 0) : Type 0 where
   pub marks_name : ℕ
   pub out_name : ℕ
@@ -61,19 +61,19 @@ pub record HasRoomFor {S : Type 0} (takes : S → Gives → Type 0) (s : S) (sen
   pub room : takes s (record { sends = sends; ups = ups ++ more })
 
 module _ {S : Type 0} where
-  -- marks with other entries, and another state of the borrowed sink
+  -- the state with other entries, and another state of the borrowed sink
   abbrev pub ordered_with : OrderedState S → List Entry → S → OrderedState S
   ordered_with s es t = record { marks_name = s.marks_name; out_name = s.out_name; len = s.len; capacity = s.capacity; sound = s.sound; entries = es; inner = t }
 
-  -- what is sent goes on
+  -- the state after the layer below sends a message: it is sent on
   abbrev pub ordered_sent : (S → MsgId → S) → OrderedState S → MsgId → OrderedState S
   ordered_sent sent s m = ordered_with s s.entries (sent s.inner m)
 
-  -- with a message that comes up, those go on that are newly without a gap
+  -- the state after the layer below delivers a message: the messages that now follow without a gap are delivered
   abbrev pub ordered_risen : (S → Up → S) → OrderedState S → Up → OrderedState S
   ordered_risen risen s u = ordered_with s (taken_one u.m s.entries) (fold risen s.inner (taken_one_ups u.m s.entries))
 
-  -- the marks are sound, and there is room for what goes on
+  -- the marks are sound, and the borrowed sink has room for what is sent and delivered to it
   pub record OrderedTakes (takes : S → Gives → Type 0) (s : OrderedState S) (g : Gives) : Type 0 where
     pub sound : s.sound ≡ true
     pub room : HasRoomFor takes s.inner g.sends (taken_ups g.ups s.entries)
@@ -88,7 +88,7 @@ module _ {S : Type 0} (sent : S → MsgId → S) (risen : S → Up → S) where
   ordered_ups s (u ∷ us) =
       ordered_ups (ordered_risen risen s u) us ∙ ap (ordered_with s (taken us (taken_one u.m s.entries))) (sym (fold-append risen s.inner (taken_one_ups u.m s.entries) (taken_ups us (taken_one u.m s.entries))))
 
-  -- what it makes of the effects of a call
+  -- the state of the sink after the effects of a call
   pub ordered_folded : (s : OrderedState S) (g : Gives)
       → folded (ordered_sent sent) (ordered_risen risen) s g ≡ ordered_with s (taken g.ups s.entries) (folded sent risen s.inner (record { sends = g.sends; ups = taken_ups g.ups s.entries }))
   ordered_folded s g = ap (λ t. fold (ordered_risen risen) t g.ups) (ordered_sends s g.sends) ∙ ordered_ups (ordered_with s s.entries (fold sent s.inner g.sends)) g.ups
@@ -97,14 +97,14 @@ module _ {S : Type 0} (sent : S → MsgId → S) (risen : S → Up → S) where
     same_as : t ≡ ordered_with s (taken g.ups s.entries) (folded sent risen s.inner (record { sends = g.sends; ups = taken_ups g.ups s.entries }))
     same_as = h ∙ ordered_folded s g
 
-    -- what is borrowed is the same after the call
+    -- the same marks and the same sink are borrowed after the call
     pub ordered_marks_name : t.marks_name ≡ s.marks_name
     ordered_marks_name = ap (λ x. x.marks_name) same_as
 
     pub ordered_out_name : t.out_name ≡ s.out_name
     ordered_out_name = ap (λ x. x.out_name) same_as
 
-    -- and so are the number of the marks, the memory for them, and whether they are sound
+    -- the number of marks, their memory, and whether they are sound stay the same
     pub ordered_len : t.len ≡ s.len
     ordered_len = ap (λ x. x.len) same_as
 
@@ -121,7 +121,7 @@ module _ {S : Type 0} (sent : S → MsgId → S) (risen : S → Up → S) where
     ordered_inner = ap (λ x. x.inner) same_as
 
   module _ (takes : S → Gives → Type 0) (law : SplitsRoom sent risen takes) where
-    -- room for some pairs and then for others
+    -- a sink with room for some pairs and then for others has room for the others after the first
     pub then_many : (s : S) (us vs : List Up) → takes s (ups_alone (us ++ vs)) → takes (fold risen s us) (ups_alone vs)
     then_many s [] vs h = h
     then_many s (u ∷ us) vs h = then_many (risen s u) us vs (law.then_ups s u (us ++ vs) h)

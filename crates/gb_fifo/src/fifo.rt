@@ -1,4 +1,4 @@
-//! The layer of first-in first-out order: it hands up the messages of each origin as 1, 2, 3, ..
+//! The layer of first-in first-out order: it delivers the messages of each origin as 1, 2, 3, ..
 ghost use Rattle.std.specs.Prelude.{◌≡◌, ℕ, ◌≤◌, ◌<◌, [], List, length, vec_capacity};
 ghost use Rattle.gb_types.specs.declared.message.MsgId.{MsgId};
 ghost use Rattle.gb_layer.specs.Common.{told, Names, IsNext, MayTake, told_after};
@@ -14,11 +14,11 @@ use gb_layer::{Bounded, Broadcast, Index, Lawful, Layer, PlacedCall, Room, Sink}
 use gb_types::{NodeId, OutOfMemory};
 use std::alloc::Global;
 
-/// Hands up each origin's messages in the order 1, 2, 3, .. (Hadzilacos, Toueg 1994; Cachin, Guerraoui, Rodrigues 2011, Broadcast
-/// with Sequence Number). A message that the layer below brings up waits until the messages before it have come up. Everything else
-/// is done by the layer below, which takes the same calls.
+/// Delivers each origin's messages in the order 1, 2, 3, .. (Hadzilacos, Toueg 1994; Cachin, Guerraoui, Rodrigues 2011, Broadcast
+/// with Sequence Number). A message that the layer below delivers waits until it has delivered the messages before it. The layer
+/// below does everything else, and takes the same calls.
 ///
-/// It keeps a mark of one byte for each message, and for each origin the number of its messages that were handed up.
+/// It keeps a mark of one byte for each message, and for each origin the number of its messages that it delivered.
 #[derive(Drop)]
 pub struct Fifo<L> {
     lower: L,
@@ -28,7 +28,7 @@ pub struct Fifo<L> {
 impl<L: Layer> Fifo<L> {
     ghost use Rattle.gb_fifo.specs.FifoMarks.{FifoKnows};
 
-    /// Returns a first-in first-out layer over `lower`. It was told no place.
+    /// Returns a first-in first-out layer over `lower`. It has received no message.
     pub fn new(alloc: Global, lower: L) -> Fifo<L>
         ensures meaning { (ms : List MsgId) → ⟦<Fifo<L> as Layer>⟧.meaning ms result ≡ record { lower = L.meaning ms lower; entries = [] } }
         ensures fresh { (ms : List MsgId) → L.is_fresh (L.meaning ms lower) → ⟦<Fifo<L> as Layer>⟧.is_fresh (⟦<Fifo<L> as Layer>⟧.meaning ms result) }
@@ -40,7 +40,7 @@ impl<L: Layer> Fifo<L> {
         }
     }
 
-    /// Adds a mark for the message of the call, unless it has one.
+    /// Adds a mark for the message of the call, unless the message has one.
     #[inline(always)]
     fn note_call(&mut self, index: &Index, call: PlacedCall)
         requires there { Names (λ p. p < length index.now.list.items) call }

@@ -1,12 +1,12 @@
-//! First in, first out: what it means to hand up each origin's messages in the order of their numbers, 1, 2, 3, .., over any broadcast,
-//! and the layer that does so.
+//! First in, first out: the definition of delivery in the order of each origin's numbers, 1, 2, 3, .., over any broadcast, and the layer
+//! that does so.
 //!
-//! A fifo holds a message back until those before it have come. It sends nothing of its own, and uses a message's own number as its
-//! position in the order. It knows no stack of layers and no group.
+//! A fifo holds a message back until the messages before it have come. It sends nothing of its own, and uses a message's own number as
+//! its position in the order. It knows no stack of layers and no group.
 //!
 //! Read specs/Order.antt first: it defines the order. `order` has its laws, and `plain` computes it slowly, straight from its definition.
 //! specs/FifoMachine.antt has the states, steps and effects of the layer. `fifo::Fifo` runs it, over any layer of gb_layer, and keeps its
-//! `marks::Marks` of the messages by place. `laws` says that each fifo keeps the order.
+//! `marks::Marks` of the messages by their positions in the index. The laws of `laws` say that each fifo keeps the order.
 #![tactic(auto)]
 
 pub mod entry;

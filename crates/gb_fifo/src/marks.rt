@@ -1,4 +1,4 @@
-//! The marks of a fifo: what it remembers of the message at each place.
+//! The marks of a fifo: the state of the message at each position of the index.
 ghost use Rattle.std.specs.Prelude.{◌≡◌, ◌≤◌, ◌<◌, ◌&&◌, not, [], length, map, fold, set, get_or, vec_capacity};
 ghost use Rattle.std.specs.List.{list_any};
 ghost use Rattle.gb_layer.specs.Common.{message_at, reached};
@@ -12,19 +12,19 @@ use gb_types::NodeId;
 use gb_types::limits::NODES;
 use std::alloc::Global;
 
-/// What a fifo remembers of a message.
+/// The state of a message in a fifo.
 #[derive(Clone, Copy, PartialEq, Eq)]
 pub enum Mark {
-    /// The layer below has not brought it up.
+    /// The layer below has not delivered it.
     Missing,
-    /// It came up, and waits for those before it.
+    /// The layer below delivered it, and it waits for those before it.
     Waiting,
-    /// It was handed up.
+    /// The fifo delivered it.
     Delivered,
 }
 
-/// The mark of the message at each place, and for each origin the number of its messages that were handed up, which is the number of
-/// the last one.
+/// The mark of the message at each position, and for each origin the number of its messages that the fifo delivered, which is the number
+/// of the last one.
 #[derive(Drop)]
 pub struct Marks {
     pub list: Vec<Mark>,
@@ -32,7 +32,7 @@ pub struct Marks {
 }
 
 impl Marks {
-    /// Returns no marks.
+    /// Returns the marks of no messages.
     pub fn new(alloc: Global) -> Marks
         ensures list { result.list.items ≡ [] }
         ensures counted { AreCounted result.given [] }
@@ -44,7 +44,7 @@ impl Marks {
     }
 }
 
-/// Returns the mark of a message that comes up, from the mark that it had.
+/// Returns the mark of a message after the layer below delivered it, from the mark before.
 fn come_up(mark: Mark) -> Mark
     ensures { result ≡ come_up mark }
 {
@@ -77,7 +77,7 @@ pub(crate) fn note(marks: &mut Marks, index: &Index, place: u16)
     }
 }
 
-/// Records that the message at `place` came up. A message without a mark is not recorded.
+/// Records that the layer below delivered the message at `place`. Does nothing if that message has no mark.
 fn bring(marks: &mut Marks, index: &Index, place: u16)
     requires { place < length index.now.list.items }
     ensures entries { marked index.now.list.items marks.new.list.items ≡ map (brought (message_at index.now.list.items place)) (marked index.now.list.items marks.old.list.items) }
@@ -104,8 +104,8 @@ fn is_next_at(list: &[Mark], index: &Index, origin: NodeId, count: u16, place: u
     is_waiting(list[at]) && (m.origin == origin && (m.seq != 0 && m.seq - 1 == count))
 }
 
-/// Returns the place of message `count + 1` of the origin, if that message waits. Tries the place `first` before it asks
-/// the index.
+/// Returns the position of message `count + 1` of the origin, if that message waits. Tries position `first` before it searches the
+/// index.
 fn find_next(list: &[Mark], index: &Index, origin: NodeId, count: u16, first: u16) -> Option<u16>
     requires { first < length index.now.list.items }
     ensures { IsPlace (is_next origin.number count) (marked index.now.list.items list.now) result }
@@ -124,7 +124,7 @@ fn find_next(list: &[Mark], index: &Index, origin: NodeId, count: u16, first: u1
     }
 }
 
-/// Marks the message at `place` as handed up, and as the last one of its origin that was.
+/// Marks the message at `place` as delivered by the fifo, and sets the count of its origin to `seq`, its number.
 fn give_at(marks: &mut Marks, origin: NodeId, place: u16, seq: u16)
     requires { place < length marks.old.list.items }
     ensures list { marks.new.list.items ≡ set marks.old.list.items place Delivered }
@@ -137,8 +137,8 @@ fn give_at(marks: &mut Marks, origin: NodeId, place: u16, seq: u16)
     marks.given[node] = seq;
 }
 
-/// Hands up the next message of an origin, if it waits. Returns true if it does. The message at the place
-/// `first` is tried before the index is asked.
+/// Delivers the next message of an origin to the sink, if it waits. Returns true if it does. It tries the message at position `first`
+/// before it searches the index.
 #[inline(always)]
 fn give_next<O: Sink>(
     marks: &mut Marks,
@@ -173,8 +173,8 @@ fn give_next<O: Sink>(
     }
 }
 
-/// Hands up the next messages of an origin, as long as the next one waits. For each of them the message at the
-/// place `first` is tried before the index is asked.
+/// Delivers the next messages of an origin to the sink, as long as the next one waits. For each of them it tries the message at position
+/// `first` before it searches the index.
 #[inline(always)]
 fn release<O: Sink>(marks: &mut Marks, index: &Index, origin: NodeId, first: u16, out: &mut O)
     requires there { first < length index.now.list.items }
@@ -198,8 +198,8 @@ fn release<O: Sink>(marks: &mut Marks, index: &Index, origin: NodeId, first: u16
     }
 }
 
-/// Receives the message at `place`, which the layer below brought up: hands up the messages of its origin that are newly without a
-/// gap.
+/// Takes the message at `place`, which the layer below delivered. Delivers to the sink the messages of its origin that now follow
+/// without a gap.
 #[inline(always)]
 pub(crate) fn take_one<O: Sink>(marks: &mut Marks, index: &Index, place: u16, out: &mut O)
     requires there { place < length index.now.list.items }

@@ -9,7 +9,7 @@ use crate::marks::{Marks, take_one};
 use gb_layer::{Index, Layer, PlacedCall, Sink};
 use gb_types::NodeId;
 
-/// Passes on each send. Of what comes up it passes on, with each message, those of its origin that are newly without a gap.
+/// Passes on each send. For each delivered message it passes on those of its origin that now follow without a gap.
 #[derive(Drop)]
 struct Ordered<'a, O> {
     marks: &'a mut Marks,
@@ -40,7 +40,7 @@ impl<'a, O: Sink> Sink for Ordered<'a, O> {
     ghost splits = { ordered_splits O.sent O.risen O.takes O.splits };
 }
 
-/// Makes a call of the layer below. Hands up what it brings up in the order of each origin.
+/// Makes a call of the layer below. Passes what it delivers on to the sink, in the order of each origin.
 #[inline(always)]
 pub(crate) fn take_ordered<L: Layer, O: Sink>(
     lower: &mut L,

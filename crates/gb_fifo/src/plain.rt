@@ -36,7 +36,7 @@ fn top(origin: NodeId, delivered: &[MsgId]) -> u16
     k
 }
 
-/// Adds the origin's messages after the one numbered `from`, up to the one numbered `to`.
+/// Appends to `given` the origin's messages after the one numbered `from`, up to the one numbered `to`.
 fn add_numbered(
     given: &mut Vec<MsgId>,
     origin: NodeId,
@@ -51,9 +51,9 @@ fn add_numbered(
     Ok(())
 }
 
-/// Returns the messages that first-in first-out order hands up, in that order, when `delivered` are delivered one by one: each is held
-/// back until those of its origin with lower numbers were delivered, and those that stay held back are left out. `Err` if memory runs
-/// out.
+/// Returns the messages that first-in first-out order releases, in that order, when `delivered` are delivered one by one. Each message
+/// is held back until those of its origin with lower numbers were delivered. Messages that stay held back are left out. `Err` if memory
+/// runs out.
 pub fn in_order(alloc: Global, delivered: &[MsgId]) -> Result<Vec<MsgId>, OutOfMemory>
     ensures { IfOk result (λ given. given.items ≡ order.in_order delivered.now) }
 {

@@ -31,7 +31,7 @@ texts_tell_items version bytes items t =
     let same = ap length t.parts in
     read_again version (length bytes) bytes items t (omega (arith, headers, same))
 
--- how many items may be asked for does not matter where it is as many as there are bytes
+-- every limit on the number of items that is at least the number of bytes yields the same items
 pub enough_asked : (version : Version) (n m : ℕ) (bytes : List ℕ) → length bytes ≤ n → length bytes ≤ m → items_from version n bytes ≡ items_from version m bytes
 unfolding items_from
 enough_asked version zero m bytes few more = let none = nil_from_length bytes (omega (arith, few)) in ap (items_from version 0) none ∙ sym (ap (items_from version m) none ∙ none_from version m)
@@ -42,7 +42,7 @@ enough_asked version (suc n) (suc m) bytes few more =
       | Some x ↦ λ e. (let less = item_shrinks version PAYLOAD bytes x e in rw e (ap (λ left. x.0 ∷ left) (enough_asked version n m x.1 (omega (arith, few, less)) (omega (arith, more, less)))))
     ] refl
 
--- a batch with no item at the front has none, and else the others stand behind the first
+-- a batch has no item if none is at its front; otherwise the other items follow the first
 pub none_first : (version : Version) (bytes : List ℕ) → item_at version PAYLOAD bytes ≡ None → batch_in version bytes ≡ []
 unfolding items_from
 none_first version [] none = refl
@@ -55,7 +55,7 @@ one_first version (b ∷ bytes) i rest found =
     let less = item_shrinks version PAYLOAD (b ∷ bytes) (i, rest) found in
     rw found (ap (λ left. i ∷ left) (enough_asked version (length bytes) (length rest) rest (omega (arith, less)) (omega arith)))
 
--- so many items that stand there, with nothing behind them, are the batch
+-- if n items are read and no byte is behind them, they are the batch
 pub counted_whole : (version : Version) (n : ℕ) (bytes : List ℕ) (items : List Item) → items_at version PAYLOAD n bytes ≡ Some (items, []) → (n ≡ length (batch_in version bytes)) × (batch_in version bytes ≡ items)
 unfolding items_at
 counted_whole version zero bytes items found =
@@ -78,6 +78,6 @@ counted_whole version (suc n) bytes items found =
           )
     ] refl
 
--- texts are of so many items alone
+-- the same bytes are the texts of one number of items only
 pub one_count : (version : Version) (bytes : List ℕ) (items others : List Item) → AreTexts version bytes items → AreTexts version bytes others → length items ≡ length others
 one_count version bytes items others t u = ap length (sym (texts_tell_items version bytes items t) ∙ texts_tell_items version bytes others u)

@@ -11,7 +11,7 @@ use Rattle.gb_frame.specs.Reading.{faults, version_read, is_magic, parsed, left_
 
 -- ---- the order of the table
 
--- the fault of a number
+-- the fault that has a number
 fault_of : ℕ → PacketFault
 fault_of n = elim n [
   | zero ↦ Short
@@ -55,7 +55,7 @@ fault_of-fault_number Trailing = refl
 fault_of-fault_number TooLong = refl
 fault_of-fault_number Tag = refl
 
--- faults with one number are one
+-- faults with the same number are the same
 one_number : (f g : PacketFault) → fault_number f ≡ fault_number g → f ≡ g
 one_number f g e = sym (fault_of-fault_number f) ∙ ap fault_of e ∙ fault_of-fault_number g
 
@@ -68,7 +68,7 @@ pub faults_numbered : Numbered 1 faults
 unfolding Numbered
 faults_numbered = (refl, (refl, (refl, (refl, (refl, (refl, (refl, (refl, (refl, (refl, tt))))))))))
 
--- the first that passes a test
+-- f is the first fault, among those numbered from n on, that passes a test
 pub record First (p : PacketFault → Bool) (n : ℕ) (f : PacketFault) : Type 0 where
   pub passes : p f ≡ true
   pub earlier : (g : PacketFault) → n ≤ fault_number g → fault_number g < fault_number f → p g ≡ false
@@ -113,9 +113,9 @@ below_eleven Trailing = (omega arith, omega arith)
 below_eleven TooLong = (omega arith, omega arith)
 below_eleven Tag = (omega arith, omega arith)
 
--- ---- each test tells whether its fault holds
+-- ---- each test is true if and only if its fault holds
 
--- what bytes without a fault are
+-- the properties of bytes without a fault
 pub record IsGood (key bytes : List ℕ) : Type 0 where
   pub long : SHORTEST ≤ length bytes
   pub magic : take 2 bytes ≡ codes "GB"

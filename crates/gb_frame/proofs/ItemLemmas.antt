@@ -10,12 +10,12 @@ use Rattle.gb_frame.specs.Reading.{generation_at, item_at, items_at}
 use Rattle.gb_frame.specs.Faults.{Stand}
 use Rattle.gb_frame.proofs.NumberLemmas.{IsBytes-drop, IsBytes-take, wide16, wide32, cut, number_below, number_again}
 
--- what was read at the front, and what is left
+-- the bytes are the text that was read, followed by the rest
 pub record Takes (bytes text rest : List ℕ) : Type 0 where
   pub parts : bytes ≡ text ++ rest
   pub rest_fits : IsBytes rest
 
--- a test that let a value pass
+-- a test that did not reject a value is false, and the value is the result
 passed : {A : Type 0} (b : Bool) (x y : A) → cond b None (Some x) ≡ Some y → (b ≡ false) × (x ≡ y)
 passed true x y e = absurd cc
 passed false x y e = (refl, cc)
@@ -25,20 +25,20 @@ pub record IsWithin (version : Version) (limit : ℕ) (i : Item) : Type 0 where
   pub item : IsItem version i
   pub payload : length i.payload ≤ limit
 
--- the generation of an item that was read can be told
+-- a generation that was read from bytes of the version is one that the version can express
 generation_told : (version : Version) (i : Item) (bytes : List ℕ) → IsBytes bytes → i.generation ≡ generation_at version bytes → HasGeneration version i
 generation_told One i bytes fits is = is
 generation_told Two i bytes fits is = is
 generation_told Three i bytes fits is = let below = number_below w32 (2 ^ 32) wide32 4 bytes fits in omega (arith, below, is)
 
--- the generation's bytes, cut off
+-- the bytes behind the tenant and the group are the generation's text and the last fields
 generation_cut : (version : Version) (bytes : List ℕ) → IsBytes bytes → (limits_of version).item_header ≤ length bytes
     → drop 4 bytes ≡ generation_text version (generation_at version bytes) ++ drop ((limits_of version).item_header - 5) bytes
 generation_cut One bytes fits long = refl
 generation_cut Two bytes fits long = refl
 generation_cut Three bytes fits long = cut w32 (2 ^ 32) wide32 4 bytes fits (omega (arith, long))
 
--- the last fields of a header that ends at a place: the origin, the sequence number and the payload's length
+-- the last fields of a header that ends at an index: the origin, the sequence number and the payload's length
 last_cut : (header : ℕ) (bytes : List ℕ) → IsBytes bytes → 9 ≤ header → header ≤ length bytes
     → drop (header - 5) bytes ≡ get_or bytes (header - 5) 0 ∷ (to_be_bytes w16 (number_at w16 (header - 4) bytes) ++ (to_be_bytes w16 (number_at w16 (header - 2) bytes) ++ drop header bytes))
 last_cut header bytes fits least long =
@@ -52,7 +52,7 @@ last_cut header bytes fits least long =
     ∙ ap (λ t. to_be_bytes w16 (number_at w16 (header - 4) bytes) ++ t) (ap (λ n. drop n bytes) to_len ∙ len
     ∙ ap (λ n. to_be_bytes w16 (number_at w16 (header - 2) bytes) ++ drop n bytes) to_end))
 
--- the fields of an item at the front are its header, and what follows is the rest
+-- the fields of an item at the front are its header, and the bytes behind the header are the rest
 head_cut : (version : Version) (bytes : List ℕ) (i : Item) → IsBytes bytes → (limits_of version).item_header ≤ length bytes
     → i.tenant ≡ number_at w16 0 bytes → i.group ≡ number_at w16 2 bytes → i.generation ≡ generation_at version bytes → i.origin ≡ get_or bytes ((limits_of version).item_header - 5) 0
     → i.seq ≡ number_at w16 ((limits_of version).item_header - 4) bytes → length i.payload ≡ number_at w16 ((limits_of version).item_header - 2) bytes
@@ -104,7 +104,7 @@ item_takes version limit bytes x most fits e =
     ) in
     subst (λ (y : Item × List ℕ). Takes bytes (item_text version y.0) y.1 × IsWithin version limit y.0) p.1 found
 
--- an item takes its header at least
+-- an item takes at least the bytes of its header
 pub item_shrinks : (version : Version) (limit : ℕ) (bytes : List ℕ) (x : Item × List ℕ) → item_at version limit bytes ≡ Some x → 9 + length x.1 ≤ length bytes
 unfolding item_at
 item_shrinks version limit bytes x e =
@@ -118,7 +118,7 @@ item_shrinks version limit bytes x e =
     let after : drop len rest ≡ x.1 = ap (λ (y : Item × List ℕ). y.1) p.1 in
     omega (arith, long, least, ap length after, length-drop len rest, length-drop header bytes)
 
--- the header of an item's text: its length, and what is read off it
+-- the length of the header of an item's text, and the fields that are read from it
 record HeadAgain (version : Version) (i : Item) (rest : List ℕ) : Type 0 where
   pub long : length (item_head version i) ≡ (limits_of version).item_header
   pub generation : generation_at version (item_head version i ++ rest) ≡ i.generation
@@ -131,7 +131,7 @@ head_again One i rest first = record { long = refl; generation = sym first; orig
 head_again Two i rest first = record { long = refl; generation = sym first; origin = refl; seq = refl; len = refl }
 head_again Three i rest fits = record { long = refl; generation = number_again w32 (2 ^ 32) wide32 4 (item_head Three i ++ rest) i.generation fits refl; origin = refl; seq = refl; len = refl }
 
--- what is read off an item's header with its payload behind it
+-- an item is read from its header with its payload behind it
 item_read : (version : Version) (limit : ℕ) (i : Item) (rest : List ℕ) → IsItem version i → length i.payload ≤ limit → item_at version limit (item_head version i ++ (i.payload ++ rest)) ≡ Some (i, rest)
 unfolding item_at
 item_read version limit i rest fits payload =
@@ -153,12 +153,12 @@ item_read version limit i rest fits payload =
 pub item_again : (version : Version) (limit : ℕ) (i : Item) (rest : List ℕ) → IsItem version i → length i.payload ≤ limit → item_at version limit (item_text version i ++ rest) ≡ Some (i, rest)
 item_again version limit i rest fits payload = ap (item_at version limit) (append_assoc (item_head version i) i.payload rest) ∙ item_read version limit i rest fits payload
 
--- an option's value after a step
+-- if an option has a value after a step, it had a value before
 pub then_some : {A B : Type 0} (o : Option A) (f : A → Option B) (y : B) → option_and_then f o ≡ Some y → (x : A) × (o ≡ Some x) × (f x ≡ Some y)
 then_some None f y e = absurd cc
 then_some (Some x) f y e = (x, refl, e)
 
--- no item stands where nothing does
+-- no item is read from no bytes
 pub none_at_end : (version : Version) (limit : ℕ) → item_at version limit [] ≡ None
 unfolding item_at
 none_at_end One limit = refl

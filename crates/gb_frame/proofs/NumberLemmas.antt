@@ -14,7 +14,7 @@ IsBytes-take n bytes h i =
       | inr le ↦ rw (get_or_past (take n bytes) i 0 (omega (arith, length-take n bytes))) (omega arith)
     ]
 
--- a width whose numbers are below a limit
+-- the numbers below a limit are exactly those that are written in the bytes of a width, and they are read back
 pub record IsWide (w : Width) (limit : ℕ) : Type 0 where
   pub len : (n : ℕ) → length (to_be_bytes w n) ≡ byte_len w
   pub back : (bytes : List ℕ) → length bytes ≡ byte_len w → IsBytes bytes → to_be_bytes w (from_be_bytes w bytes) ≡ bytes
@@ -45,7 +45,7 @@ wide64 = record {
   below = λ bytes fits. omega (arith, fits 0, fits 1, fits 2, fits 3, fits 4, fits 5, fits 6, fits 7);
 }
 
--- a number is at the front of what begins at its place
+-- the bytes from an index on begin with the number that is read there
 pub cut : (w : Width) (limit : ℕ) (wide : IsWide w limit) (at : ℕ) (bytes : List ℕ) → IsBytes bytes → at + byte_len w ≤ length bytes → drop at bytes ≡ to_be_bytes w (number_at w at bytes) ++ drop (at + byte_len w) bytes
 unfolding number_at
 cut w limit wide at bytes fits long =
@@ -58,7 +58,7 @@ pub number_below : (w : Width) (limit : ℕ) (wide : IsWide w limit) (at : ℕ) 
 unfolding number_at
 number_below w limit wide at bytes fits = wide.below (take (byte_len w) (drop at bytes)) (IsBytes-take (byte_len w) (drop at bytes) (IsBytes-drop at bytes fits))
 
--- the number whose bytes stand at a place
+-- the number whose bytes begin at an index is read there
 pub number_again : (w : Width) (limit : ℕ) (wide : IsWide w limit) (at : ℕ) (bytes : List ℕ) (n : ℕ) → n < limit → take (byte_len w) (drop at bytes) ≡ to_be_bytes w n → number_at w at bytes ≡ n
 unfolding number_at
 number_again w limit wide at bytes n fits there = rw there (wide.again n fits)

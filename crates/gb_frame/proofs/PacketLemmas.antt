@@ -19,7 +19,7 @@ none_left n = grind (arith, nat_tests)
 within : (a b : ℕ) → nat_le a b ≡ not (nat_lt b a)
 within a b = grind (arith, nat_tests)
 
--- a part of a packet that is right leaves what follows to decide, and one that is wrong is a fault
+-- if a part of a packet is right, the other parts decide; if it is wrong, there is a fault
 part : (t s u : Bool) (f : PacketFault) (o : Option PacketFault) → t ≡ not s → u ≡ is_none o → (t && u) ≡ is_none (if s then Some f else o)
 part t true u f o right others = ap (λ b. b && u) right
 part t false u f o right others = ap (λ b. b && u) right ∙ others

@@ -17,7 +17,7 @@ use Rattle.gb_frame.proofs.ItemLemmas.{items_take, stand_again}
 use Rattle.gb_frame.proofs.TextLemmas.{text_reads}
 use Rattle.gb_frame.proofs.FaultLemmas.{found_first, found_none, faults_numbered, below_eleven, IsGood, magic_there, magic_told, counted_there, nodes_there, acknowledged_there, parsed_there, named_there, none_told}
 
--- ---- a test that says so
+-- ---- a test that finds its fault
 
 none_stand : (key bytes : List ℕ) → is_none (parsed bytes) ≡ true → HasFault key bytes Length
 none_stand key bytes e items rest s = let found = stand_again (version_read bytes) (count_in bytes) (items_in bytes) items rest s in absurd (let there : is_none (parsed bytes) ≡ false = ap is_none found in cc)
@@ -67,7 +67,7 @@ says key bytes Trailing fits e = left_stand key bytes (fits refl) (parsed bytes)
 says key bytes TooLong fits e = ltb-true _ _ e
 says key bytes Tag fits e = other_text (tag_in bytes) (tag_of key (tagged_in bytes)) (sym (not_true _ e))
 
--- ---- a test that doesn't
+-- ---- a test that finds no fault
 
 some_stands : (key bytes : List ℕ) → IsBytes bytes → (o : Option (List Item × List ℕ)) → parsed bytes ≡ o → is_none o ≡ false → ¬ (HasFault key bytes Length)
 some_stands key bytes fits None is e = absurd cc
@@ -131,7 +131,7 @@ good key bytes none =
       tag = same_text (tag_in bytes) (tag_of key (tagged_in bytes)) (sym (not_false _ (t Tag)));
     }
 
--- the header's bytes, cut at its fields
+-- the header's bytes, split at its fields
 header_cut : (bytes : List ℕ) (byte : ℕ) (rest : List ℕ) → IsBytes bytes → SHORTEST ≤ length bytes → take 2 bytes ≡ codes "GB" → version_in bytes ≡ byte → drop 31 bytes ≡ rest
     → bytes ≡ codes "GB" ++ (byte ∷ from_in bytes ∷ to_in bytes ∷ (to_be_bytes w64 (base_in bytes) ++ (to_be_bytes w64 (mask_in bytes) ++ (to_be_bytes w64 (frame_in bytes) ++ (to_be_bytes w16 (count_in bytes) ++ rest)))))
 header_cut bytes byte rest fits long magic version behind =
@@ -150,7 +150,7 @@ header_cut bytes byte rest fits long magic version behind =
     e2 ∙ ap (λ t. byte ∷ t) (e3 ∙ ap (λ t. from_in bytes ∷ t) (e4 ∙ ap (λ t. to_in bytes ∷ t) from_base)) in
     sym (take-append-drop 2 bytes) ∙ ap (λ t. t ++ drop 2 bytes) magic ∙ ap (λ t. codes "GB" ++ t) from_version
 
--- the texts and the tag, where the items leave nothing
+-- behind the header are the texts of the items and the tag
 behind_header : (bytes : List ℕ) → SHORTEST ≤ length bytes → drop 31 bytes ≡ items_in bytes ++ tag_in bytes
 behind_header bytes long =
     ap (drop 31) (sym (take-append-drop (length bytes - TAG) bytes)) ∙ drop-append-le 31 (tagged_in bytes) (tag_in bytes) (omega (arith, length-take (length bytes - TAG) bytes))
@@ -275,13 +275,13 @@ text_read key c p =
     let t = text_found key (packet_text key c) c (p, refl) in
     ap (λ o. unless o (content_in (packet_text key c))) t.0 ∙ ap Ok t.1
 
--- ---- what decoding answers
+-- ---- what decoding returns
 
--- a fault where there is a packet's text
+-- the text of a packet has no fault
 pub no_fault_found : (key bytes : List ℕ) (c : Content) (f : PacketFault) → IsText key bytes c → fault_in key bytes ≡ Some f → ⊥
 no_fault_found key bytes c f t e = let none = (text_found key bytes c t).0 in absurd cc
 
--- where bytes are read, nothing is wrong with them
+-- if bytes are read, they have no fault
 pub nothing_wrong : (key bytes : List ℕ) → is_ok (reading key bytes) ≡ true → fault_in key bytes ≡ None
 nothing_wrong key bytes e = by (fault_in key bytes) e
   where

@@ -18,7 +18,7 @@ pub length-tag_of : (key text : List ℕ) → length (tag_of key text) ≡ 8
 unfolding tag_of
 length-tag_of key text = omega (arith, length-take TAG (hmac_of key text), length-hmac_of key text)
 
--- the fields of bytes are those of a packet
+-- the fields that are read from the bytes are those of a packet
 pub record Reads (key bytes : List ℕ) (c : Content) : Type 0 where
   pub len : length bytes ≡ SHORTEST + length (items_text c.version c.items)
   pub magic : take 2 bytes ≡ codes "GB"
@@ -71,7 +71,7 @@ reads key c p =
 pub text_reads : (key bytes : List ℕ) (c : Content) → IsText key bytes c → Reads key bytes c
 text_reads key bytes c t = rw t.1 (reads key c t.0)
 
--- a text has one packet
+-- the same bytes are the text of one packet only
 pub one_packet : OneTextHasOnePacket
 one_packet key bytes c d s t =
     let r = text_reads key bytes c s in

@@ -1,4 +1,4 @@
--- The room in a packet of a version.
+-- The room that a packet of a version has.
 use Rattle.gb_types.specs.Common.{◌≤◌, arith, limits_of, limits_are_within}
 use Rattle.gb_types.specs.declared.{version.Version.Version, version.Version.TheVariants.One, version.Version.TheVariants.Two, version.Version.TheVariants.Three}
 use Rattle.gb_frame.specs.declared.limits.TheConstants.{SHORTEST, ROOM}

@@ -1,10 +1,10 @@
--- Items one after the other, as loops over them go.
+-- Items one after the other, in the order in which loops visit them.
 use Rattle.gb_types.specs.Common.{◌≡◌, ℕ, suc, List, [], ◌∷◌, Option, Some, None, refl, option_map, option_and_then, IsSome}
 use Rattle.gb_types.specs.declared.version.Version.{Version}
 use Rattle.gb_frame.specs.declared.item.Item.{Item}
 use Rattle.gb_frame.specs.Reading.{item_at, items_at, left_over}
 
--- what stands behind the items
+-- the bytes behind the items
 abbrev pub behind : Option (List Item × List ℕ) → Option (List ℕ)
 behind o = option_map (λ x. x.1) o
 

@@ -1,4 +1,4 @@
--- The names that files of crates above cite, passed on from one place. Declares nothing.
+-- The names that files of crates above cite, gathered in one file. Declares nothing.
 pub use Rattle.gb_frame.specs.Batch.{FitPacket, IsBatch, TextsTellItems, batch_in}
 pub use Rattle.gb_frame.specs.Faults.{fault_number}
 pub use Rattle.gb_frame.specs.Items.{address_of, entry_of, item_for, items_for, names, rest_is_node}

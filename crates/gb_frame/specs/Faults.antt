@@ -1,4 +1,4 @@
--- The table of faults: when each holds of bytes, and which is the first.
+-- The table of faults: when each fault holds of bytes, and which fault is the first.
 use Rattle.std.specs.Prelude.{◌≡◌, ◌≢◌, ℕ, ◌<◌, ◌≤◌, ◌%◌, ◌⊎◌, List, [], ◌++◌, length, take, codes, All, None}
 use Rattle.gb_types.specs.Common.{limits_of, version_named}
 use Rattle.gb_types.specs.declared.version.Version.{Version as TextVersion}
@@ -28,7 +28,7 @@ pub record Stand (version : TextVersion) (n : ℕ) (bytes : List ℕ) (items : L
   pub payloads : All (λ i. length i.payload ≤ (limits_of version).payload) items
   pub parts : bytes ≡ items_text version items ++ rest
 
--- the fault holds of the bytes, whether or not others hold; the limits are those of the version that the version byte stands for
+-- the fault holds of the bytes, whether or not others hold; the limits are those of the version that the version byte names
 abbrev pub HasFault : List ℕ → List ℕ → PacketFault → Type 0
 HasFault key bytes Short = length bytes < SHORTEST
 HasFault key bytes Magic = take 2 bytes ≢ codes "GB"
@@ -41,7 +41,7 @@ HasFault key bytes Trailing = (items : List Item) × (rest : List ℕ) × (rest 
 HasFault key bytes TooLong = (limits_of (version_read bytes)).packet < length bytes
 HasFault key bytes Tag = tag_in bytes ≢ tag_of key (tagged_in bytes)
 
--- the fault holds, and each one before it in the table does not
+-- the fault holds, and no earlier fault of the table does
 pub record IsFirstFault (key bytes : List ℕ) (fault : PacketFault) : Type 0 where
   pub holds : HasFault key bytes fault
   pub first : (earlier : PacketFault) → fault_number earlier < fault_number fault → ¬ HasFault key bytes earlier

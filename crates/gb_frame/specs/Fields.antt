@@ -3,7 +3,7 @@ use Rattle.std.specs.Prelude.{ℕ, ◌-◌, List, length, take, drop, slice_inde
 use Rattle.std.specs.Int.{Width, w16, w64, byte_len, from_be_bytes}
 use Rattle.gb_frame.specs.declared.limits.TheConstants.{HEADER, TAG}
 
--- the number at an index, high byte first
+-- the number in the bytes from an index on, high byte first
 unfoldable pub number_at : Width → ℕ → List ℕ → ℕ
 number_at w at bytes = from_be_bytes w (take (byte_len w) (drop at bytes))
 

@@ -14,11 +14,11 @@ address_of i = record { tenant = i.tenant; group = i.group; generation = i.gener
 abbrev pub entry_of : Item → Entry
 entry_of i = record { origin = record { number = i.origin % NODES; below = rest_is_node i.origin }; seq = i.seq; payload = i.payload }
 
--- an entry of a group as an item
+-- the item that carries an entry of a group
 abbrev pub item_for : Addr → Entry → Item
 item_for g e = record { tenant = g.tenant; group = g.group; generation = g.generation; origin = e.origin.number; seq = e.seq; payload = e.payload }
 
--- the items that name a group, among these
+-- whether an item names a group
 abbrev pub names : Addr → Item → Bool
 names g i = nat_eq g.tenant i.tenant && (nat_eq g.group i.group && nat_eq g.generation i.generation)
 

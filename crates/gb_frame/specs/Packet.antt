@@ -3,7 +3,7 @@ use Rattle.std.specs.Prelude.{ℕ, List}
 use Rattle.gb_types.specs.declared.version.Version.{Version}
 use Rattle.gb_frame.specs.declared.{item.Item.Item, item.ItemView.ItemView, packet.Head.Head, packet.Packet.Packet}
 
--- the content of a packet, without its place in memory
+-- the content of a packet, wherever it is in memory
 pub record Content : Type 0 where
   pub version : Version
   pub from : ℕ
@@ -16,7 +16,7 @@ pub record Content : Type 0 where
 abbrev pub content : Packet → Content
 content p = record { version = p.version; from = p.from.number; to = p.to.number; base = p.base; mask = p.mask; frame = p.frame; items = p.items.items }
 
--- an item whose payload is elsewhere, as an item
+-- the item that a view shows, with its payload
 abbrev pub item_of : ItemView → Item
 item_of v = record { tenant = v.tenant; group = v.group; generation = v.generation; origin = v.origin; seq = v.seq; payload = v.payload.now }
 

@@ -37,7 +37,7 @@ left_over o = (unwrap_or o ([], [])).1
 abbrev pub items_of : Option (List Item × List ℕ) → List Item
 items_of o = (unwrap_or o ([], [])).0
 
--- the version that the version byte stands for, version 1 if it stands for none
+-- the version that the version byte names, version 1 if it names none
 abbrev pub version_read : List ℕ → TextVersion
 version_read bytes = unwrap_or (version_named (version_in bytes)) One
 
@@ -45,7 +45,7 @@ version_read bytes = unwrap_or (version_named (version_in bytes)) One
 abbrev pub parsed : List ℕ → Option (List Item × List ℕ)
 parsed bytes = items_at (version_read bytes) (limits_of (version_read bytes)).payload (count_in bytes) (items_in bytes)
 
--- the tests of the header
+-- whether the first two bytes are `GB`; the next definitions are the other tests of the header
 abbrev pub is_magic : List ℕ → Bool
 is_magic bytes = slice_index bytes 0 == 71 && slice_index bytes 1 == 66
 
@@ -58,11 +58,11 @@ is_acknowledgement bytes = nat_lt 0 (base_in bytes) && mask_in bytes % 2 == 0
 abbrev pub is_counted : List ℕ → Bool
 is_counted bytes = if frame_in bytes == 0 then count_in bytes == 0 else nat_lt 0 (count_in bytes)
 
--- true if the tag is the one under the key
+-- whether the tag is that of the bytes before it under the key
 abbrev pub is_tagged : List ℕ → List ℕ → Bool
 is_tagged key bytes = pointwise nat_eq (tag_in bytes) (tag_of key (tagged_in bytes))
 
--- the bytes are the text of a packet under the key, by the limits of the version that they name
+-- whether the bytes are the text of a packet under the key, by the limits of the version that they name
 abbrev pub is_packet : List ℕ → List ℕ → Bool
 is_packet key bytes =
     nat_le SHORTEST (length bytes)
@@ -97,7 +97,7 @@ faults = Short ∷ Magic ∷ Version ∷ Node ∷ Mask ∷ Count ∷ Length ∷ 
 unfoldable pub fault_in : List ℕ → List ℕ → Option PacketFault
 fault_in key bytes = find (test key bytes) faults
 
--- the packet that bytes without a fault are
+-- the packet with the fields and the items that the bytes have; if they have no fault, they are its text
 abbrev pub content_in : List ℕ → Content
 content_in bytes = record { version = version_read bytes; from = from_in bytes; to = to_in bytes; base = base_in bytes; mask = mask_in bytes; frame = frame_in bytes; items = items_of (parsed bytes) }
 
@@ -106,6 +106,6 @@ abbrev pub unless : Option PacketFault → Content → Result Content PacketFaul
 unless (Some fault) c = Err fault
 unless None c = Ok c
 
--- the packet that the bytes are, or the first fault
+-- the packet whose text the bytes are, or the first fault
 abbrev pub reading : List ℕ → List ℕ → Result Content PacketFault
 reading key bytes = unless (fault_in key bytes) (content_in bytes)

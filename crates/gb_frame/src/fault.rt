@@ -3,16 +3,16 @@ ghost use Rattle.std.specs.Prelude.{◌≡◌};
 
 use thiserror::Error;
 
-/// Why bytes are not a packet: the first of these that holds.
+/// Why bytes are not a packet: the first fault in this order that holds of the bytes.
 #[derive(Clone, Copy, Debug, PartialEq, Eq, Error)]
 pub enum PacketFault {
-    /// Fewer bytes than the shortest packet has.
+    /// The bytes are fewer than those of the shortest packet.
     #[error("short")]
     Short,
     /// The first two bytes are not `GB`.
     #[error("magic")]
     Magic,
-    /// The version byte stands for no version.
+    /// The version byte is not that of a version.
     #[error("version")]
     Version,
     /// The sender or the destination is beyond the greatest node number of the version, or they are the same node.
@@ -30,7 +30,7 @@ pub enum PacketFault {
     /// Bytes are left between the last item and the tag.
     #[error("trailing")]
     Trailing,
-    /// More bytes than the longest packet of the version has.
+    /// The bytes are more than the longest packet of the version has.
     #[error("too long")]
     TooLong,
     /// The last 8 bytes are not the tag of the bytes before them.
@@ -41,7 +41,7 @@ pub enum PacketFault {
 impl PacketFault {
     ghost use Rattle.gb_frame.specs.Faults.{fault_number};
 
-    /// Returns the fault's number in the table of faults, 1 to 10, in the order in which they are tested.
+    /// Returns the fault's number in the table of faults, 1 to 10. Faults are tested in this order.
     pub fn number(self) -> u8
         ensures { result ≡ fault_number self }
     {

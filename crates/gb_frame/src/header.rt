@@ -8,7 +8,7 @@ use crate::limits::{HEADER, TAG};
 use crate::number::{u16_at, u64_at};
 use gb_types::Version;
 
-/// Returns the version that the version byte of a packet's header stands for, or version 1 if it stands for none.
+/// Returns the version that the version byte of a packet's header names, or version 1 if it names none.
 pub fn version_of(bytes: &[u8]) -> Version
     requires { HEADER ≤ length bytes.now }
     ensures { result ≡ version_read bytes.now }
@@ -16,7 +16,8 @@ pub fn version_of(bytes: &[u8]) -> Version
     Version::from_byte(bytes[2]).unwrap_or(Version::One)
 }
 
-/// Returns the base of the acknowledgement in a packet's header: each frame with a lower number was received. It is not tested here.
+/// Returns the base of the acknowledgement in a packet's header: each frame with a lower number was received. Any number is returned as it
+/// is.
 pub fn base_of(bytes: &[u8]) -> u64
     requires { HEADER ≤ length bytes.now }
     ensures { result ≡ base_in bytes.now }
@@ -24,8 +25,8 @@ pub fn base_of(bytes: &[u8]) -> u64
     u64_at(bytes, 5)
 }
 
-/// Returns the mask of the acknowledgement in a packet's header: bit i, of value 2 to the i, is 1 if frame base + i was received. It is
-/// not tested here.
+/// Returns the mask of the acknowledgement in a packet's header: bit i, of value 2 to the i, is 1 if frame base + i was received. Any mask
+/// is returned as it is.
 pub fn mask_of(bytes: &[u8]) -> u64
     requires { HEADER ≤ length bytes.now }
     ensures { result ≡ mask_in bytes.now }
@@ -41,7 +42,7 @@ pub fn frame_of(bytes: &[u8]) -> u64
     u64_at(bytes, 21)
 }
 
-/// Returns the number of items that a packet's header names. Whether they are there is not tested here.
+/// Returns the number of items that a packet's header names. The items themselves are not looked at.
 pub fn count_of(bytes: &[u8]) -> u16
     requires { HEADER ≤ length bytes.now }
     ensures { result ≡ count_in bytes.now }
@@ -74,7 +75,7 @@ pub fn has_acknowledgement(bytes: &[u8]) -> bool
     base_of(bytes) > 0 && mask_of(bytes) % 2 == 0
 }
 
-/// Returns true if a packet's header names a frame and at least one item, or neither. Returns false if it names only one of them.
+/// Returns true if a packet's header names a frame and at least one item, or neither of them, and false otherwise.
 pub fn has_counted_frame(bytes: &[u8]) -> bool
     requires { HEADER ≤ length bytes.now }
     ensures { result ≡ is_counted bytes.now }
@@ -86,7 +87,7 @@ pub fn has_counted_frame(bytes: &[u8]) -> bool
     }
 }
 
-/// Returns the bytes between the header and the tag of a packet: the texts of its items. They are not copied.
+/// Returns the bytes between the header and the tag of a packet, which are the texts of its items. They are not copied.
 pub fn texts_of(bytes: &[u8]) -> &[u8]
     requires { SHORTEST ≤ length bytes.now }
     ensures { result.now ≡ items_in bytes.now }

@@ -1,4 +1,4 @@
-//! Items, each a message of a group on its way to a node, and how they are written in a packet and read again.
+//! Items, and how they are written in a packet and read again. An item is a message of a group on its way to a node.
 ghost use Rattle.std.specs.Prelude.{◌≡◌, ◌+◌, ◌≤◌, ◌++◌, List, length, MatchOption, IsSome, All, None, Some, vec_len, vec_capacity};
 ghost use Rattle.gb_types.specs.declared.limits.TheConstants.{PAYLOAD};
 ghost use Rattle.gb_types.specs.Common.{limits_of};
@@ -8,7 +8,7 @@ use crate::number::{u16_at, u32_at};
 use gb_types::limits::PAYLOAD;
 use gb_types::{Payload, Version};
 
-/// A message of a group on its way. Only the length of the payload is checked here.
+/// A message of a group on its way to a node. Only the length of the payload is checked here.
 #[derive(Drop)]
 pub struct Item {
     pub tenant: u16,
@@ -21,7 +21,7 @@ pub struct Item {
     pub payload: Payload,
 }
 
-/// An item whose payload is elsewhere, as in a packet's bytes.
+/// An item whose payload is elsewhere in memory, for instance in a packet's bytes.
 #[derive(Clone, Copy)]
 pub struct ItemView<'a> {
     pub tenant: u16,
@@ -41,7 +41,7 @@ ghost use Rattle.gb_frame.specs.Reading.{generation_at, item_at, items_at, left_
 impl Item {
     ghost use Rattle.gb_frame.specs.Packet.{item_of};
 
-    /// Returns the item as a view. The payload is not copied.
+    /// Returns a view of the item. The payload is not copied.
     pub fn view(&self) -> ItemView<'_>
         ensures { item_of result ≡ self.now }
     {
@@ -56,12 +56,12 @@ impl Item {
     }
 }
 
-/// Each number of a payload is a byte, for the clauses that name it. There is nothing to run.
+/// Does nothing when it runs. By its contract each number of a payload is a byte, for the clauses that name the payload.
 fn are_bytes(payload: &[u8])
     ensures { IsBytes payload.now }
 {}
 
-/// Appends bytes. Takes no memory.
+/// Appends `bytes` to `text`. Takes no memory.
 pub(crate) fn append(text: &mut Vec<u8>, bytes: &[u8])
     requires { vec_len text.old + length bytes.now ≤ vec_capacity text.old }
     ensures items { text.new.items ≡ text.old.items ++ bytes.now }
@@ -71,7 +71,7 @@ pub(crate) fn append(text: &mut Vec<u8>, bytes: &[u8])
     text.extend_from_slice(bytes).unwrap();
 }
 
-/// Appends an item's header. Takes no memory.
+/// Appends the header of an item's text in this version to `text`. Takes no memory.
 fn put_head(version: Version, item: ItemView<'_>, text: &mut Vec<u8>)
     requires payload { length item.payload.now ≤ PAYLOAD }
     requires room { vec_len text.old + (limits_of version).item_header ≤ vec_capacity text.old }
@@ -97,8 +97,8 @@ fn put_head(version: Version, item: ItemView<'_>, text: &mut Vec<u8>)
     }
 }
 
-/// Appends the text of an item in this version to `text`: its header and its payload. The item's generation is 0 in versions 1 and 2,
-/// whose texts name none. Takes no memory: `text` has room for it.
+/// Appends the text of an item in this version to `text`, that is, its header and its payload. In versions 1 and 2, whose texts have no
+/// generation, the item's generation is 0. Takes no memory, because `text` has room for it.
 pub fn put_item(version: Version, item: ItemView<'_>, text: &mut Vec<u8>)
     requires generation { HasGeneration version (item_of item) }
     requires payload { length item.payload.now ≤ PAYLOAD }
@@ -114,7 +114,7 @@ pub fn put_item(version: Version, item: ItemView<'_>, text: &mut Vec<u8>)
     append(text, payload);
 }
 
-/// Appends the texts of the items in this version to `text`, one after the other. Takes no memory: `text` has room for them.
+/// Appends the texts of the items in this version to `text`, one after the other. Takes no memory, because `text` has room for them.
 pub fn put_items(version: Version, items: &[Item], text: &mut Vec<u8>)
     requires generations { All (HasGeneration version) items.now }
     requires payloads { All (λ i. length i.payload ≤ PAYLOAD) items.now }
@@ -129,7 +129,7 @@ pub fn put_items(version: Version, items: &[Item], text: &mut Vec<u8>)
     }
 }
 
-/// Returns the generation of the item at the front. It is 0 if the items of the version name none.
+/// Returns the generation of the item at the front of `texts`. It is 0 in a version whose items name none.
 fn generation_of(version: Version, texts: &[u8]) -> u32
     requires { (limits_of version).item_header ≤ length texts.now }
     ensures { result ≡ generation_at version texts.now }
@@ -140,8 +140,8 @@ fn generation_of(version: Version, texts: &[u8]) -> u32
     }
 }
 
-/// Returns the item at the front of `texts`, without copying its payload, and the bytes behind it. `None` if the bytes do not begin with
-/// a whole item of this version, or if its payload is longer than `limit` bytes. Takes no memory.
+/// Returns the item at the front of `texts` and the bytes behind it. The payload is not copied. Returns `None` if the bytes do not begin
+/// with a whole item of this version, or if its payload is longer than `limit` bytes. Takes no memory.
 #[tactic(auto, unfolding(crate::specs::Reading::item_at))]
 pub fn first_item(version: Version, limit: usize, texts: &[u8]) -> Option<(ItemView<'_>, &[u8])>
     ensures { MatchOption result (item_at version limit texts.now ≡ None) (λ x. item_at version limit texts.now ≡ Some (item_of x.0, x.1.now)) }
@@ -166,7 +166,7 @@ pub fn first_item(version: Version, limit: usize, texts: &[u8]) -> Option<(ItemV
     Some((item, &rest[len..]))
 }
 
-/// Returns the bytes behind the first `count` items of this version, whose payloads have at most `limit` bytes each. `None` if the
+/// Returns the bytes behind the first `count` items of this version, whose payloads have at most `limit` bytes each. Returns `None` if the
 /// bytes do not begin with `count` such items. Takes no memory.
 pub(crate) fn skip_items(version: Version, limit: usize, count: u16, texts: &[u8]) -> Option<&[u8]>
     ensures { MatchOption result (items_at version limit count texts.now ≡ None) (λ rest. IsSome (items_at version limit count texts.now) × (left_over (items_at version limit count texts.now) ≡ rest.now)) }
@@ -181,7 +181,7 @@ pub(crate) fn skip_items(version: Version, limit: usize, count: u16, texts: &[u8
     Some(rest)
 }
 
-/// Returns how many items of this version `texts` has, which are the texts of whole items and nothing else. Takes no memory.
+/// Returns the number of items of this version in `texts`, which are the texts of whole items and nothing else. Takes no memory.
 pub fn count_items(version: Version, texts: &[u8]) -> u16
     requires { length texts.now ≤ ROOM }
     ensures { (items : List Item) → AreTexts version texts.now items → result ≡ length items }

@@ -1,4 +1,4 @@
-//! Laws of how packets are written as bytes and read. The functions have nothing to run: their contracts are the laws.
+//! Laws of how packets are written as bytes and read. The functions do nothing when they run: their contracts are the laws.
 ghost use Rattle.gb_frame.specs.Batch.{TextsTellItems};
 ghost use Rattle.gb_frame.specs.Laws.{OneTextHasOnePacket, OnePacketHasOneText, WhatIsWrittenIsRead};
 
@@ -17,7 +17,8 @@ pub fn what_is_written_is_read()
     ensures { WhatIsWrittenIsRead }
 {}
 
-/// A law, with nothing to run: in each version, the texts of items, one after the other, are read as exactly these items.
+/// A law, with nothing to run: in each version, the texts of items, one after the other, are read as exactly these items. So texts
+/// determine their items.
 pub fn texts_tell_items()
     ensures { TextsTellItems }
 {}

@@ -1,7 +1,7 @@
 //! Packets: what one node sends another at once, written as bytes and read back exactly. A packet carries an acknowledgement, and
-//! may carry a numbered frame of items. A keyed tag ends it. There is no link and no network here. The content of an item is not
-//! checked: tenants, groups, origins and sequence numbers are carried as they are. Read `packet::Packet` first; then
-//! `reading::decode`, which leaves the payloads where they are, and `writing::wrap`, which sends a frame from where it is.
+//! may carry a numbered frame of items. A keyed tag ends it. This crate has no link and no network. The content of an item is not checked:
+//! tenants, groups, origins and sequence numbers are carried as they are. Read `packet::Packet` first; then `reading::decode`, which leaves
+//! the payloads in the bytes that it reads, and `writing::wrap`, which writes a frame from texts of items that are there already.
 #![tactic(auto)]
 
 pub mod fault;

@@ -15,7 +15,7 @@ pub const TAG: usize = 8;
 /// The number of bytes of a packet without items.
 pub const SHORTEST: usize = 39;
 
-/// The greatest number of bytes of a packet's items, under any version.
+/// The greatest number of bytes of a packet's items, in any version.
 pub const ROOM: usize = 16_345;
 
 const _: () = prove!(HEADER + TAG == SHORTEST && SHORTEST + ROOM == PACKET);
@@ -25,8 +25,8 @@ const _: () = prove!(HEADER == 31 && TAG == 8);
 
 const _: () = prove!(NODES == 32 && PAYLOAD == 4_096 && PACKET == 16_384);
 
-/// Returns the greatest number of bytes that all items of a packet of this version have together: its longest packet without header and
-/// tag.
+/// Returns the greatest number of bytes that all items of a packet of this version can have together: the length of its longest packet
+/// without header and tag.
 pub fn room(version: Version) -> usize
     ensures value { result ≡ room_of version }
     ensures most { result ≤ ROOM }

@@ -1,4 +1,4 @@
-//! Packets, what one node sends another at once, as values, and which of them can be written.
+//! Packets as values, and which of them can be written. A packet is what one node sends another at once.
 ghost use Rattle.std.specs.Prelude.{◌≡◌, ◌↔◌, ◌+◌, ◌≤◌, length, IsTrue, IsSome, IfSome, All};
 ghost use Rattle.gb_types.specs.Common.{limits_of};
 ghost use Rattle.gb_frame.specs.Room.{room_of};
@@ -10,7 +10,7 @@ use gb_types::{NodeId, Version};
 /// A packet without its items.
 #[derive(Clone, Copy, PartialEq, Eq)]
 pub struct Head {
-    /// The version of the text, whose limits the packet keeps to.
+    /// The version of the text. The packet keeps to its limits.
     pub version: Version,
     /// The sender.
     pub from: NodeId,
@@ -25,7 +25,7 @@ pub struct Head {
     pub frame: u64,
 }
 
-/// What one node sends another at once: the fields of a `Head`, and the frame's items.
+/// A packet, which one node sends another at once: the fields of a `Head`, and the frame's items.
 #[derive(Drop)]
 pub struct Packet {
     pub version: Version,
@@ -40,8 +40,8 @@ pub struct Packet {
 ghost use Rattle.gb_frame.specs.Packet.{content, packet_of};
 ghost use Rattle.gb_frame.specs.Spelling.{items_text, IsWithinLimits};
 
-/// Returns how many bytes of items a packet of this version can take beside `items`, 0 if it is full. `None` if the items do not fit, or
-/// if a payload is longer than the version allows.
+/// Returns the number of bytes of items that a packet of this version can take beside `items`, 0 if it is full. Returns `None` if the items
+/// do not fit, or if a payload is longer than the version allows.
 pub fn room_beside(version: Version, items: &[Item]) -> Option<usize>
     ensures fits { IsSome result ↔ (All (λ i. length i.payload ≤ (limits_of version).payload) items.now × (length (items_text version items.now) ≤ room_of version)) }
     ensures left { IfSome result (λ room. length (items_text version items.now) + room ≡ room_of version) }
@@ -77,9 +77,9 @@ impl Packet {
         }
     }
 
-    /// Returns true if the packet keeps to the limits of its version: two different nodes that the version can name, an acknowledgement
-    /// with a base above 0 and bit 0 of the mask 0, a frame if and only if there are items, and items that fit. Returns false otherwise.
-    /// That the version can name the items' generations is not tested.
+    /// Returns true if the packet keeps to the limits of its version, and false otherwise. The limits are: two different nodes that the
+    /// version can name, an acknowledgement with a base above 0 and bit 0 of the mask 0, a frame if and only if there are items, and items
+    /// that fit. That the version can name the items' generations is not tested.
     pub fn is_within_limits(&self) -> bool
         ensures { IsTrue result ↔ IsWithinLimits (content self.now) }
     {

@@ -16,7 +16,7 @@ use crate::view::PacketView;
 use gb_cap::HmacKey;
 use gb_types::Version;
 
-/// Returns the first fault of the bytes, if there is one.
+/// Returns the first fault of the bytes under `key`, or `None` if they are a packet.
 #[tactic(auto, unfolding(crate::specs::Reading::fault_in))]
 fn first_fault(bytes: &[u8], key: &HmacKey) -> Option<PacketFault>
     ensures { result ≡ fault_in key.now bytes.now }
@@ -55,12 +55,12 @@ fn first_fault(bytes: &[u8], key: &HmacKey) -> Option<PacketFault>
     None
 }
 
-/// Returns the packet that these bytes are under `key`. The payloads stay where they are in the bytes, so the result lives no longer than
-/// the bytes. Takes no memory. `Err` with the first fault, in the order of `PacketFault`, if the bytes are no packet under that key.
+/// Returns the packet that the bytes encode under `key`. The payloads stay where they are in the bytes, so the result lives no longer than
+/// the bytes. Takes no memory. If they encode no packet under that key, returns `Err` with the first fault in the order of `PacketFault`.
 pub fn decode<'a>(bytes: &'a [u8], key: &HmacKey) -> Result<PacketView<'a>, PacketFault>
     // The bytes are the text of the packet that is returned.
     ensures read { IfOk result (IsText key.now bytes.now) }
-    // A packet whose text the bytes are is always returned.
+    // If the bytes are the text of a packet, that packet is returned.
     ensures only { (c : Content) → IsText key.now bytes.now c → result ≡ Ok c }
     // The fault is the first of the table that holds.
     ensures fault { IfErr result (IsFirstFault key.now bytes.now) }
@@ -72,8 +72,8 @@ pub fn decode<'a>(bytes: &'a [u8], key: &HmacKey) -> Result<PacketView<'a>, Pack
     }
 }
 
-/// Returns the packet that these bytes are under `key`, if the caller knows that they are one, as of a packet that a node of the cluster
-/// wrote. Nothing is tested again, and no tag is computed. Takes no memory.
+/// Returns the packet that the bytes encode under `key`. The caller knows that they encode one, for instance because a node of the cluster
+/// wrote them. Nothing is tested again, and no tag is computed. Takes no memory.
 pub fn decode_known<'a>(bytes: &'a [u8], key: &HmacKey) -> PacketView<'a>
     requires { is_ok (reading key.now bytes.now) ≡ true }
     ensures { reading key.now bytes.now ≡ Ok result }

@@ -8,7 +8,7 @@ use crate::limits::TAG;
 use gb_cap::HmacKey;
 use gb_cap::compare::count_differences;
 
-/// Returns the tag of a packet whose bytes before the tag are `text`: the first 8 bytes of their HMAC-SHA-256 under `key`.
+/// Returns the tag of a packet, where `text` are its bytes before the tag: the first 8 bytes of their HMAC-SHA-256 under `key`.
 #[tactic(auto, unfolding(crate::specs::Spelling::tag_of))]
 pub fn tag(text: &[u8], key: &HmacKey) -> [u8; TAG]
     ensures { result ≡ tag_of key.now text.now }

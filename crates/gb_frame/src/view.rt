@@ -1,4 +1,4 @@
-//! Packets that were read, and their items: the payloads stay where they were read.
+//! Packets that were read, and their items. The payloads stay where they were read.
 ghost use Rattle.std.specs.Prelude.{◌≡◌, ◌≤◌, ◌<◌, List, [], length, Some};
 ghost use Rattle.std.specs.Iterator.{YieldsFirstBy, item_count};
 ghost use Rattle.gb_types.specs.declared.limits.TheConstants.{NODES};
@@ -37,7 +37,7 @@ impl<'a> Model for PacketView<'a> {
 }
 
 impl<'a> PacketView<'a> {
-    /// Returns the packet that bytes without a fault are.
+    /// Returns the packet with the fields and the items that the bytes have.
     pub(crate) fn of(bytes: &'a [u8]) -> PacketView<'a>
         requires long { SHORTEST ≤ length bytes.now }
         requires from { from_in bytes.now < NODES }
@@ -84,7 +84,7 @@ impl<'a> PacketView<'a> {
     }
 }
 
-/// The remaining items of a packet or a batch, in turn. Contracts see their list.
+/// The items of a packet or a batch that an iteration has not yet yielded. Contracts see their list.
 #[derive(Drop)]
 pub struct ItemViews<'a> {
     version: Version,
@@ -102,8 +102,8 @@ impl<'a> Model for ItemViews<'a> {
 }
 
 impl<'a> ItemViews<'a> {
-    /// Returns an iterator over the items whose texts in this version are at the front of `texts`, with no packet round them. It ends
-    /// where no whole item follows. Neither the call nor the iteration takes memory.
+    /// Returns an iterator over the items whose texts in this version are at the front of `texts`, with no packet round them. It ends where
+    /// no whole item follows. Neither the call nor the iteration takes memory.
     pub fn of_texts(version: Version, texts: &'a [u8]) -> ItemViews<'a>
         ensures { result ≡ batch_in version texts.now }
     {

@@ -11,7 +11,7 @@ use gb_cap::HmacKey;
 use gb_types::OutOfMemory;
 use std::alloc::Global;
 
-/// Appends the header of a packet with `count` items. Takes no memory.
+/// Appends the header of a packet with `count` items to `text`. Takes no memory.
 #[tactic(auto, unfolding(crate::specs::Spelling::header_text), using(std::proofs::lemmas::List::append_assoc))]
 fn put_header(head: Head, count: u16, text: &mut Vec<u8>)
     requires room { vec_len text.old + HEADER ≤ vec_capacity text.old }
@@ -35,7 +35,7 @@ fn put_header(head: Head, count: u16, text: &mut Vec<u8>)
     );
 }
 
-/// Appends the tag of the bytes from index `start` on. Takes no memory.
+/// Appends the tag of the bytes of `text` from index `start` on. Takes no memory.
 fn put_tag(start: usize, key: &HmacKey, text: &mut Vec<u8>)
     requires start { start ≤ vec_len text.old }
     requires room { vec_len text.old + TAG ≤ vec_capacity text.old }
@@ -46,8 +46,8 @@ fn put_tag(start: usize, key: &HmacKey, text: &mut Vec<u8>)
     append(text, &end);
 }
 
-/// Returns the bytes of a packet, in memory that it takes: header, items and the tag under `key`. The caller knows that the packet keeps
-/// to its limits. `Err` if memory runs out.
+/// Returns the bytes of a packet in newly taken memory: header, items and the tag under `key`. The caller knows that the packet keeps to
+/// its limits. Returns `Err` if memory runs out.
 pub fn encode(alloc: Global, packet: &Packet, key: &HmacKey) -> Result<Vec<u8>, OutOfMemory>
     requires limits { IsWithinLimits (content packet.now) }
     requires generations { All (HasGeneration packet.now.version) (content packet.now).items }
@@ -62,9 +62,9 @@ pub fn encode(alloc: Global, packet: &Packet, key: &HmacKey) -> Result<Vec<u8>, 
     Ok(text)
 }
 
-/// Appends the bytes of the packet with this head and `count` items to `packet`, as `encode` returns them: header, items and the tag
-/// under `key`. `texts` are the texts of the items in the head's version, as `put_item` writes them. Takes no memory: `packet` has room
-/// for it.
+/// Appends the bytes of the packet with this head and `count` items to `packet`, as `encode` returns them: header, items and the tag under
+/// `key`. `texts` are the texts of the items in the head's version, as `put_item` writes them. Takes no memory, because `packet` has room
+/// for the bytes.
 pub fn wrap(head: Head, count: u16, texts: &[u8], key: &HmacKey, packet: &mut Vec<u8>)
     requires packet { (items : List Item) × AreTexts head.version texts.now items × (length items ≡ count) × IsWithinLimits (packet_of head items) }
     requires room { vec_len packet.old + SHORTEST + length texts.now ≤ vec_capacity packet.old }

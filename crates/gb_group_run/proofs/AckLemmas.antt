@@ -1,4 +1,4 @@
--- Which nodes have each own message for good: the slot keeps what the acknowledged places of carried items say.
+-- The nodes that have each own message for good: the slot's record agrees with the acknowledged places of carried items.
 use Rattle.gb_types.specs.Common.{◌≡◌, ◌≢◌, ℕ, zero, suc, ◌+◌, ◌-◌, ◌<◌, ◌≤◌, List, [], ◌∷◌, ◌++◌, length, take, get_or, Bool, true, false, ◌&&◌, ◌||◌, ◌⊎◌, inl, inr, refl, sym, ◌∙◌, ap, arith, nat_eq, length-append, map, drop, not, if◌then◌else◌, list_any, range_with_len, AllByRecursion, nat_cmp, get_or-append_seam, and-false, or-false, or_assoc, cases_eq, cases_lt, eqb-true, or_parts, nat_tests, get_or_append_left, list_any-append, message_of}
 use Rattle.std.specs.FinSet as set
 use Rattle.gb_types.specs.declared.{entry.Entry.Entry, limits.TheConstants.NODES, message.MsgId.MsgId, node.NodeId.NodeId}
@@ -18,7 +18,7 @@ use Rattle.gb_group_run.proofs.Stands.{AcksAgree}
 abbrev Acks : Type 0
 Acks = List (set.FinSet nat_cmp)
 
--- A message is said, which this node alone has.
+-- A message is said; only this node has it.
 pub acks_said : (me : ℕ) (acks : Acks) (rows : ℕ → List Entry) (done : ℕ → List ℕ) → AcksAgree me acks rows done → AcksAgree me (acks ++ set.insert set.empty me ∷ []) rows done
 acks_said me acks rows done was = record {
   each = λ k b node low. go k b node low (cases_lt k (length acks));
@@ -46,7 +46,7 @@ any_first p zero xs none = refl
 any_first p (suc n) [] none = refl
 any_first p (suc n) (x ∷ xs) none = let parts = or_parts (p x) (list_any p xs) none in λ i. parts.0 i || any_first p n xs parts.1 i
 
--- no own message is put out that was not said
+-- an own message that was not said was not queued
 own_waiting : (s : SlotState) (told : List GroupCall) (k b : ℕ) → StandsFor s told → s.said ≤ k → list_any (is_message s.me.number (k + 1)) (waiting s b) ≡ false
 own_waiting s told k b h far = reached (is_other s.spec s.me.number b && not (set.contains s.noticed b))
   where
@@ -106,7 +106,7 @@ done_one b x s k c low = go (nat_eq x.origin.number s.me.number)
     go true = with_one x.seq b s.acknowledged k c low
     go false = sym (or-false (set.contains (get_or s.acknowledged k set.empty) c)) ∙ ap (λ t. set.contains (get_or s.acknowledged k set.empty) c || t) (sym (and-false (nat_eq c b.number)))
 
--- nothing else of the slot changes
+-- no other field of the slot changes
 pub marked_keeps : (b : NodeId) (xs : List Entry) (s : SlotState) → slot_marked b xs s ≡ record s { acknowledged = (slot_marked b xs s).acknowledged }
 marked_keeps b [] s = refl
 marked_keeps b (x ∷ xs) s = marked_keeps b xs (slot_done b (message_of x) s)
@@ -132,7 +132,7 @@ marked_each b (x ∷ xs) s k c low =
     by false true a z = refl
     by false false a z = refl
 
--- the carried items with these places are acknowledged
+-- the carried items at these places are acknowledged
 pub acks_marked : (b : NodeId) (place count : ℕ) (s : SlotState) (rows : ℕ → List Entry) (done next : ℕ → List ℕ) → 0 < place → place + count ≤ length (rows b.number) + 1
     → next b.number ≡ range_with_len place count ++ done b.number → ((c : ℕ) → c ≢ b.number → next c ≡ done c)
     → AcksAgree s.me.number s.acknowledged rows done → AcksAgree s.me.number (slot_marked b (take count (drop (place - 1) (rows b.number))) s).acknowledged rows next

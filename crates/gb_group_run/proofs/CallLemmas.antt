@@ -1,4 +1,4 @@
--- What a call makes of a slot, and of the group alone.
+-- The effect of a call on a slot, and on the group alone.
 use Rattle.gb_types.specs.Common.{◌≡◌, ℕ, ◌+◌, ◌<◌, List, [], ◌∷◌, ◌++◌, length, take, Bool, true, false, not, ◌&&◌, ◌||◌, ◌⊎◌, inl, inr, nat_eq, Option, Some, None, refl, sym, ◌∙◌, ap, subst, arith, if◌then◌else◌, cases_eq, nat_tests, append-nil, append_assoc, take_at, message_of}
 use Rattle.std.specs.FinSet as set
 use Rattle.gb_types.specs.declared.{entry.Entry.Entry, limits.TheConstants.NODES, node.NodeId.NodeId, reply.Reply.TheVariants.Said, spec.Spec.Spec}
@@ -15,15 +15,15 @@ use Rattle.gb_group_run.specs.SlotMember.{waits}
 use Rattle.gb_group_run.proofs.AckLemmas.{acks_said}
 use Rattle.gb_group_run.proofs.Stands.{SlotLaws, AcksAgree, IsLive}
 
--- the items that are put out to each node are those that were carried, and those that wait in the slot
+-- the items that are queued for each node are those that were carried, and those that wait in the slot
 abbrev pub PutIs : Option SlotState → (ℕ → List Entry) → Member → Type 0
 PutIs o rows m = (b : ℕ) → b < NODES → m.put b ≡ rows b ++ waits o b
 
--- the slot is there, and items are put out as it says
+-- the slot is there, and the queued items agree with it
 abbrev pub LiveWith : ℕ → SlotState → (ℕ → List Entry) → Member → Type 0
 LiveWith me s rows m = IsLive me s rows m × PutIs (Some s) rows m
 
--- items are put out to the same nodes as the history says
+-- items are queued for the same nodes by the slot and by the history
 reaches_is : (me : ℕ) (t : SlotState) (told : List GroupCall) (b : ℕ) → t.me.number ≡ me → StandsFor t told → (is_other t.spec me b && not (was_noticed (calls_of told) b)) ≡ reaches t b
 reaches_is me t told b here h = ap (λ n. is_other t.spec n b && not (was_noticed (calls_of told) b)) (sym here) ∙ go (is_other t.spec t.me.number b) refl
   where
@@ -31,7 +31,7 @@ reaches_is me t told b here h = ap (λ n. is_other t.spec n b && not (was_notice
     go true is = ap (λ x. is_other t.spec t.me.number b && not x) (sym (h.noticed b is))
     go false is = ap (λ o. o && not (was_noticed (calls_of told) b)) is ∙ ap (λ o. o && not (set.contains t.noticed b)) (sym is)
 
--- what a call puts out
+-- the items that a call queues
 put_called : (me : ℕ) (c : GroupCall) (s : SlotState) (before after more : List Entry) (m : Member) (b : ℕ) (r : Bool) → m.spec ≡ Some s.spec → s.me.number ≡ me → (is_other s.spec me b && not (was_noticed (calls_of (c ∷ m.told)) b)) ≡ r
     → m.put b ≡ before ++ more → after ≡ more ++ (if r then puts_of s.spec s.me.number c m.told else []) → (called me c m).put b ≡ before ++ after
 put_called me c s before after more m b r spec here reached was next =
@@ -68,7 +68,7 @@ live_said laws me payload seq s rows m is h =
           (laws.waiting_said s m.told payload b live.stands ∙ ap (λ (y : Entry). waiting s b ++ (if reaches s b then puts_of s.spec s.me.number (Own y) m.told else [])) named),
     )
 
--- An item comes that is not let fall.
+-- An item comes that is not discarded.
 live_came : SlotLaws → (me : ℕ) (from : NodeId) (x : Entry) (s : SlotState) (rows : ℕ → List Entry) (m : Member) → falls from x s ≡ false → LiveWith me s rows m
     → LiveWith me (slot_called (Came from (message_of x)) (with_new s.store x) s) rows (called me (Other from x) m)
 live_came laws me from x s rows m kept h =
@@ -88,7 +88,7 @@ live_came laws me from x s rows m kept h =
           (ap (λ (u : SlotState). waiting u b) (sym same) ∙ laws.waiting_came s m.told from x b live.stands kept),
     )
 
--- what an item makes of the group there, if it is not too long
+-- the effect of an item on a group that is there, if it is not too long
 pub live_handed : SlotLaws → (me : ℕ) (from : NodeId) (x : Entry) (s : SlotState) (rows : ℕ → List Entry) (m : Member) → LiveWith me s rows m
     → LiveWith me (slot_came from x s) rows (if alone.falls me from.number x m.told (held_spec m.phase m.spec) then m else called me (Other from x) m)
 live_handed laws me from x s rows m h = go (falls from x s) refl

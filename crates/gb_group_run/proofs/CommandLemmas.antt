@@ -1,4 +1,4 @@
--- A command with its reply: the slot stands for the group alone after it.
+-- A command and its reply: the slot still represents the group alone after it.
 use Rattle.gb_types.specs.Common.{◌≡◌, ℕ, ◌+◌, ◌<◌, List, [], ◌∷◌, ◌++◌, length, take, Bool, true, false, not, ◌&&◌, ◌||◌, Option, Some, None, refl, sym, ◌∙◌, ap, subst, arith, map, drop, is_some, nat_le, option_map, if◌then◌else◌, nat_cmp, list_any, append-nil, take_at, drop_all, version_at}
 use Rattle.std.specs.FinSet as set
 use Rattle.gb_types.specs.declared.{address.Addr.Addr, entry.Entry.Entry, limits.TheConstants.NODES, node.NodeId.NodeId, plan.Bounds.Bounds, reply.Reply.Reply, new_message.NewMessage.NewMessage, spec.Spec.Spec, version.Version.Version, reply.Reply.TheVariants.Done, reply.Reply.TheVariants.Said, reply.Reply.TheVariants.Refused}
@@ -15,13 +15,13 @@ use Rattle.gb_group_run.specs.SlotMember.{SlotMember, carried_to, answer_of, rep
 use Rattle.gb_group_run.proofs.CallLemmas.{PutIs, live_said}
 use Rattle.gb_group_run.proofs.Stands.{SlotLaws, Holds, IsUnmade, IsLive, Stands, held_alike}
 
--- What stands, as far as the slot is concerned.
+-- The slot's part of the agreement.
 abbrev pub SlotStands : ℕ → Bool → Option SlotState → (ℕ → List Entry) → Member → Type 0
 SlotStands me made o rows m = Holds me made o rows m × PutIs o rows m
 
--- The slot is there where a command is not refused.
+-- The slot is there if a command is not refused.
 
--- a slot, for which the rest holds
+-- a slot that has this property
 abbrev HasSlot : Option SlotState → (SlotState → Type 0) → Type 0
 HasSlot o P = (s : SlotState) × (o ≡ Some s) × P s
 
@@ -39,7 +39,7 @@ there answer reply spent o None accepted is = let none : false ≡ true = ap is_
 there answer reply spent None (Some reserve) accepted is = let none : false ≡ true = ap is_accepted is ∙ accepted in absurd (cc)
 there answer reply spent (Some s) (Some reserve) accepted is = (s, refl, is)
 
--- a group is made where it was not made
+-- a group is made that was not made before
 unspent : (bounds : Bounds) (addr : Addr) (me : ℕ) (spent : Bool) (others : ℕ) (spec : Spec) (reserve : Option Reserve) → by_tenant (make_answer (version_at bounds.versions me) bounds.nodes me addr spent others spec) reserve ≡ Done → spent ≡ false
 unspent bounds addr me spent others spec None is = absurd (cc)
 unspent bounds addr me spent others spec (Some reserve) is =
@@ -50,7 +50,7 @@ unspent bounds addr me spent others spec (Some reserve) is =
     admitted false true c d e h = absurd (cc)
     admitted false false c d e h = refl
 
--- What each command makes of the slot.
+-- The effect of each command on the slot.
 
 -- nothing waits in a new slot
 fresh_waits : (spec : Spec) (me : NodeId) (b : ℕ) → waiting (new_slot spec me set.empty) b ≡ []
@@ -118,7 +118,7 @@ said_stands laws version me message seq true (Some s) rows m (t, same, p) h =
     let next = said_is version (shown t) message seq p in
     live_said laws me message.payload seq s rows m (next.next ∙ ap (λ (u : SlotState). u.said + 1) (sym is)) h
 
--- what a command with its reply changes
+-- the agreement after a command and its reply
 did_stands : SlotLaws → (bounds : Bounds) (addr : Addr) (me : NodeId) (event : GroupEvent) (reply : Reply) (v : SlotMember) (m : Member) → reply_by bounds addr me.number event v ≡ reply → Stands me.number v m → Stands me.number (slot_did me event reply v) (did me event reply m)
 did_stands laws bounds addr me (AskMake spec) Done v m is h =
     let spent = unspent bounds addr me.number (v.made || v.passed) v.others spec v.reserve (running v.stopped (by_tenant (make_answer (version_at bounds.versions me.number) bounds.nodes me.number addr (v.made || v.passed) v.others spec) v.reserve) Done refl is) in
@@ -143,7 +143,7 @@ did_stands laws bounds addr me (AskSay message) (Said seq) v m is h =
     record { reserve = h.reserve; passed = h.passed; others = h.others; replies = h.replies; stopped = h.stopped; put = next.1; taken = h.taken; done = h.done; size = h.size; held = next.0 }
 did_stands laws bounds addr me event reply v m is h = h
 
--- the same rest, with other replies
+-- the same agreement, with other replies
 with_replies : (me : ℕ) (v : SlotMember) (m : Member) (others replies : List Reply) → others ≡ replies → Stands me v m → Stands me (record v { replies = replies }) (record m { replies = others })
 with_replies me v m others replies same h = record {
   reserve = h.reserve;

@@ -1,4 +1,4 @@
--- Items and notices: what a node keeps stands for the group alone after them.
+-- Items and notices: a node's record still represents the group alone after them.
 use Rattle.gb_types.specs.Common.{◌≡◌, ◌≢◌, ℕ, ◌+◌, ◌<◌, ◌≤◌, List, [], ◌∷◌, ◌++◌, length, take, drop, get_or, Bool, true, false, ◌||◌, ◌⊎◌, inl, inr, nat_eq, Option, Some, None, refl, sym, ◌∙◌, ap, subst, arith, length-append, option_map, slice_set, if◌then◌else◌, range_with_len, cases_eq, nat_tests, append-nil, append_assoc, take_all, take-append-drop, length-take-le, length-set, get_or-set_same, get_or-set_other}
 use Rattle.gb_types.specs.declared.{entry.Entry.Entry, limits.TheConstants.NODES, node.NodeId.NodeId, spec.Spec.Spec, version.Version.Version}
 use Rattle.gb_rules.specs.Common.{is_gone, is_other, is_too_long}
@@ -13,7 +13,7 @@ use Rattle.gb_group_run.proofs.CallLemmas.{live_handed, live_noticed}
 use Rattle.gb_group_run.proofs.CommandLemmas.{SlotStands}
 use Rattle.gb_group_run.proofs.Stands.{SlotLaws, AcksAgree, Holds, IsLive, Stands, held_alike}
 
--- the fields that the slot has no part in
+-- the fields that do not depend on the slot
 pub record KeepsRest (m n : Member) : Type 0 where
   pub reserve : n.reserve ≡ m.reserve
   pub passed : n.passed ≡ m.passed
@@ -35,7 +35,7 @@ unheld me false rows m h = ap (held_spec m.phase) h.spec ∙ by (is_gone m.phase
     by true = refl
     by false = refl
 
--- the slot and the group changed, and nothing else
+-- only the slot and the group changed
 restand : (me : ℕ) (v : SlotMember) (o : Option SlotState) (m n : Member) (come : ℕ → List ℕ) (noticed : List ℕ) → Stands me v m → KeepsRest m n → SlotStands me v.made o (carried_to v) n → Stands me (record v { slot = o }) (record n { come = come; noticed = noticed })
 restand me v o m n come noticed h rest next = record {
   reserve = rest.reserve ∙ h.reserve;

@@ -1,4 +1,4 @@
--- A step that may happen has its items and its room.
+-- A legal step has its items and its room.
 use Rattle.gb_types.specs.Common.{◌≡◌, ℕ, ◌+◌, ◌-◌, ◌≤◌, ◌<◌, true, arith}
 use Rattle.gb_types.specs.declared.{address.Addr.Addr, node.NodeId.NodeId}
 use Rattle.gb_alone.specs.Common.{Group, is_marked, MayHappen}
@@ -6,7 +6,7 @@ use Rattle.gb_alone.specs.declared.event.GroupEvent.{GroupEvent}
 use Rattle.gb_alone.specs.declared.event.GroupEvent.TheVariants.{Tenant, OtherMade, OtherDropped, Took, Came, Done as Acknowledged}
 use Rattle.gb_group_run.specs.Legal.{HasItemsAlone, HasRoomAlone}
 
--- where only carried items have come
+-- if only carried items have come
 pub may_have : (addr : Addr) (me : NodeId) (event : GroupEvent) (group : Group) → ((a b place : ℕ) → is_marked place ((group b).come a) ≡ true → (0 < place) × (place ≤ (group a).taken b)) → MayHappen addr me event group → HasItemsAlone me event group
 may_have addr me (Took b count) group come may = may.2
 may_have addr me (Came from place) group come may = (may.1, may.2)

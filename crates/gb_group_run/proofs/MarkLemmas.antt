@@ -1,4 +1,4 @@
--- Which items of a list are acknowledged, by their places.
+-- The acknowledged items of a list, by their places.
 use Rattle.gb_types.specs.Common.{◌≡◌, ℕ, zero, suc, ◌+◌, ◌-◌, ◌≤◌, ◌<◌, ◌⊎◌, inl, inr, nat_eq, List, ◌++◌, length, take, drop, Bool, true, false, ◌||◌, refl, sym, ◌∙◌, ap, arith, list_any, range_with_len, length-take-le, length-drop, take-append-drop, list_any-append, cases_eq, nat_tests}
 use Rattle.gb_types.specs.declared.entry.Entry.{Entry}
 use Rattle.gb_alone.specs.Common.{is_marked, is_message, is_acknowledged}
@@ -14,7 +14,7 @@ acknowledged_front me k done xs ys beyond =
     off true = refl
     off false = refl
 
--- the places of a stretch
+-- the places of a range
 
 within_range : (p place count : ℕ) → place ≤ p → p < place + count → is_marked p (range_with_len place count) ≡ true
 within_range p place zero low high = absurd (omega (arith, low, high))
@@ -35,11 +35,11 @@ outside_range p place (suc count) out =
 marked-append : (p : ℕ) (more done : List ℕ) → is_marked p (more ++ done) ≡ (is_marked p more || is_marked p done)
 marked-append p more done = list_any-append (λ q. nat_eq q p) more done
 
--- no place behind these is marked by them
+-- these marks are on no place behind the range
 pub range_behind : (p place count : ℕ) (done : List ℕ) → place + count ≤ p → is_marked p done ≡ false → is_marked p (range_with_len place count ++ done) ≡ false
 range_behind p place count done high none = marked-append p (range_with_len place count) done ∙ (λ i. outside_range p place count (inr high) i || none i)
 
--- the items with these places are acknowledged, too
+-- the items at these places are acknowledged, too
 pub acknowledged_with : (me k place count : ℕ) (done : List ℕ) (xs : List Entry) → 0 < place → place + count ≤ length xs + 1
     → is_acknowledged me k (range_with_len place count ++ done) 1 xs ≡ (is_acknowledged me k done 1 xs || list_any (is_message me k) (take count (drop (place - 1) xs)))
 acknowledged_with me k place count done xs some fits =

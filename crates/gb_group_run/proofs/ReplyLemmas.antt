@@ -16,10 +16,10 @@ use Rattle.gb_group_run.specs.SlotMember.{SlotMember, carried_to, waits, answer_
 use Rattle.gb_group_run.proofs.MarkLemmas.{acknowledged_front}
 use Rattle.gb_group_run.proofs.Stands.{IsLive, Holds, Stands}
 
--- Which messages are finished.
+-- The messages that are finished.
 
 module _ (me : ℕ) (s : SlotState) (rows : ℕ → List Entry) (m : Member) (live : IsLive me s rows m) (put : (b : ℕ) → b < NODES → m.put b ≡ rows b ++ waiting s b) (done : (b place : ℕ) → b < NODES → length (rows b) < place → is_marked place (m.done b) ≡ false) (nodes : AreNodes s.spec.members) where
-  -- a member is finished with a message for the slot where it is so for the group alone
+  -- a member is finished with a message in the slot if and only if it is so for the group alone
   finished_by : (k b : ℕ) → is_member s.spec b ≡ true → b < NODES → k < length s.acknowledged
       → (nat_eq b me || (was_noticed (calls_of m.told) b || is_acknowledged me (k + 1) (m.done b) 1 (m.put b))) ≡ (set.contains s.noticed b || set.contains (get_or s.acknowledged k set.empty) b)
   finished_by k b there node low =
@@ -41,7 +41,7 @@ module _ (me : ℕ) (s : SlotState) (rows : ℕ → List Entry) (m : Member) (li
       all_alike s.spec.members (λ b. nat_eq b me || (was_noticed (calls_of m.told) b || is_acknowledged me (k + 1) (m.done b) 1 (m.put b))) (λ b. set.contains s.noticed b || set.contains (get_or s.acknowledged k set.empty) b) (λ b there node. finished_by k b there node low)
       ∙ sym (all_rising s.spec.members nodes (λ b. set.contains s.noticed b || set.contains (get_or s.acknowledged k set.empty) b))
 
-  -- numbers from the first one on that do not pass are counted alike
+  -- numbers that do not pass are counted alike, from the first one on
   counts : (finished : ℕ → Bool) (first : ℕ) (acks : List (set.FinSet nat_cmp)) → ((k : ℕ) → k < length acks → finished (first + k) ≡ slot.is_finished s.spec s.noticed (get_or acks k set.empty)) → count_unfinished finished first (length acks) ≡ unfinished_of s.spec s.noticed acks
   unfolding count_unfinished
   counts finished first [] same = refl
@@ -60,7 +60,7 @@ module _ (me : ℕ) (s : SlotState) (rows : ℕ → List Entry) (m : Member) (li
       swap : (k : ℕ) → 1 + k ≡ k + 1
       swap k = omega arith
 
-  -- the rules read the same
+  -- the rules read the same state
   pub shown_is : LogIs → alone.shown_in me m.phase m.told m.put m.done s.spec ≡ slot.shown s
   shown_is law = λ i. record { spec = s.spec; phase = live.phase i; usage = record { said = sym live.stands.said i; bytes = bytes i; unfinished = unfinished_is i }; log = log i }
     where
@@ -70,7 +70,7 @@ module _ (me : ℕ) (s : SlotState) (rows : ℕ → List Entry) (m : Member) (li
       log : log_of s.spec me m.told ≡ (slot.shown s).log
       log = ap (λ n. log_of s.spec n m.told) (sym live.here) ∙ sym (law s m.told live.stands)
 
--- where the group is there its members are nodes
+-- the members of a group that is there are nodes
 abbrev pub HasNodes : Option SlotState → Type 0
 HasNodes None = Unit {0}
 HasNodes (Some s) = AreNodes s.spec.members

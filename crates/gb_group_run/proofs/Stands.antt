@@ -1,4 +1,4 @@
--- When what a node keeps of the group, with its slot, stands for the group alone there.
+-- The agreement of a node's record of the group, with its slot, and the group alone there.
 use Rattle.gb_types.specs.Common.{ℕ, ◌+◌, ◌≡◌, ◌≤◌, ◌<◌, ◌||◌, Bool, true, false, List, [], ◌++◌, length, get_or, nat_eq, Option, Some, None, is_some, list_any, ap, sym, subst, ◌∙◌, nat_cmp}
 use Rattle.std.specs.FinSet as set
 use Rattle.gb_types.specs.declared.{entry.Entry.Entry, limits.TheConstants.NODES}
@@ -8,7 +8,7 @@ use Rattle.gb_slot.specs.Common.{FreshStands, MovedStands, SaidStands, CameStand
 use Rattle.gb_alone.specs.Common.{Member, Group, is_marked, is_message, is_acknowledged}
 use Rattle.gb_group_run.specs.SlotMember.{SlotMember, carried_to, waits, member_at}
 
--- what is known of slots
+-- the laws of slots
 pub record SlotLaws : Type 0 where
   pub fresh : FreshStands
   pub moved : MovedStands
@@ -28,7 +28,7 @@ pub record SlotLaws : Type 0 where
 -- for each own message the nodes that have it for good: this one, and those to which it was carried at an acknowledged place
 pub record AcksAgree (me : ℕ) (acks : List (set.FinSet nat_cmp)) (rows : ℕ → List Entry) (done : ℕ → List ℕ) : Type 0 where
   pub each : (k b : ℕ) → b < NODES → k < length acks → set.contains (get_or acks k set.empty) b ≡ (nat_eq b me || is_acknowledged me (k + 1) (done b) 1 (rows b))
-  -- no message that was not said is carried
+  -- no carried message was not said
   pub unsaid : (k b : ℕ) → b < NODES → length acks ≤ k → list_any (is_message me (k + 1)) (rows b) ≡ false
 
 -- the group was not made
@@ -43,7 +43,7 @@ pub record IsDropped (m : Member) : Type 0 where
   pub made : is_some m.spec ≡ true
   pub gone : is_gone m.phase ≡ true
 
--- the group is there as its slot has it
+-- the group is there in the state of its slot
 pub record IsLive (me : ℕ) (s : SlotState) (rows : ℕ → List Entry) (m : Member) : Type 0 where
   pub spec : m.spec ≡ Some s.spec
   pub phase : m.phase ≡ s.phase
@@ -58,7 +58,7 @@ Holds me true None rows m = IsDropped m
 Holds me false None rows m = IsUnmade rows m
 Holds me false (Some s) rows m = ⊥
 
--- what the slot has no part in is nothing to it
+-- the agreement does not depend on the other fields
 pub held_alike : (me : ℕ) (made : Bool) (o : Option SlotState) (rows : ℕ → List Entry) (m n : Member) → n.spec ≡ m.spec → n.phase ≡ m.phase → n.told ≡ m.told → n.done ≡ m.done → Holds me made o rows m → Holds me made o rows n
 held_alike me true (Some s) rows m n spec phase told done h = record {
   spec = spec ∙ h.spec;
@@ -85,7 +85,7 @@ pub record Stands (me : ℕ) (v : SlotMember) (m : Member) : Type 0 where
   pub size : length v.carried ≡ NODES
   pub held : Holds me v.made v.slot (carried_to v) m
 
--- so it is at each node
+-- the agreement at each node
 pub record AllStand (vs : List SlotMember) (group : Group) : Type 0 where
   pub members : (a : ℕ) → a < NODES → Stands a (member_at vs a) (group a)
   pub size : length vs ≡ NODES

@@ -1,4 +1,4 @@
--- A step of the group: what the nodes keep stands for the group alone after it.
+-- A step of the group: the nodes' records still represent the group alone after it.
 use Rattle.gb_types.specs.Common.{◌≡◌, ℕ, zero, suc, ◌+◌, ◌-◌, ◌<◌, ◌≤◌, List, [], ◌∷◌, ◌++◌, length, get_or, Bool, true, false, ◌||◌, ◌⊎◌, inl, inr, nat_eq, Option, Some, None, refl, sym, ◌∙◌, ap, subst, arith, replicate, slice_get, slice_set, nat_lt, if◌then◌else◌, cases_eq, nat_tests, length-set, length-replicate, get_or-set_same, get_or-set_other, get_or-replicate, version_at}
 use Rattle.gb_types.specs.declared.{address.Addr.Addr, entry.Entry.Entry, limits.TheConstants.NODES, node.NodeId.NodeId, plan.Bounds.Bounds, reply.Reply.Reply}
 use Rattle.gb_slot.specs.Common.{SlotState}
@@ -52,7 +52,7 @@ nodes_of nodes me true (Some s) rows m few inside h = λ b there. let low : b < 
 
 -- The events.
 
--- what stands beside the slot
+-- the fields beside the slot
 beside : (me : ℕ) (v w : SlotMember) (m n : Member) → w.made ≡ v.made → w.slot ≡ v.slot → w.carried ≡ v.carried → n.spec ≡ m.spec → n.phase ≡ m.phase → n.told ≡ m.told → n.done ≡ m.done → n.put ≡ m.put → n.taken ≡ m.taken
     → n.reserve ≡ w.reserve → n.passed ≡ w.passed → n.others ≡ w.others → n.replies ≡ w.replies → n.stopped ≡ w.stopped → Stands me v m → Stands me w n
 beside me v w m n made slot carried spec phase told done put taken reserve passed others replies stopped h = record {

@@ -1,4 +1,4 @@
--- A group by itself, with a slot at each node that made it: what each event makes of what a node keeps of it.
+-- A group by itself, with a slot at each node that made it: the effect of each event on a node's record of the group.
 use Rattle.std.specs.Prelude.{ℕ, ◌+◌, ◌-◌, ◌≡◌, ◌≢◌, ◌≤◌, ◌<◌, ◌||◌, Bool, false, true, List, [], ◌∷◌, ◌++◌, fold, length, replicate, take, drop, slice_get, slice_index_or, slice_set, nat_lt, Option, Some, None, is_some, option_map, if◌then◌else◌}
 use Rattle.std.specs.FinSet as set
 use Rattle.gb_types.specs.Common.{message_of, version_at}
@@ -10,9 +10,9 @@ use Rattle.gb_alone.specs.Common.{SeenAt}
 use Rattle.gb_alone.specs.declared.{event.GroupEvent.GroupEvent, event.GroupStep.GroupStep}
 use Rattle.gb_alone.specs.declared.event.GroupEvent.TheVariants.{Tenant, Make as AskMake, Open as AskOpen, Shut as AskShut, Drop as AskDrop, Say as AskSay, Fetch as AskFetch, OtherMade, OtherDropped, Took, Came, Done as Acknowledged, Notice, Stop}
 
--- what a node keeps of the group
+-- a node's record of the group
 pub record SlotMember : Type 0 where
-  -- what its tenant may have; None until the tenant is taken in
+  -- the reserve of its tenant; None until the tenant is added
   pub reserve : Option Reserve
   -- the group was made here; it may have been dropped since
   pub made : Bool
@@ -20,7 +20,7 @@ pub record SlotMember : Type 0 where
   pub passed : Bool
   -- the number of other generations of the room that live
   pub others : ℕ
-  -- None until the group is made, and after it is dropped
+  -- the group's slot; None until the group is made, and after it is dropped
   pub slot : Option SlotState
   -- the replies to its commands, in order
   pub replies : List Reply
@@ -42,7 +42,7 @@ waits (Some s) b = waiting s b
 
 -- Replies.
 
--- the answer to a command; `spent` says that the group was made, or that a later generation of its room was
+-- the reply to a command; `spent` is true if the group was made, or if a later generation of its room was
 abbrev pub answer_of : (Shown → Reply) → Bool → Option SlotState → Reply
 answer_of answer spent None = absent_answer spent
 answer_of answer spent (Some s) = answer (shown s)
@@ -65,7 +65,7 @@ reply_by bounds addr me event v = if v.stopped then Refused Stopped else running
 
 -- Events.
 
--- what a command with its reply changes
+-- the record after a command and its reply
 abbrev pub slot_did : NodeId → GroupEvent → Reply → SlotMember → SlotMember
 slot_did me (AskMake spec) Done v = record v { made = true; slot = Some (new_slot spec me set.empty) }
 slot_did me AskOpen Done v = record v { slot = option_map (slot_moved Opened Done) v.slot }
@@ -77,7 +77,7 @@ slot_did me event reply v = v
 abbrev pub slot_commanded : NodeId → GroupEvent → Reply → SlotMember → SlotMember
 slot_commanded me event reply v = let next = slot_did me event reply v in record next { replies = v.replies ++ reply ∷ [] }
 
--- an item comes from a node; one that is too long for the version that this node sends falls
+-- the record after an item comes from a node; an item that is too long for the version that this node sends is discarded
 abbrev pub came_in : Version → NodeId → Entry → SlotMember → SlotMember
 came_in version from x v = if is_too_long version x.payload then v else record v { slot = option_map (slot_came from x) v.slot }
 
@@ -85,15 +85,15 @@ abbrev pub taken_in : Version → NodeId → Option Entry → SlotMember → Slo
 taken_in version from None v = v
 taken_in version from (Some x) v = came_in version from x v
 
--- items that wait for a node are carried
+-- the record after items that wait for a node are carried
 abbrev pub took : ℕ → ℕ → SlotMember → SlotMember
 took b count v = record v { carried = slice_set v.carried b (carried_to v b ++ take count (waits v.slot b)); slot = option_map (slot_took b count) v.slot }
 
--- a node acknowledges items
+-- the slot after a node acknowledges items
 abbrev pub slot_marked : NodeId → List Entry → SlotState → SlotState
 slot_marked b xs s = fold (λ t x. slot_done b (message_of x) t) s xs
 
--- the carried items to a node with these places, which count from 1
+-- the carried items to a node at these places, which count from 1
 abbrev pub items_at : ℕ → ℕ → List Entry → List Entry
 items_at place count xs = take count (drop (place - 1) xs)
 
@@ -117,7 +117,7 @@ slot_member_after bounds addr me event vs = slot_commanded me event (reply_by bo
 abbrev pub slot_members_after : Bounds → Addr → List SlotMember → GroupStep → List SlotMember
 slot_members_after bounds addr vs step = slice_set vs step.node.number (slot_member_after bounds addr step.node step.event vs)
 
--- what the slots check of a step: only items that wait are carried, and only carried items come and are acknowledged
+-- the slots' check of a step: only items that wait are carried, and only carried items come and are acknowledged
 abbrev pub HasItems : NodeId → GroupEvent → List SlotMember → Type 0
 HasItems me (Took b count) vs = count ≤ length (waits (member_at vs me.number).slot b.number)
 HasItems me (Came from place) vs = (0 < place) × (place ≤ length (carried_to (member_at vs from.number) me.number))
@@ -128,13 +128,13 @@ HasItems me event vs = Unit {0}
 abbrev pub living : SlotMember → ℕ
 living v = v.others + (if is_some v.slot then 1 else 0)
 
--- what is checked of a step of the group's room: its tenant is taken in once, another generation is made where fewer than four live, and one is dropped where another lives
+-- the check of a step of the room: the tenant is added once, another generation is made if fewer than four live, and dropped if another lives
 abbrev pub HasRoom : Addr → NodeId → GroupEvent → List SlotMember → Type 0
 HasRoom addr me (Tenant reserve) vs = (member_at vs me.number).reserve ≡ None
 HasRoom addr me (OtherMade generation) vs = (generation ≢ addr.generation) × (living (member_at vs me.number) < GENERATIONS)
 HasRoom addr me OtherDropped vs = 0 < (member_at vs me.number).others
 HasRoom addr me event vs = Unit {0}
 
--- what is seen at a node, in a cluster of this number of nodes
+-- the replies and carried items at a node, in a cluster of this number of nodes
 abbrev pub seen_of : ℕ → SlotMember → SeenAt
 seen_of nodes v = record { replies = v.replies; carried = take nodes v.carried }

@@ -1,4 +1,4 @@
-//! What a slot answers, as replies, and copies of the items that wait in it.
+//! The replies of a slot, and copies of the items that wait in it.
 ghost use Rattle.std.specs.Prelude.{◌≡◌, ◌≤◌, ◌<◌, ◌++◌, IfOk, OnOk, length, take, true, slice_get, Some};
 ghost use Rattle.std.specs.FinSet as set;
 ghost use Rattle.gb_rules.specs.Common.{is_member, open_answer, shut_answer, say_answer, fetch_answer};
@@ -69,7 +69,7 @@ pub(crate) fn fetch(slot: &Slot, from: u32, most: u32) -> Result<Reply, OutOfMem
     }
 }
 
-/// Returns a copy of the item at a place among those that wait for the node `b`. Places count from 0.
+/// Returns a copy of the item at `place` among those that wait for the node `b`. Places count from 0.
 fn item(slot: &Slot, alloc: Global, b: NodeId, place: usize) -> Result<Entry, OutOfMemory>
     requires { place < length (waiting slot.now b.number) }
     ensures { IfOk result (λ x. slice_get (waiting slot.now b.number) place ≡ Some x) }

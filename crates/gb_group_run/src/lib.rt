@@ -1,7 +1,7 @@
-//! One group by itself, run by the slots that a node runs: what is seen of it, in time linear in the steps.
+//! One group by itself, run by the slots that a node runs: the observation of it, in time linear in the steps.
 //!
-//! gb_alone has the model and a plain slow program. This crate keeps a slot of gb_slot at each node of the group, beside what the slot
-//! does not have: the tenant, the other generations of the room, the replies and the items that are carried. Read `run` first, then
+//! gb_alone has the model and a plain slow program. This crate keeps a slot of gb_slot at each node of the group, and the state that a slot
+//! does not have: the tenant, the other generations of the room, the replies and the carried items. Read `run` first, then
 //! specs/SlotMember.antt.
 #![tactic(auto)]
 

@@ -1,4 +1,4 @@
-//! A group at one node: a slot, and what a slot does not have.
+//! A group at one node: a slot, and the state that a slot does not have.
 ghost use Rattle.std.specs.Prelude.{◌≡◌, ◌≢◌, ◌||◌, ◌+◌, ◌-◌, ◌<◌, ◌≤◌, [], nat_lt, IfOk, OnOk, Some, None, MatchOption, length, replicate, slice_get, option_map, true};
 ghost use Rattle.gb_types.specs.declared.{limits.TheConstants.NODES as MOST, node.NodeId.NodeId as AnyNode};
 ghost use Rattle.gb_rules.specs.declared.room.TheConstants.{GENERATIONS as PLACES};
@@ -29,7 +29,7 @@ fn is_within_limits(spec: &Spec) -> bool
     spec.msgs > 0 && spec.msgs <= MESSAGES && spec.bytes <= BYTES && spec.window <= WINDOW
 }
 
-/// Returns the refusal of a command on a group that is not here; `spent` says that it, or a later generation of its room, was made
+/// Returns the refusal of a command on a group that is not here. `spent` is true if the group, or a later generation of its room, was made
 /// here.
 fn absent(spent: bool) -> Reply
     ensures { result ≡ absent_answer spent }
@@ -41,7 +41,7 @@ fn absent(spent: bool) -> Reply
     }
 }
 
-/// Returns `count` items from a place on; places count from 1. `None` if there are fewer, or if the place is 0.
+/// Returns the `count` items from `place` on; places count from 1. `None` if there are fewer, or if `place` is 0.
 fn items_at(items: &[Entry], place: u64, count: u64) -> Option<&[Entry]>
     ensures { MatchOption result (Unit {0}) (λ xs. (xs.now ≡ model.items_at place count items.entry.now) × (0 < place) × (place + count ≤ length items.entry.now + 1)) }
 {
@@ -117,7 +117,7 @@ impl Member {
         })
     }
 
-    /// Takes in the group's tenant. `Err` if it was taken in before.
+    /// Adds the group's tenant. `Err` if a tenant was added before.
     pub(crate) fn take_tenant(&mut self, reserve: Reserve) -> Result<(), OutOfMemory>
         ensures new { OnOk result (self.old.reserve ≡ None) }
         ensures state { OnOk result (self.new ≡ record self.old { reserve = Some reserve }) }
@@ -129,8 +129,8 @@ impl Member {
         Ok(())
     }
 
-    /// Takes in that another generation of the room of the group with this address was made. `Err` if it is this generation, or if
-    /// the room has no place: 4 generations of it live.
+    /// Records that another generation of the room of the group with this address was made. `Err` if it is this generation, or if the room
+    /// is full: 4 generations of it live.
     pub(crate) fn other_made(&mut self, address: Addr, generation: u32) -> Result<(), OutOfMemory>
         ensures other { OnOk result (generation ≢ address.generation) }
         ensures room { OnOk result (model.living self.old < PLACES) }
@@ -149,7 +149,7 @@ impl Member {
         Ok(())
     }
 
-    /// Takes in that another generation of the group's room was dropped. `Err` if none lives.
+    /// Records that another generation of the group's room was dropped. `Err` if none lives.
     pub(crate) fn other_dropped(&mut self) -> Result<(), OutOfMemory>
         ensures there { OnOk result (0 < self.old.others) }
         ensures state { OnOk result (self.new ≡ record self.old { others = self.old.others - 1 }) }
@@ -283,7 +283,7 @@ impl Member {
         }
     }
 
-    /// Carries out a command at a node that has not stopped, and returns the reply.
+    /// Executes a command at a node that has not stopped, and returns the reply.
     fn run_command(
         &mut self,
         alloc: Global,
@@ -313,7 +313,7 @@ impl Member {
         }
     }
 
-    /// Carries out a command, and keeps its reply.
+    /// Executes a command, and keeps its reply.
     pub(crate) fn command(
         &mut self,
         alloc: Global,
@@ -347,8 +347,8 @@ impl Member {
         answers::carry(slot, alloc, b, count as usize, &mut self.carried[b.index()])
     }
 
-    /// Takes in an item from the node `from`. It falls if it is too long for `version`, the version of the packet text that this
-    /// node sends.
+    /// Takes an item from the node `from`. It is discarded if it is too long for `version`, the version of the packet text that this node
+    /// sends.
     pub(crate) fn come_in(&mut self, version: Version, from: NodeId, x: &Entry)
         ensures { self.new ≡ model.came_in version from x.now self.old }
     {
@@ -375,7 +375,7 @@ impl Member {
         Ok(())
     }
 
-    /// Notices the node `q`.
+    /// Records that the node `q` is noticed.
     pub(crate) fn notice(&mut self, q: NodeId)
         ensures { self.new ≡ record self.old { slot = option_map (slot_noticed q) self.old.slot } }
     {
@@ -399,7 +399,7 @@ impl Member {
         }
     }
 
-    /// Returns what is seen of the group at this node of a cluster of `nodes` nodes.
+    /// Returns the replies and the carried items of the group at this node of a cluster of `nodes` nodes.
     pub(crate) fn into_seen(self, nodes: u8) -> NodeSeen
         ensures { result ≡ model.seen_of nodes self }
     {

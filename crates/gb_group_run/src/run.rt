@@ -1,4 +1,4 @@
-//! What is seen of a group by itself, by the slots of its nodes.
+//! The observation of a group by itself, computed by the slots of its nodes.
 ghost use Rattle.std.specs.Prelude.{◌≡◌, ◌-◌, ◌<◌, ◌≤◌, IfOk, OnOk, length, map, replicate, take, slice_get, slice_set};
 ghost use Rattle.gb_types.specs.declared.limits.TheConstants.{NODES as MOST};
 ghost use Rattle.gb_types.specs.Common.{bounds_of};
@@ -24,8 +24,8 @@ fn members(alloc: Global) -> Result<Vec<Member>, OutOfMemory>
     Ok(members)
 }
 
-/// Takes in, at the node `me`, the item with this place among those that the node `from` carried to it. `Err` also if there is no such
-/// item. `version` is the version of the packet text that `me` sends.
+/// Takes, at the node `me`, the item with this place among those that the node `from` carried to it. `Err` also if there is no such item.
+/// `version` is the version of the packet text that `me` sends.
 fn item_at(
     alloc: Global,
     version: Version,
@@ -43,9 +43,9 @@ fn item_at(
     Ok(())
 }
 
-/// Changes the group by `step`, at the step's node. `Err` also if the step carries items that do not wait, if items come or are
-/// acknowledged that were not carried, if the tenant was taken in before, or if another generation of the group's room is made where the
-/// room has no place, or dropped where none lives.
+/// Changes the group at the step's node as the step says. `Err` also if the step carries items that do not wait, if items come or are
+/// acknowledged that were not carried, if the tenant was added before, or if another generation of the group's room is made when the room
+/// is full, or dropped when none lives.
 fn step_at(
     alloc: Global,
     bounds: &Bounds,
@@ -90,7 +90,7 @@ fn step_at(
     }
 }
 
-/// Returns what is seen at each node of a cluster of `nodes` nodes.
+/// Returns the replies and the carried items at each node of a cluster of `nodes` nodes.
 fn all_seen(alloc: Global, nodes: u8, group: Vec<Member>) -> Result<Observation, OutOfMemory>
     ensures { IfOk result (λ o. o ≡ map (seen_of nodes) (take nodes group.items)) }
 {
@@ -103,7 +103,7 @@ fn all_seen(alloc: Global, nodes: u8, group: Vec<Member>) -> Result<Observation,
     Ok(Observation::from(seen))
 }
 
-/// Returns what is seen of the group with this address, alone, after `steps`, in a cluster with these bounds.
+/// Returns the replies and the carried items of the group with this address, alone, after `steps`, in a cluster with these bounds.
 fn seen_by_slots(
     alloc: Global,
     bounds: &Bounds,
@@ -121,12 +121,12 @@ fn seen_by_slots(
     all_seen(alloc, bounds.nodes, group)
 }
 
-/// Returns what is seen, after `steps`, of the group `addr` by itself, without other tenants, links or frames, in a cluster of `plan`:
-/// for each node, the replies to the group's commands, and the items that are carried from it to each node. It is what
-/// `gb_alone::alone::alone` returns, in time linear in the steps and their payloads: each node that made the group runs a slot. Takes
-/// memory and changes nothing. `Err` if memory runs out, if a tenant's limits exceed those of the service, or if the steps are not legal:
-/// if more items are carried than wait, if items come or are acknowledged that were not carried, if the tenant is taken in twice, or if
-/// another generation of the group's room is made where 4 live, or dropped where none does.
+/// Returns the observation, after `steps`, of the group `addr` by itself, without other tenants, links or frames, in a cluster of `plan`:
+/// for each node, the replies to the group's commands, and the items that are carried from it to each node. It is the result of
+/// `gb_alone::alone::alone`, in time linear in the steps and their payloads: each node that made the group runs a slot. Takes memory and
+/// changes nothing. `Err` if memory runs out, if a tenant's limits exceed those of the service, or if the steps are not legal: if more
+/// items are carried than wait, if items come or are acknowledged that were not carried, if the tenant is added twice, or if another
+/// generation of the group's room is made while 4 live, or dropped while none does.
 pub fn alone_by_slots(
     alloc: Global,
     plan: &Plan,

@@ -1,4 +1,4 @@
--- A node before its host is opened, and what is opened with it.
+-- A node before its host is opened, and the parts that are opened with it.
 use Rattle.gb_types.specs.Common.{drop, inl, inr, eqb_tells, get_or_append_left, get_or-append_seam, ◌≡◌, ℕ, zero, suc, ◌+◌, ◌<◌, ◌≤◌, ◌∙◌, ◌++◌, ◌&&◌, ◌||◌, not, Bool, true, false, List, [], ◌∷◌, length, ap, arith, cond, get_or, refl, sym, subst, append-nil, append_assoc}
 use Rattle.gb_past.specs.Story.{Known}
 use Rattle.gb_types.specs.declared.node.NodeId.{NodeId}
@@ -21,7 +21,7 @@ use Rattle.gb_host.proofs.ReplayLemmas.{books_at, comes_new, node_plan_right, pl
 pub begun_new : (p : HostPlan) (me : NodeId) (v : NodeValue) (log : List TapeEntry) → IsPlan p → me.number < p.cluster.nodes → v ≡ new_node (plan_of p me) → log ≡ [] → ComesTo (plan_of p me) (past_of log) v
 begun_new p me v log right member is none = subst (λ es. ComesTo (plan_of p me) (past_of es) v) (sym none) (comes_new (plan_of p me) v (node_plan_right p me right member) is)
 
--- the node comes by its past, with the entry, to where it is
+-- the node comes by its past, with the entry, to its new state
 pub begun_more : (p : HostPlan) (me : NodeId) (old new : List TapeEntry) (e : TapeEntry) (v w : NodeValue) → ComesTo (plan_of p me) (past_of old) v → IsTurn v e.event e.answer w → IsSpelt v e.event e.answer → new ≡ old ++ e ∷ []
     → ComesTo (plan_of p me) (past_of new) w
 begun_more p me old new e v w comes turn spelt is = subst (λ es. ComesTo (plan_of p me) (past_of es) w) (sym is) (replay_more (plan_of p me) old e v w comes turn spelt)
@@ -32,7 +32,7 @@ hosted_begun p books h member comes kept booked = record { member = member; come
 pub past_begun : (p : HostPlan) (books : List BookName) (b : NodeId) (v : NodeValue) (known : Known TapeEntry) → b.number < p.cluster.nodes → known.book ≡ book_at books b.number → ComesTo (plan_of p b) (past_of known.log) v → IsPast p books b known.log known
 past_begun p books b v known member book comes = record { member = member; book = book; log = refl; state = v; comes = comes }
 
--- How a past that is there is kept.
+-- The ways in which an existing past is kept.
 
 pub kept_taped : (t r : Bool) (log : List TapeEntry) → t ≡ true → log ≡ [] → ◌≡◌ {A = List TapeEntry} [] (cond (t || r) log [])
 kept_taped true r log h none = sym none
@@ -48,7 +48,7 @@ kept_ringed true true log before entries h b none = (λ i. b i ++ none i) ∙ ap
 kept_ringed false true log before entries h b none = (λ i. b i ++ none i) ∙ append-nil log
 kept_ringed t false log before entries h b none = absurd cc
 
--- one more goes into the ring
+-- one more entry goes into the ring
 pub kept_push : (old_before old new_before new : List TapeEntry) (e : TapeEntry) → new_before ≡ old_before → new ≡ old ++ e ∷ [] → new_before ++ new ≡ (old_before ++ old) ++ e ∷ []
 kept_push old_before old new_before new e b is = (λ i. b i ++ is i) ∙ sym (append_assoc old_before old (e ∷ []))
 
@@ -67,7 +67,7 @@ pub begun_push : (bs : List BegunValue) (b : BegunValue) → pasts_begun (bs ++ 
 begun_push [] b = refl
 begun_push (x ∷ xs) b = ap (λ ps. x.past ∷ ps) (begun_push xs b)
 
--- the nodes from a place on
+-- the nodes from an index on
 pub begun_step : (bs : List BegunValue) (i : ℕ) (d : BegunValue) → i < length bs → pasts_begun (drop i bs) ≡ (get_or bs i d).past ∷ pasts_begun (drop (i + 1) bs)
 begun_step [] i d h = absurd (omega arith)
 begun_step (b ∷ bs) zero d h = refl
@@ -100,7 +100,7 @@ begun_to_more p n bs b len all number plan k d under =
       | inr t ↦ rw (get_or_append_left bs (b ∷ []) d k (omega (arith, t.1, under, len))) (all k d (omega (arith, t.1, under)))
     ]
 
--- the node at the next place
+-- the node at the next index
 pub next_begun : (p : HostPlan) (all ys rest : List BegunValue) (b : BegunValue) (n : ℕ) → all ≡ ys ++ b ∷ rest → length ys ≡ n → AreBegun p all → (b.me.number ≡ n) × (b.plan ≡ p) × (past_at (pasts_begun all) n ≡ b.past.log) × (n < length all)
 next_begun p all ys rest b n split count are =
     let at = placed_next all ys rest b n split count in

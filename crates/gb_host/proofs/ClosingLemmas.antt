@@ -1,4 +1,4 @@
--- What follows if each list is its entries in the tapes.
+-- Facts that follow if each list is its entries in the tapes.
 use Rattle.gb_types.specs.Common.{◌≡◌, ◌≢◌, ℕ, zero, suc, ◌+◌, ◌<◌, ◌≤◌, ◌==◌, Bool, true, false, List, [], ◌∷◌, ◌++◌, length, refl, sym, ap, ap₂, ◌∙◌, arith, cond, eqb, get_or, append_assoc, sum_by, inl, inr, ◌⊎◌, subst, add_assoc, add_comm, zero-add, Option, Some, None, Result, Ok, Err, vec_len, vec_capacity, OnOk, nat_cmp, eq-eqb, ne_eqb, eqb_tells, sum_by-append, get_or_append_left, append-nil, length_push, get_or-append_seam}
 use Rattle.std.specs.FinSet as set
 use Rattle.gb_types.proofs.SameLemmas.{same_number}
@@ -56,7 +56,7 @@ lengths_to (x ∷ xs) = sum_by-append length (x ∷ []) xs ∙ (ap₂ (λ a b. a
 abbrev one_if : Bool → ℕ
 one_if b = cond b 1 0
 
--- how many have the key k
+-- the number of elements with the key k
 abbrev picked : {X : Type 0} → (X → ℕ) → ℕ → List X → ℕ
 picked f k [] = 0
 picked f k (x ∷ xs) = one_if (f x == k) + picked f k xs
@@ -88,7 +88,7 @@ one_more n = omega arith
 below_of : (n a : ℕ) → (n ≤ a → ⊥) → a < n
 below_of n a h = omega (arith, h)
 
--- where each key is below n, all are picked
+-- if each key is below n, all elements are picked
 all_picked : {X : Type 0} (f : X → ℕ) (n : ℕ) (xs : List X) → ((k : ℕ) → n ≤ k → picked f k xs ≡ 0) → sum_to n (λ k. picked f k xs) ≡ length xs
 all_picked f n [] h = sum_to_none n
 all_picked f n (x ∷ xs) h =
@@ -114,7 +114,7 @@ length-numbered : (n : ℕ) (cs : List Call) → length (numbered n cs) ≡ leng
 length-numbered n [] = refl
 length-numbered n (c ∷ cs) = ap suc (length-numbered (n + 1) cs)
 
--- as many entries in all tapes as in all lists
+-- all tapes have as many entries as all lists
 pub same_entries : (tapes : List (List TapeEntry)) (lists : List (List NodeStep)) → AreSame tapes (list_at lists) → sum_by length tapes ≡ sum_by length lists
 same_entries tapes lists h =
     let n = length tapes in
@@ -128,7 +128,7 @@ same_entries tapes lists h =
     ∙ (sum_to_same m _ _ (λ s. sum_to_same n _ _ (λ k. here s k) ∙ by_list s)
     ∙ sym (lengths_to lists))))
 
--- a place more
+-- one more index
 pub replays_more : (p : HostPlan) (here : set.FinSet nat_cmp) (me : NodeId) (n : ℕ) (nodes : List (Option NodeValue)) (tapes : List (List TapeEntry)) (node : Option NodeValue) (tape : List TapeEntry) → length nodes ≡ n → length tapes ≡ n → me.number ≡ n
     → AreReplays p here n nodes tapes → IsClosed p (set.contains here me.number) me node tape → AreReplays p here (n + 1) (nodes ++ node ∷ []) (tapes ++ tape ∷ [])
 replays_more p here me n nodes tapes node tape a b number h i other d under =
@@ -166,7 +166,7 @@ pub so_far_more : (p : HostPlan) (here : set.FinSet nat_cmp) (me : NodeId) (is_h
 so_far_more p here me is_here old new (Ok x) so_far at number added capacity = so_far_next p here me is_here old new so_far at number added capacity
 so_far_more p here me is_here old new (Err e) so_far at number added capacity = tt
 
--- the place of a call in a tape
+-- the index of a call in a tape
 pub record Placed (s : ℕ) (tape : List TapeEntry) (cs : List (ℕ × Call)) (c : ℕ × Call) : Type 0 where
   pub before : List TapeEntry
   pub entry : TapeEntry
@@ -210,7 +210,7 @@ placed_at s [] [] ds c h = absurd cc
 placed_at s [] (x ∷ cs) ds c h = absurd cc
 placed_at s (e ∷ es) cs ds c h = placed_by s e es cs ds c (λ bs. placed_at s es bs ds c) (eqb_tells e.seat s) h
 
--- the state from which an entry's answer came
+-- the state in which an entry was answered
 pub record Answered (plan : NodePlan) (past : List Happened) (h : Happened) : Type 0 where
   pub state : NodeValue
   pub next : NodeValue

@@ -40,7 +40,7 @@ gathered_more all rest less x lists given g pop under free = record {
       let f : sum_by length (set lists x.number x.list) ≡ (0 + length x.list) + seat_entries g.late = omega arith in f ∙ sym t;
 }
 
--- the same where lists and marks were lent as slices, and are back
+-- the same if lists and marks were lent as slices, and are back
 pub gathered_step : (all rest less : List SeatValue) (x : SeatValue) (lists lent put more : List (List NodeStep)) (given lent_given put_given more_given : List Bool) (n m : ℕ) → Gathered all rest lists given → rest ≡ less ++ x ∷ []
     → lent ≡ lists → lent_given ≡ given → put ≡ set lent x.number x.list → put_given ≡ set lent_given x.number true → x.number < length lent → get_or lent_given x.number true ≡ false
     → length lists ≡ n → length given ≡ m → Gathered all less (take n (put ++ more)) (take m (put_given ++ more_given))

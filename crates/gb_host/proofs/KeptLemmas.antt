@@ -1,4 +1,4 @@
--- What is kept of a call.
+-- The copies of a call that are kept.
 use Rattle.gb_types.specs.Common.{◌≡◌, ◌≢◌, ◌<◌, ◌∙◌, ◌++◌, ◌&&◌, ◌||◌, not, Bool, true, false, ℕ, List, [], ◌∷◌, ap, cond, refl, sym, subst}
 use Rattle.gb_past.specs.Story.{Known}
 use Rattle.gb_types.specs.declared.node.NodeId.{NodeId}
@@ -84,7 +84,7 @@ module _ {L : Type 0} where
   list_kept p b node (Ring o) event answer (ForMemory c) k h = absurd h
   list_kept p b node (Ring o) event answer (ForRing c) k h = ap (λ x. cond x (record { node = node; event = event; answer = answer } ∷ []) []) (sym k.0)
 
-  -- what goes into the ring is what the past has
+  -- the entry that goes into the ring is the one of the past
   pub noted : (p : HostPlan) (books : List BookName) (b : NodeId) (kept : Kept L) (past : List TapeEntry) (seat count : ℕ) (event : NodeEvent) (answer : NodeAnswer) (copies : Copies) (known : Known TapeEntry) → IsKeptAt p b kept → kept_entries kept ≡ cond (is_kept p) past []
       → AreCopies (way_of kept) event answer copies → IsPast p books b (past ++ record { seat = seat; count = count; event = event; answer = answer } ∷ []) known → IsNoted p books kept seat count event copies known
   noted p books b Nothing past seat count event answer copies known k is h told = tt
@@ -95,7 +95,7 @@ module _ {L : Type 0} where
       let all : o.before ++ o.entries ≡ past = is ∙ ap (λ x. cond x past []) (ringed p.tape p.ring k.0 k.1).0 in
       rw (k.2, all, h) told
 
-  -- why a call is not kept
+  -- the fault if a call is not kept
   pub roomless : (p : HostPlan) (b : NodeId) (kept : Kept L) (count : ℕ) (why : HostFault) → IsKeptAt p b kept → IsRoomless kept why → IsUnkept p count why
   roomless p b Nothing count why k h = absurd h
   roomless p b (Memory t) count OutOfMemory k h = taped p.tape p.ring k
@@ -116,7 +116,7 @@ module _ {L : Type 0} where
   some_way p b (Memory t) k h = taped p.tape p.ring k
   some_way p b (Ring o) k h = (ringed p.tape p.ring k.0 k.1).0
 
-  -- What is left at the end.
+  -- The past at the end.
 
   pub tape_held : (p : HostPlan) (b : NodeId) (kept : Kept L) → IsKeptAt p b kept → tape_in kept ≡ cond p.tape (kept_entries kept) []
   tape_held p b Nothing k = none_held p.tape

@@ -1,4 +1,4 @@
--- What is no event by its answer changes nothing.
+-- A call that is no event by its answer changes nothing.
 use Rattle.gb_types.specs.Common.{◌≡◌, inl, inr, ◌∙◌, Bool, true, false, Some, None, Ok, Err, refl, sym, ap, option_map, if◌then◌else◌}
 use Rattle.gb_types.specs.declared.reply.Reply.TheVariants.{Done, Said, Log, Refused}
 use Rattle.gb_table.specs.Common.{table_reply}
@@ -8,7 +8,7 @@ use Rattle.gb_node.specs.declared.answer.NodeAnswer.TheVariants.{Reply as Replie
 use Rattle.gb_node.specs.declared.event.NodeEvent.TheVariants.{Request as Asked, Packet as Came, Pack, Again, Ack, Tick, Stop}
 use Rattle.gb_host.specs.Nothing.{is_no_event, NothingChanges}
 
--- a running node that answers so
+-- a running node with such an answer
 running_same : (v : NodeValue) (e : NodeEvent) → is_no_event (running_turn v e).answer ≡ true → (running_turn v e).value ≡ v
 running_same v (Asked request) h =
     elim (table_reply request v.table) as (λ r. is_no_event (Replied r) ≡ true → node_did r request.what v ≡ v) [

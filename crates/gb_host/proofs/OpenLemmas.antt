@@ -1,4 +1,4 @@
--- Recorders at the places of their nodes.
+-- Recorders at the indices of their nodes.
 use Rattle.gb_types.specs.Common.{◌≡◌, ◌∙◌, ℕ, ◌+◌, ◌<◌, ◌++◌, ◌&&◌, ◌||◌, not, Bool, true, false, refl, List, [], ◌∷◌, Option, None, ap, arith, get_or, inl, inr, length, subst, sym, nat_cmp, eqb_tells, get_or_append_left, get_or-append_seam}
 use Rattle.std.specs.FinSet as set
 use Rattle.gb_host.specs.HostValue.{AreOpened, IsOpened, IsOpenedAt}

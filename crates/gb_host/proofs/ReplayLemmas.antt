@@ -40,7 +40,7 @@ none_kept : {X : Type 0} (b : Bool) → ◌≡◌ {A = List X} [] (cond b [] [])
 none_kept true = refl
 none_kept false = refl
 
--- what is kept, with one more
+-- the kept entries, with one more
 kept_more : {X : Type 0} (b : Bool) (all some : List X) (x : X) → some ≡ cond b all [] → some ++ cond b (x ∷ []) [] ≡ cond b (all ++ x ∷ []) []
 kept_more true all some x h = ap (λ xs. xs ++ x ∷ []) h
 kept_more false all some x h = ap (λ xs. xs ++ []) h
@@ -109,7 +109,7 @@ counts_more counts list e one_each fits k under =
     let more : length (calls_at k (list ++ e ∷ [])) ≡ length (calls_at k list) + one_if (n == k) = calls_at_push k list e in
     grind (arith, common_steps)
 
--- what stands at a place, whatever would stand past the end
+-- the element at an index, whatever the default is
 pub any_default : {X : Type 0} (xs : List X) (k : ℕ) (d e : X) → k < length xs → get_or xs k d ≡ get_or xs k e
 any_default [] k d e h = absurd (omega arith)
 any_default (x ∷ xs) zero d e h = refl
@@ -132,7 +132,7 @@ seat_fits_new p books s counts calls list seen pasts booked = record {
   };
 }
 
--- One more that is seen.
+-- One more entry that is seen.
 
 pub books_push : (books : List BookName) (seen : List (Known TapeEntry)) (x : Known TapeEntry) → AreOfBooks books seen → x.book ≡ book_at books (length seen) → AreOfBooks books (seen ++ x ∷ [])
 books_push books seen x h e k under =
@@ -152,14 +152,14 @@ below_seam : {X : Type 0} (ys rest : List X) (x : X) → length ys < length (ys 
 below_seam [] rest x = omega arith
 below_seam (y ∷ ys) rest x = let h = below_seam ys rest x in let g : suc (length ys) < suc (length (ys ++ x ∷ rest)) = omega arith in g
 
--- what stands at the place of the next item
+-- the element at the index of the next item
 pub placed_next : {X : Type 0} (all ys rest : List X) (x : X) (n : ℕ) → all ≡ ys ++ x ∷ rest → length ys ≡ n → (n < length all) × ((d : X) → get_or all n d ≡ x)
 placed_next all ys rest x n split count = (
   let h = below_seam ys rest x in let l = ap length split in omega arith,
   λ d. (λ i. get_or (split i) (sym count i) d) ∙ get_or-append_seam ys x rest d,
 )
 
--- a call more, as the node's past has it
+-- one more call, as the node's past has it
 pub record NotedMore (p : HostPlan) (old new : SeatValue) (e : NodeStep) (x : TapeEntry) (past others : List TapeEntry) (v w : NodeValue) (book : BookName) : Type 0 where
   pub member : e.node.number < p.cluster.nodes
   pub seat : x.seat ≡ old.number
@@ -179,7 +179,7 @@ comes_next : (p : HostPlan) (old new : SeatValue) (e : NodeStep) (x : TapeEntry)
 comes_next p old new e x past others v w book n =
     replay_more (plan_of p e.node) past x v w n.comes (rw (n.event, n.answer) n.turn) (rw (n.event, n.answer) n.spelt)
 
--- what is seen of the call's node, and of the others
+-- the witness of the call's node, and of the others
 seen_here : (p : HostPlan) (old new : SeatValue) (e : NodeStep) (x : TapeEntry) (past others : List TapeEntry) (v w : NodeValue) (book : BookName) → NotedMore p old new e x past others v w book → length old.seen ≡ p.cluster.nodes
     → seen_at new.seen e.node.number ≡ record { book = book; log = past ++ x ∷ [] }
 seen_here p old new e x past others v w book n len =
@@ -245,7 +245,7 @@ seat_fits_more p books old new e x past others v w book fits n = record {
   happened = happened_more p old new e x past others v w book n fits.seen fits.happened;
 }
 
--- so the past goes on
+-- so the past continues
 pub goes_on : (p : HostPlan) (old new : SeatValue) (e : NodeStep) (x : TapeEntry) (past others : List TapeEntry) (v w : NodeValue) (book : BookName) → length old.seen ≡ p.cluster.nodes → NotedMore p old new e x past others v w book → GoesOn p e.node old new e.event e.answer
 goes_on p old new e x past others v w book len n = record {
   others = others;

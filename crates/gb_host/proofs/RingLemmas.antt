@@ -29,7 +29,7 @@ are_more (Begin b t ∷ xs) e s h = absurd h
 are_more (Entry f t ∷ xs) e s h = are_more xs e s h
 are_more (End p ∷ xs) e s h = absurd h
 
--- the past of a node with an entry more
+-- the past of a node with one more entry
 pub past_more : (p : HostPlan) (books : List BookName) (b : NodeId) (past : List TapeEntry) (e : TapeEntry) (known : Known TapeEntry) (v w : NodeValue) → b.number < p.cluster.nodes → known.book ≡ book_at books b.number → known.log ≡ past ++ e ∷ []
     → ComesTo (plan_of p b) (past_of past) v → IsTurn v e.event e.answer w → IsSpelt v e.event e.answer → IsPast p books b (past ++ e ∷ []) known
 past_more p books b past e known v w member book log comes turn spelt = record {
@@ -40,7 +40,7 @@ past_more p books b past e known v w member book log comes turn spelt = record {
   comes = replay_more (plan_of p b) past e v w comes turn spelt;
 }
 
--- What goes in.
+-- The values that go in.
 
 pub follows_entry : (p : HostPlan) (books : List BookName) (b : NodeId) (xs : List Noted) (e : TapeEntry) (s : Known TapeEntry) → HasBegun b xs → IsPast p books b ((before_of xs ++ entries_of xs) ++ e ∷ []) s → Follows p books xs (Entry e s)
 follows_entry p books b xs e s begun told =
@@ -62,7 +62,7 @@ entries_new b first xs ys none is = ap entries_of (is ∙ ap (λ zs. zs ++ Begin
 pub begun_more : (b : NodeId) (xs ys : List Noted) (e : TapeEntry) (s : Known TapeEntry) → HasBegun b xs → ys ≡ xs ++ Entry e s ∷ [] → HasBegun b ys
 begun_more b xs ys e s begun is = (begun.0, begun.1 ++ Entry e s ∷ [], is ∙ ap (λ zs. zs ++ Entry e s ∷ []) begun.2, are_more begun.1 e s begun.3)
 
--- what had happened before stays
+-- the earlier entries do not change
 pub before_more : (b : NodeId) (xs ys : List Noted) (x : Noted) → HasBegun b xs → ys ≡ xs ++ x ∷ [] → before_of ys ≡ before_of xs
 before_more b xs ys x begun is = ap before_of is ∙ (ap (λ zs. before_of (zs ++ x ∷ [])) begun.2 ∙ sym (ap before_of begun.2))
 
@@ -75,7 +75,7 @@ entries_more xs ys e s is = ap entries_of is ∙ entries_push xs e s
 pub entries_ended : (xs ys : List Noted) (s : Known TapeEntry) → ys ≡ xs ++ End s ∷ [] → entries_of ys ≡ entries_of xs
 entries_ended xs ys s is = ap entries_of is ∙ entries_end xs s
 
--- What comes out.
+-- The values that come out.
 
 pub taken_new : (p : HostPlan) (books : List BookName) (b : NodeId) (xs : List Noted) (s : Known TapeEntry) → IsPast p books b s.log s → xs ≡ Begin b s ∷ [] → HasTaken p books b xs s None
 taken_new p books b xs s told is = record { first = s; more = []; begun = is; told = subst (λ es. IsPast p books b es s) (sym (append-nil s.log)) told; so_far = tt }
@@ -105,7 +105,7 @@ taken_end p books b xs ys s t taken follows is =
 pub no_begin : (p : HostPlan) (books : List BookName) (b c : NodeId) (first : Known TapeEntry) (xs : List Noted) (s : Known TapeEntry) (past : Option (Known TapeEntry)) → HasTaken p books b xs s past → Follows p books xs (Begin c first) → ⊥
 no_begin p books b c first xs s past taken follows = (subst (λ zs. Follows p books zs (Begin c first)) taken.begun follows).1
 
--- what is known when a recorder has taken these
+-- the past that is known after a recorder has taken these values
 pub taken_told : (p : HostPlan) (books : List BookName) (b : NodeId) (xs : List Noted) (s : Known TapeEntry) (past : Option (Known TapeEntry)) → HasTaken p books b xs s past → IsPast p books b (before_of xs ++ entries_of xs) s
 taken_told p books b xs s past taken = subst (λ zs. IsPast p books b (before_of zs ++ entries_of zs) s) (sym taken.begun) taken.told
 

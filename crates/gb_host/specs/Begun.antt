@@ -1,4 +1,4 @@
--- What contracts see of a node before its host is opened.
+-- The value of a node before its host is opened, as contracts see it.
 use Rattle.std.specs.Prelude.{ℕ, ◌≡◌, ◌<◌, ◌↔◌, Bool, true, List, [], ◌∷◌, ◌++◌, length, slice_index_or}
 use Rattle.gb_past.specs.Story.{Known}
 use Rattle.gb_types.specs.declared.node.NodeId.{NodeId}
@@ -13,10 +13,10 @@ pub record BegunValue : Type 0 where
   pub plan : HostPlan
   pub me : NodeId
   pub node : NodeValue
-  -- all that happened at the node, the oldest first
+  -- all entries of the node, the oldest first
   pub past : Known TapeEntry
 
--- The entry's event happened at the node with an answer of the node's own, and the past has it so. Where the test says true this answer is the entry's.
+-- The entry's event happened at the node with the node's own answer, and the past has both. If `right` is true, this answer is the entry's.
 pub record IsAgain (old new : BegunValue) (e : TapeEntry) (right : Bool) : Type 0 where
   pub answer : NodeAnswer
   pub turn : IsTurn old.node e.event answer new.node
@@ -24,7 +24,7 @@ pub record IsAgain (old new : BegunValue) (e : TapeEntry) (right : Bool) : Type 
   pub past : new.past.log ≡ old.past.log ++ record { seat = e.seat; count = e.count; event = e.event; answer = answer } ∷ []
   pub is_right : (right ≡ true) ↔ (answer ≡ e.answer)
 
--- the node is one of the plan, and comes by its past to what it is
+-- the node is one of the plan, and comes by its past to its state
 abbrev pub IsBegun : BegunValue → Type 0
 IsBegun b = IsPlan b.plan × (b.me.number < b.plan.cluster.nodes) × ComesTo (plan_of b.plan b.me) (past_of b.past.log) b.node
 
@@ -40,7 +40,7 @@ abbrev pub books_begun : List BegunValue → List BookName
 books_begun [] = []
 books_begun (b ∷ bs) = b.past.book ∷ books_begun bs
 
--- what is known of their pasts
+-- the entries that are known of their pasts
 abbrev pub pasts_begun : List BegunValue → List (Known TapeEntry)
 pasts_begun [] = []
 pasts_begun (b ∷ bs) = b.past ∷ pasts_begun bs

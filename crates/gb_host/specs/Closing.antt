@@ -1,4 +1,4 @@
--- What is left after a host was closed.
+-- The tapes and lists after a host was closed.
 use Rattle.std.specs.Prelude.{ℕ, ◌≡◌, ◌≢◌, ◌⊎◌, ◌<◌, ◌≤◌, ◌==◌, Bool, true, false, List, [], ◌∷◌, ◌++◌, length, slice_index_or, cond, sum_by, Option, Some, None}
 use Rattle.std.specs.FinSet as set
 use Rattle.std.specs.Ordering.{nat_cmp}
@@ -37,7 +37,7 @@ AreReplays p here n nodes tapes = (b : NodeId) (d : Option NodeValue) → b.numb
 abbrev pub IsSame : List (List TapeEntry) → ℕ → List NodeStep → Type 0
 IsSame tapes s list = (k : ℕ) → calls_of s (tape_at tapes k) ≡ numbered 0 (calls_at k list)
 
--- each seat's entries in the tapes are its calls; a number without a seat stands in no tape
+-- each seat's entries in the tapes are its calls; a number without a seat is in no tape
 abbrev pub AreSame : List (List TapeEntry) → (ℕ → List NodeStep) → Type 0
 AreSame tapes lists = (s : ℕ) → IsSame tapes s (lists s)
 
@@ -45,8 +45,8 @@ AreSame tapes lists = (s : ℕ) → IsSame tapes s (lists s)
 abbrev pub IsOther : List (List TapeEntry) → ℕ → List NodeStep → Type 0
 IsOther tapes s list = (k : ℕ) × (calls_of s (tape_at tapes k) ≢ numbered 0 (calls_at k list))
 
--- A call x of a seat, made after the calls xs, stands in the tape of its node. The state in which the node answered it is the replay
--- of the entries before it, and these have all earlier calls of the seat at the node.
+-- A call x of a seat, made after the calls xs, is in the tape of its node. The state in which the node answered it is the replay of the entries
+-- before it, and these have all earlier calls of the seat at the node.
 pub record IsFresh (p : HostPlan) (s : ℕ) (tape : List TapeEntry) (xs : List NodeStep) (x : NodeStep) : Type 0 where
   pub before : List TapeEntry
   pub entry : TapeEntry
@@ -72,7 +72,7 @@ tape_entries tapes = sum_by length tapes
 abbrev pub seat_entries : List SeatValue → ℕ
 seat_entries seats = sum_by (λ x. length x.list) seats
 
--- the seats that are still to be looked at, and what was kept of the others
+-- the seats that are still to be checked, and the lists of the others
 pub record Gathered (all rest : List SeatValue) (lists : List (List NodeStep)) (given : List Bool) : Type 0 where
   pub late : List SeatValue
   pub split : all ≡ rest ++ late

@@ -1,4 +1,4 @@
--- The names that files of crates above cite, passed on from one place. Declares nothing.
+-- The names that files of crates above cite, passed on in one file. Declares nothing.
 pub use Rattle.gb_host.specs.Begun.{AreBegun, BegunValue, IsAgain, books_begun, pasts_begun}
 pub use Rattle.gb_host.specs.Closing.{AreFresh, AreReplays, AreSame, IsOther, list_of, seat_entries, tape_entries}
 pub use Rattle.gb_host.specs.HostValue.{AreHere, AreOpened, IsOpened, IsRefused}

@@ -11,8 +11,8 @@ use Rattle.gb_host.specs.Replay.{past_of}
 use Rattle.gb_host.specs.SeatValue.{SeatValue}
 use Rattle.gb_host.specs.declared.plan.HostPlan.{HostPlan}
 
--- The answer to an event is the one that the node gives after its past. This past is what the seat had seen of it, then what others did since, and it goes on with
--- this event. Of the other nodes' pasts the seat has seen what it had seen before.
+-- The answer to an event is the one that the node gives after its past. This past is the part that the seat had seen, followed by entries of other
+-- seats, and it continues with this event. The seat has seen no more of the other nodes' pasts than before.
 pub record GoesOn (p : HostPlan) (me : NodeId) (old new : SeatValue) (asked : NodeEvent) (told : NodeAnswer) : Type 0 where
   pub others : List TapeEntry
   pub entry : TapeEntry
@@ -27,13 +27,13 @@ pub record GoesOn (p : HostPlan) (me : NodeId) (old new : SeatValue) (asked : No
   pub grown : past_at new.seen me.number ≡ (past_at old.seen me.number ++ others) ++ entry ∷ []
   pub elsewhere : (k : ℕ) → k ≢ me.number → past_at new.seen k ≡ past_at old.seen k
 
--- these calls stand among the entries, in their order
+-- the entries have these calls, in this order
 abbrev pub AreAmong : List Call → List TapeEntry → Type 0
 AreAmong [] es = Unit {0}
 AreAmong (c ∷ cs) [] = ⊥
 AreAmong (c ∷ cs) (e ∷ es) = ((c ≡ (e.event, e.answer)) × AreAmong cs es) ⊎ AreAmong (c ∷ cs) es
 
--- a node came to some state by the past that a seat has seen of it, and in this past the seat's calls at the node stand
+-- a node came to some state by the past that a seat has seen of it, and this past has the seat's calls at the node
 pub record HasHappened (p : HostPlan) (s : SeatValue) (b : NodeId) : Type 0 where
   pub state : NodeValue
   pub comes : ComesTo (plan_of p b) (past_of (past_at s.seen b.number)) state

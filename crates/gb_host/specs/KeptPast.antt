@@ -1,4 +1,4 @@
--- How the past of a node is kept.
+-- The ways in which the past of a node is kept.
 use Rattle.std.specs.Prelude.{ℕ, ◌≡◌, ◌<◌, ◌++◌, true, false, List, [], ◌∷◌, vec_len, vec_capacity}
 use Rattle.std.specs.declared.{vec.Vec.Vec, alloc.Global.Global}
 use Rattle.gb_past.specs.Story.{Known}
@@ -40,13 +40,13 @@ module _ {L : Type 0} where
   IsSameWay (Ring old) (Ring new) = new.node ≡ old.node
   IsSameWay old new = ⊥
 
-  -- there is room for one more entry; if memory holds the tape, also in the seat's list
+  -- there is room for one more entry, and, if memory holds the tape, for one more call in the seat's list
   abbrev pub HasRoom : Kept L → Vec NodeStep Global → Type 0
   HasRoom Nothing list = Unit {0}
   HasRoom (Memory tape) list = (vec_len tape < vec_capacity tape) × (vec_len list < vec_capacity list)
   HasRoom (Ring out) list = 0 < out.free
 
-  -- why there is no room
+  -- the fault if there is no room
   abbrev pub IsRoomless : Kept L → HostFault → Type 0
   IsRoomless (Memory tape) OutOfMemory = Unit {0}
   IsRoomless (Ring out) Behind = Unit {0}
@@ -59,7 +59,7 @@ module _ {L : Type 0} where
   AreFor (Ring out) (ForRing answer) = Unit {0}
   AreFor kept copies = ⊥
 
-  -- what goes into a ring is what happened next, as the past has it
+  -- the entry that goes into a ring is the next one of the past
   abbrev pub IsNoted : HostPlan → List BookName → Kept L → ℕ → ℕ → NodeEvent → Copies → Known TapeEntry → Type 0
   IsNoted p books (Ring out) seat count event (ForRing a) past = IsPast p books out.node ((out.before ++ out.entries) ++ record { seat = seat; count = count; event = event; answer = a } ∷ []) past
   IsNoted p books kept seat count event copies past = Unit {0}

@@ -8,7 +8,7 @@ use Rattle.gb_host.specs.Plans.{plan_of}
 use Rattle.gb_host.specs.Replay.{past_of}
 use Rattle.gb_host.specs.declared.plan.HostPlan.{HostPlan}
 
--- the list is what the node answers in a state to which some past leads it
+-- the list is the node's answer in a state to which some past leads
 pub record IsListed (p : HostPlan) (me : NodeId) (token : List ℕ) (from most : ℕ) (found : Result Listing Refusal) : Type 0 where
   pub past : List TapeEntry
   pub state : NodeValue

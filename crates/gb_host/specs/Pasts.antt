@@ -1,4 +1,4 @@
--- Pasts of nodes, and what seats have seen of them.
+-- Pasts of nodes, and the witnesses that seats have of them.
 use Rattle.std.specs.Prelude.{ℕ, ◌≡◌, ◌<◌, List, [], ◌∷◌, length, slice_index_or}
 use Rattle.gb_past.specs.Story.{Known}
 use Rattle.logbook.specs.Pages.{Book}
@@ -11,7 +11,7 @@ BookName = Book × ℕ
 abbrev pub no_book : BookName
 no_book = (record { number = 0; log_name = 0; cells_name = 0 }, 0)
 
--- what was seen of the past of the node with this number; nothing if there is no such node
+-- the witness of the past of the node with this number; empty if there is no such node
 abbrev pub seen_at : List (Known TapeEntry) → ℕ → Known TapeEntry
 seen_at seen k = slice_index_or seen k (record { book = no_book; log = [] })
 
@@ -26,11 +26,11 @@ AreUnseen seen = (k : ℕ) → past_at seen k ≡ []
 abbrev pub book_at : List BookName → ℕ → BookName
 book_at books k = slice_index_or books k no_book
 
--- what was seen of each node's past is of that node's book
+-- the witness of each node's past is of that node's book
 abbrev pub AreOfBooks : List BookName → List (Known TapeEntry) → Type 0
 AreOfBooks books seen = (k : ℕ) → k < length seen → (seen_at seen k).book ≡ book_at books k
 
--- nothing has happened in any of these pasts
+-- these pasts have no entries
 abbrev pub AreBlank : List (Known TapeEntry) → Type 0
 AreBlank pasts = (k : ℕ) (d : Known TapeEntry) → k < length pasts → (slice_index_or pasts k d).log ≡ []
 

@@ -1,4 +1,4 @@
--- What was put at the places of nodes at the end of a host.
+-- The nodes and tapes that were added at the end of a host.
 use Rattle.std.specs.Prelude.{◌≡◌, ◌≤◌, Bool, List, [], ◌∷◌, ◌++◌, Option, vec_len, vec_capacity}
 use Rattle.std.specs.FinSet as set
 use Rattle.std.specs.Ordering.{nat_cmp}
@@ -13,7 +13,7 @@ abbrev pub HasAdded : HostPlan → Bool → NodeId → Closed → Closed → Typ
 HasAdded p is_here me old new =
     (node : Option NodeValue) × (tape : List TapeEntry) × (new.nodes.items ≡ old.nodes.items ++ node ∷ []) × (new.tapes.items ≡ old.tapes.items ++ tape ∷ []) × IsClosed p is_here me node tape
 
--- the nodes and tapes of the first places, with room for the others
+-- the nodes and tapes of the first indices, with room for the others
 pub record AreSoFar (p : HostPlan) (here : set.FinSet nat_cmp) (c : Closed) : Type 0 where
   pub as_many : vec_len c.tapes ≡ vec_len c.nodes
   pub node_room : p.cluster.nodes ≤ vec_capacity c.nodes

@@ -1,4 +1,4 @@
--- What goes through the ring from a node to its recorder: a beginning, then what happened, in order, then an end.
+-- The values that go through the ring from a node to its recorder: a beginning, then the entries, in order, then an end.
 use Rattle.std.specs.Prelude.{◌≡◌, ◌<◌, Bool, true, false, List, [], ◌∷◌, ◌++◌, Option, Some, None}
 use Rattle.gb_past.specs.Story.{Known}
 use Rattle.gb_types.specs.declared.node.NodeId.{NodeId}
@@ -17,28 +17,28 @@ pub record IsPast (p : HostPlan) (books : List BookName) (b : NodeId) (entries :
   pub state : NodeValue
   pub comes : ComesTo (plan_of p b) (past_of entries) state
 
--- what had happened at the node before the ring began
+-- the entries of the node before the ring began
 abbrev pub before_of : List Noted → List TapeEntry
 before_of [] = []
 before_of (Begin b seen ∷ xs) = seen.log
 before_of (Entry e seen ∷ xs) = []
 before_of (End past ∷ xs) = []
 
--- the entries among what was noted
+-- the entries among the values
 abbrev pub entries_of : List Noted → List TapeEntry
 entries_of [] = []
 entries_of (Begin b seen ∷ xs) = entries_of xs
 entries_of (Entry e seen ∷ xs) = e ∷ entries_of xs
 entries_of (End past ∷ xs) = entries_of xs
 
--- only entries were noted
+-- the values are entries only
 abbrev pub AreEntries : List Noted → Type 0
 AreEntries [] = Unit {0}
 AreEntries (Begin b seen ∷ xs) = ⊥
 AreEntries (Entry e seen ∷ xs) = AreEntries xs
 AreEntries (End past ∷ xs) = ⊥
 
--- what may be noted of a node after these entries: what happened next, or the end
+-- the value that may come after these entries of a node: the next entry, or the end
 abbrev pub IsNext : HostPlan → List BookName → NodeId → List TapeEntry → Noted → Type 0
 IsNext p books b entries (Begin c seen) = ⊥
 IsNext p books b entries (Entry e seen) = IsPast p books b (entries ++ e ∷ []) seen
@@ -49,7 +49,7 @@ IsBegin (Begin b seen) = Unit {0}
 IsBegin (Entry e seen) = ⊥
 IsBegin (End past) = ⊥
 
--- what may be noted after these values
+-- the value that may come after these values
 abbrev pub Follows : HostPlan → List BookName → List Noted → Noted → Type 0
 Follows p books [] x = IsBegin x
 Follows p books (Begin b seen ∷ before) x = AreEntries before × IsNext p books b (seen.log ++ entries_of before) x
@@ -60,17 +60,17 @@ Follows p books (End past ∷ before) x = ⊥
 abbrev pub HasBegun : NodeId → List Noted → Type 0
 HasBegun b noted = (first : Known TapeEntry) × (more : List Noted) × (noted ≡ Begin b first ∷ more) × AreEntries more
 
--- a past was handed over
+-- a past was passed on
 abbrev pub is_handed : Option (Known TapeEntry) → Bool
 is_handed None = false
 is_handed (Some past) = true
 
--- only entries were taken until the past was handed over; then these entries are all that is known of it
+-- only entries were taken until the past was passed on; then these entries are all that is known of it
 abbrev pub IsToldBy : HostPlan → List BookName → NodeId → List TapeEntry → List Noted → Option (Known TapeEntry) → Type 0
 IsToldBy p books b before more None = AreEntries more
 IsToldBy p books b before more (Some past) = IsPast p books b (before ++ entries_of more) past
 
--- what a recorder has taken
+-- the values that a recorder has taken
 pub record HasTaken (p : HostPlan) (books : List BookName) (b : NodeId) (noted : List Noted) (seen : Known TapeEntry) (past : Option (Known TapeEntry)) : Type 0 where
   pub first : Known TapeEntry
   pub more : List Noted

@@ -5,7 +5,7 @@ use Rattle.gb_host.specs.Calls.{Call, calls_of, calls_at, numbered}
 use Rattle.gb_host.specs.Closing.{list_at}
 use Rattle.gb_host.specs.declared.compare.Cursor.{Cursor}
 
--- how far the list with this number was walked
+-- the cursor of the list with this number
 abbrev pub cursor_at : List Cursor → ℕ → Cursor
 cursor_at cursors s = slice_index_or cursors s (record { place = 0; count = 0 })
 
@@ -16,7 +16,7 @@ left_at node list c = numbered c.count (calls_at node (drop c.place list))
 abbrev pub left_of : ℕ → List (List NodeStep) → List Cursor → ℕ → List (ℕ × Call)
 left_of node lists cursors s = left_at node (list_at lists s) (cursor_at cursors s)
 
--- each cursor is within its list, and has counted at most one call for each place before it
+-- each cursor is within its list, and has counted at most one call for each index before it
 abbrev pub AreBounded : List Cursor → List (List NodeStep) → Type 0
 AreBounded cursors lists = (s : ℕ) → ((cursor_at cursors s).count ≤ (cursor_at cursors s).place) × ((cursor_at cursors s).place ≤ length (list_at lists s))
 

@@ -1,4 +1,4 @@
-//! A node before its host is opened: one at which nothing has happened, or one that was brought by entries to where they lead.
+//! A node before its host is opened: a new one, or one that entries were replayed at.
 ghost use Rattle.std.specs.Prelude.{◌≡◌, ◌<◌, ◌++◌, ◌∷◌, [], true, IfSome};
 ghost use Rattle.gb_node.specs.Common.{new_node, IsTurn, IsSpelt};
 ghost use Rattle.gb_host.specs.Begun.{IsAgain, IsBegun};
@@ -12,7 +12,7 @@ use gb_types::NodeId;
 use std::alloc::Global;
 use std::marker::Model;
 
-/// A node with its past: by this past the node comes to what it is.
+/// A node with its past: by this past the node comes to its state.
 pub struct Begun {
     plan: HostPlan,
     me: NodeId,
@@ -21,7 +21,7 @@ pub struct Begun {
     standing: Standing,
 }
 
-// Not derived: what is derived is proved anew in each crate that ends one.
+// Not derived: a derived impl is proved anew in each crate that ends one.
 impl Drop for Begun {
     fn drop(self) {
         let Begun {
@@ -53,7 +53,7 @@ impl Model for Begun {
 }
 
 impl Begun {
-    /// Returns a node of the plan at which nothing has happened, with its past.
+    /// Returns a new node of the plan, with its past.
     #[tactic(auto, using(crate::proofs::BegunLemmas::begun_new))]
     pub fn new(alloc: Global, plan: HostPlan, me: NodeId, past: NodePast) -> Begun
         requires limits { IsPlan plan }
@@ -84,8 +84,8 @@ impl Begun {
         }
     }
 
-    /// Makes an entry's event happen at the node, which becomes the next entry of its past. Returns true if the node gave the entry's
-    /// answer: then it is this entry. Otherwise the past has the answer that the node gave.
+    /// Executes an entry's event at the node, which becomes the next entry of its past. Returns true if the node gave the entry's answer:
+    /// then the next entry is this entry. Otherwise the past has the answer that the node gave.
     #[tactic(auto, using(crate::proofs::BegunLemmas::begun_more))]
     pub fn replay(&mut self, entry: &TapeEntry) -> bool
         ensures same { (self.new.plan ≡ self.old.plan) × (self.new.me ≡ self.old.me) × (self.new.past.book ≡ self.old.past.book) }
@@ -104,16 +104,16 @@ impl Begun {
         answer.is(&entry.answer)
     }
 
-    /// A law: the node is one of its plan, and comes by its past to what it is. The function does nothing when it runs; its contract
-    /// is the law.
+    /// A law: the node is one of its plan, and comes by its past to its state. The function does nothing when it runs; its contract is the
+    /// law.
     pub fn comes(&self)
         ensures { IsBegun self.now }
     {
-        // The proof reads what the type keeps.
+        // The proof reads the type's invariant.
         let _ = &self.me;
     }
 
-    /// Returns which node it is.
+    /// Returns the node's number.
     pub fn me(&self) -> NodeId
         ensures { result ≡ self.now.me }
     {

@@ -20,8 +20,7 @@ use gb_types::{NodeId, NodeSet};
 use std::alloc::Global;
 use std::sync::Mutex;
 
-// Returns the seats' lists, ordered by the seats' numbers. `Err` with `ForeignSeat` unless each number below `count` stands
-// once.
+// Returns the seats' lists, ordered by the seats' numbers. `Err` with `ForeignSeat` unless each number below `count` occurs exactly once.
 fn by_number<L: Tapes>(
     alloc: Global,
     count: u32,
@@ -61,7 +60,7 @@ fn blanks(alloc: Global, count: u32) -> Result<(Vec<CallList>, Vec<bool>), HostF
     Ok((lists, given))
 }
 
-// Puts a seat's calls under its number. Returns false if the number is not below the number of lists, or was given before.
+// Stores a seat's calls under its number. Returns false if the number is not below the number of lists, or was given before.
 fn put_list<L: Tapes>(seat: Seat<L>, lists: &mut [CallList], given: &mut [bool]) -> bool
     requires { length given.old ≡ length lists.old }
     ensures free { result ≡ true → (seat.number < length lists.old) × (slice_index_or given.old seat.number true ≡ false) }
@@ -78,7 +77,7 @@ fn put_list<L: Tapes>(seat: Seat<L>, lists: &mut [CallList], given: &mut [bool])
     true
 }
 
-// Returns the node whose place is next, if the cluster has one more.
+// Returns the node whose index is next, if the cluster has one more.
 fn next_of(closed: &Closed, nodes: u8) -> Option<NodeId>
     requires { nodes ≤ NODES }
     ensures { IfSome result (λ b. (b.number ≡ vec_len closed.now.nodes) × (b.number < nodes)) }
@@ -101,7 +100,7 @@ fn taken_of<L: Tapes>(lock: Mutex<Hosted<L>>, me: NodeId) -> Option<(Node, Tape)
     Some(hosted.into_parts())
 }
 
-// Adds the node under the lock, and its tape. `Err` with `NoNode` if another node stands there.
+// Adds the node under the lock, and its tape. `Err` with `NoNode` if another node is under the lock.
 fn add_node<L: Tapes>(
     closed: &mut Closed,
     me: NodeId,
@@ -130,7 +129,7 @@ fn add_none(alloc: Global, plan: &HostPlan, closed: &mut Closed, me: NodeId)
     closed.tapes.push_reserved(Tape::from(Vec::new(alloc)));
 }
 
-// Adds what stands at the place of the node `me`: its node and tape if the node is here, otherwise none and an empty tape.
+// Adds the node `me` and its tape if the node is here, otherwise no node and an empty tape.
 fn add_place<L: Tapes>(
     alloc: Global,
     plan: &HostPlan,
@@ -163,7 +162,7 @@ fn add_place<L: Tapes>(
     }
 }
 
-// Adds what stands at the place of the next node.
+// Adds the next node and its tape, as `add_place` does.
 fn add_next<L: Tapes>(
     alloc: Global,
     closed: &mut Closed,
@@ -184,7 +183,7 @@ fn add_next<L: Tapes>(
     add_place(alloc, &plan, closed, me, here.contains(me), place)
 }
 
-// Returns the nodes and tapes of all places.
+// Returns the nodes and tapes of all indices.
 fn take_apart<L: Tapes>(
     alloc: Global,
     plan: HostPlan,
@@ -227,7 +226,7 @@ fn list_with(alloc: Global, lists: Vec<CallList>, seat: u32) -> CallList
 }
 
 /// Closes a host and returns its tapes and the calls of its seats. Each node that was here is the replay of its tape, the tape of any other
-/// node is empty, and each seat's calls are its entries in the tapes. Host and seats are given up, also with `Err`.
+/// node is empty, and each seat's calls are its entries in the tapes. The host and the seats are consumed, also with `Err`.
 pub fn close<L: Tapes>(host: Host<L>, seats: Vec<Seat<L>>) -> Result<Closed, HostFault>
     ensures len { IfOk result (λ c. (vec_len c.nodes ≡ host.plan.cluster.nodes) × (vec_len c.tapes ≡ host.plan.cluster.nodes)) }
     ensures replays { IfOk result (λ c. AreReplays host.plan host.here host.plan.cluster.nodes c.nodes.items c.tapes.items) }

@@ -1,4 +1,4 @@
-//! What is left of a host.
+//! The result of closing a host.
 use crate::call_list::CallList;
 use gb_node::{Node, Tape};
 
@@ -19,7 +19,7 @@ pub struct Difference {
     pub list: CallList,
 }
 
-// Not derived: what is derived is proved anew in each crate that ends one.
+// Not derived: a derived impl is proved anew in each crate that ends one.
 impl Drop for Difference {
     fn drop(self) {
         let Difference {

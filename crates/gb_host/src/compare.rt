@@ -12,7 +12,7 @@ use gb_node::{NodeStep, Tape, TapeEntry};
 use gb_types::OutOfMemory;
 use std::alloc::Global;
 
-/// How far a list was walked for a node: the place where the walk goes on, and the number of the node's calls before it.
+/// The position of a walk along a list for a node: the index at which the walk continues, and the number of the node's calls before it.
 #[derive(Clone, Copy)]
 pub struct Cursor {
     pub place: usize,
@@ -26,7 +26,7 @@ fn is_call(noted: &TapeEntry, made: &NodeStep) -> bool
     noted.event.is(&made.event) && noted.answer.is(&made.answer)
 }
 
-// Returns the first call at the node from `place` on, with the place after it, or `None` if there is no such call.
+// Returns the first call at the node from index `place` on, with the index after it, or `None` if there is no such call.
 fn next_at(list: &[NodeStep], node: u8, place: usize) -> Option<(&NodeStep, usize)>
     ensures some { IfSome result (λ r. calls_at node (drop place list.now) ≡ (r.0.now.event, r.0.now.answer) ∷ calls_at node (drop r.1 list.now)) }
     ensures within { IfSome result (λ r. (place < r.1) × (r.1 ≤ length list.now)) }

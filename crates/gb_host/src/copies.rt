@@ -9,7 +9,7 @@ use gb_node::{Node, NodeAnswer, NodeEvent};
 use gb_types::Version;
 use std::alloc::Global;
 
-/// Where what happens at a node is kept.
+/// The way in which a node's past is kept.
 #[derive(Clone, Copy)]
 pub enum Way {
     Nowhere,
@@ -34,7 +34,7 @@ pub enum Copies {
     ForRing(NodeAnswer),
 }
 
-// Makes the event happen at the node, and returns the answer with the copies of both that are kept.
+// Executes the event at the node, and returns the answer with the copies of both that are kept.
 pub(crate) fn answers(
     alloc: Global,
     way: Way,
@@ -62,7 +62,7 @@ pub(crate) fn answers(
     }
 }
 
-// Makes the event happen at the node, which sends this version, and returns the answer with one copy of it.
+// Executes the event at the node, which sends this version, and returns the answer with one copy of it.
 fn ring_answers(
     alloc: Global,
     version: Version,
@@ -85,7 +85,7 @@ fn ring_answers(
     Ok((answer, copy))
 }
 
-// The answer to an event that only reads, and a copy of it.
+// Returns the answer to an event that only reads, and a copy of it.
 fn read_answer(
     alloc: Global,
     node: &mut Node,
@@ -106,7 +106,7 @@ fn read_answer(
     Ok((answer, copy))
 }
 
-// Makes the event happen at the node, which sends this version, and returns the answer with the copies for memory.
+// Executes the event at the node, which sends this version, and returns the answer with the copies for memory.
 fn memory_answers(
     alloc: Global,
     version: Version,
@@ -166,7 +166,7 @@ fn read_answers(
     Ok((answer, for_tape, for_list))
 }
 
-// Makes an event happen that may change the node, which sends this version, and returns the answer and two copies of it.
+// Executes an event that may change the node, which sends this version, and returns the answer and two copies of it.
 fn changed_answers(
     alloc: Global,
     version: Version,

@@ -1,16 +1,16 @@
-//! Why a host refuses.
+//! The reasons why a host refuses.
 ghost use Rattle.std.specs.Prelude.{◌≡◌};
 
 use crate::closed::Difference;
 use gb_types::OutOfMemory;
 use std::alloc::AllocError;
 
-/// Why a host refused. Nothing has changed then, except that `close` has given up host and seats.
+/// The reason why a host refused. Nothing has changed then, except that `close` has consumed host and seats.
 #[derive(Drop)]
 pub enum HostFault {
-    /// The node is not here. From `close`: under a lock stands another node than the one with its number.
+    /// The node is not here. From `close`: the node under a lock is not the one with the lock's number.
     NoNode,
-    /// From `close`: the seats are not those of the host. A number stands twice, or not at all.
+    /// From `close`: the seats are not those of the host. A number occurs twice, or not at all.
     ForeignSeat,
     /// From `close`: a seat's calls are not its entries in the tapes.
     Differs(Difference),

@@ -29,8 +29,8 @@ use std::alloc::Global;
 use std::marker::Model;
 use std::sync::{Mutex, Wait};
 
-/// Some nodes of a cluster, each under a lock of its own, at the index of its number. Contracts see the plan, which nodes are
-/// here and the number of seats.
+/// Some nodes of a cluster, each under a lock of its own, at the index of its number. Contracts see the plan, which nodes are here and the
+/// number of seats.
 #[derive(Drop)]
 pub struct Host<L: Tapes> {
     alloc: Global,
@@ -58,9 +58,9 @@ impl<L: Tapes> Model for Host<L> {
 }
 
 impl<L: Tapes> Host<L> {
-    /// Opens a host of the nodes `here` of the plan. Returns it with `seats` seats, numbered from 0, and, at the index of its
-    /// number, a recorder for each node that is here if what happens goes through rings, otherwise none. `pasts` are the pasts
-    /// of all nodes of the plan, by number, in which nothing has happened.
+    /// Opens a host of the nodes `here` of the plan. Returns it with `seats` seats, numbered from 0, and a recorder for each node that is
+    /// here, at the index of its number, if the nodes' entries go through rings, otherwise no recorders. `pasts` are the empty pasts of all
+    /// nodes of the plan, by number.
     pub fn open(
         alloc: Global,
         plan: HostPlan,
@@ -86,8 +86,8 @@ impl<L: Tapes> Host<L> {
     }
 
     /// Opens a host of the nodes `here` of the plan, as `open` does, with nodes that have a past: `begun` has all nodes of the plan, by
-    /// number. The seats are numbered from `first` on; they have seen what happened, and made no call. Memory cannot hold the tapes of
-    /// nodes that have a past.
+    /// number. The seats are numbered from `first` on; they have seen these pasts, and made no call. Memory cannot hold the tapes of nodes
+    /// that have a past.
     pub fn open_begun(
         alloc: Global,
         plan: HostPlan,
@@ -147,7 +147,7 @@ impl<L: Tapes> Host<L> {
         &self.here
     }
 
-    /// Makes one event happen at a node, and returns its answer.
+    /// Executes one event at a node, and returns its answer.
     pub fn call<R: Wait>(
         &self,
         rt: &R,
@@ -165,8 +165,7 @@ impl<L: Tapes> Host<L> {
         self.call_at(rt, seat, node, event, &mut Open)
     }
 
-    /// Makes one event happen at a node, and returns its answer. The gate is passed while the node's lock is held; its result is
-    /// ignored.
+    /// Executes one event at a node, and returns its answer. The gate is passed while the node's lock is held; its result is ignored.
     pub fn call_at<R: Wait, G: Gate>(
         &self,
         rt: &R,
@@ -194,8 +193,8 @@ impl<L: Tapes> Host<L> {
         hosted.step(seat, event)
     }
 
-    /// Makes one event happen at a node as `call_at` does, and returns its answer, unless the answer says that it is no event: a request
-    /// is Denied, bytes are no packet for the node, a pack, an again or an acknowledgement gives nothing, or the node lacks memory. Then
+    /// Executes one event at a node as `call_at` does, and returns its answer, unless the answer says that it is no event: a request is
+    /// Denied, bytes are no packet for the node, a pack, an again or an acknowledgement gives nothing, or the node lacks memory. Then
     /// nothing has changed, and neither the node's past nor the seat has it.
     pub fn call_or_skip<R: Wait, G: Gate>(
         &self,
@@ -227,9 +226,9 @@ impl<L: Tapes> Host<L> {
         hosted.step_or_skip(seat, event)
     }
 
-    /// Lists at most `most` of a node's groups from the place `from` on, in the order in which they were made. The token has to
-    /// be the administrator's. It is refused as by `Node::list`. A list is no event: nothing changes, and it stands in no past
-    /// and no tape. Returns `None` if the node is not here.
+    /// Lists at most `most` of a node's groups, in the order of their places, without the first `from` of them. The token has to be the
+    /// administrator's. The list is refused in the same cases as by `Node::list`. A list is no event: nothing changes, and no past and no
+    /// tape has it. Returns `None` if the node is not here.
     pub fn list<R: Wait>(
         &self,
         rt: &R,
@@ -269,8 +268,8 @@ impl<L: Tapes> Host<L> {
         never(rt)
     }
 
-    /// Gives up the host and its nodes. If there are rings, each recorder is told that it has all entries. This waits while a
-    /// ring is full, unless its recorder is gone.
+    /// Ends the host and its nodes. If there are rings, each recorder is notified that it has all entries. This waits while a ring is full,
+    /// unless its recorder is gone.
     pub fn finish<R: Wait>(self, rt: &R) {
         let Host {
             alloc: _,
@@ -288,7 +287,7 @@ impl<L: Tapes> Host<L> {
         }
     }
 
-    /// Gives up the host and returns its parts.
+    /// Ends the host and returns its parts.
     pub(crate) fn into_parts(
         self,
     ) -> (
@@ -315,8 +314,8 @@ impl<L: Tapes> Host<L> {
     }
 }
 
-// Waits for ever. `open` puts each node that is here under the lock at its place, but no clause can say that of a lock. So a
-// call that found another node there does not go on.
+// Waits for ever. `open` stores each node that is here under the lock at its index, but no clause can say that of a lock. So a call that
+// found another node there does not continue.
 fn never<R: Wait>(rt: &R) -> ! {
     for _ in rt.forever() {}
     unreachable!()
@@ -373,7 +372,7 @@ fn open_node<L: Tapes>(
     Ok((Some(Mutex::new(hosted)), recorder))
 }
 
-/// The nodes of a plan under their locks, and their recorders, each at the place of its number.
+/// The nodes of a plan under their locks, and their recorders, each at the index of its number.
 type Opened<L> = (Vec<Option<Mutex<Hosted<L>>>>, Vec<Option<Recorder<L>>>);
 
 // Returns the nodes of a plan that are here, and their recorders.

@@ -28,7 +28,7 @@ use std::alloc::Global;
 use std::marker::Model;
 use std::sync::Wait;
 
-/// A node and its past. Contracts see the whole past; memory keeps of it what the plan says.
+/// A node and its past. Contracts see the whole past; memory keeps the part that the plan says.
 #[derive(Drop)]
 pub struct Hosted<L: Tapes> {
     alloc: Global,
@@ -57,7 +57,7 @@ impl<L: Tapes> Model for Hosted<L> {
 }
 
 impl<L: Tapes> Hosted<L> {
-    /// Returns a node that was begun, with how its past is kept. Memory holds no tape of a node that has a past.
+    /// Returns a node that was begun, with the way in which its past is kept. Memory holds no tape of a node that has a past.
     #[tactic(auto, using(crate::proofs::BegunLemmas::hosted_begun))]
     pub fn new(alloc: Global, begun: Begun, kept: Kept<L>) -> Hosted<L>
         requires plan { begun.plan ≡ L.plan }
@@ -94,7 +94,7 @@ impl<L: Tapes> Hosted<L> {
         (node, Tape::from(into_tape(alloc, kept)))
     }
 
-    /// Gives up the node. If it has a recorder, this waits until its ring has room, and then tells the recorder that no more entries come.
+    /// Ends the node. If it has a recorder, this waits until its ring has room, and then notifies the recorder that no more entries come.
     pub fn end<R: Wait>(self, rt: &R) {
         let Hosted {
             alloc: _,
@@ -122,7 +122,7 @@ impl<L: Tapes> Hosted<L> {
         self.node.list(token, from, most)
     }
 
-    /// Returns which node it is.
+    /// Returns the node's number.
     pub fn me(&self) -> NodeId
         ensures { result ≡ self.now.me }
     {
@@ -130,7 +130,7 @@ impl<L: Tapes> Hosted<L> {
     }
 }
 
-// Returns true if the answer says that what was asked is no event.
+// Returns true if the answer says that the call was no event.
 fn is_no_event(answer: &NodeAnswer) -> bool
     ensures { result ≡ is_no_event answer.now }
 {
@@ -154,7 +154,7 @@ fn is_vain(why: Refusal) -> bool
     }
 }
 
-// Returns true if an event is left out: its answer says that it is none, and those are left out.
+// Returns true if an event is left out: its answer says that it is none, and `skips` is true.
 fn is_left_out(skips: bool, answer: &NodeAnswer) -> bool
     ensures { result ≡ (skips && is_no_event answer.now) }
 {
@@ -162,8 +162,8 @@ fn is_left_out(skips: bool, answer: &NodeAnswer) -> bool
 }
 
 impl<L: Tapes> Hosted<L> {
-    /// Makes one event happen, atomic under the node's lock, and returns the node's answer. The past goes on with an entry, which the seat
-    /// sees, and the seat's calls with a call. With tapes memory holds both, and with a ring the entry goes to the recorder. After a
+    /// Executes one event, atomically under the node's lock, and returns the node's answer. The past gets one more entry, which the seat
+    /// sees, and the seat's calls get one more call. With tapes memory holds both, and with a ring the entry goes to the recorder. After a
     /// refusal nothing has changed.
     pub fn step(&mut self, seat: &mut Seat<L>, event: NodeEvent) -> Result<NodeAnswer, HostFault>
         ensures turn { IfOk result (λ a. IsTurn self.old.node event a self.new.node) }
@@ -182,8 +182,8 @@ impl<L: Tapes> Hosted<L> {
         }
     }
 
-    /// One event as by `step`, unless its answer says that it is none: a request is Denied, bytes are no packet for the node, nothing is
-    /// sent, or the node lacks memory. Then nothing has changed, and neither the past, a tape, a ring nor the seat has it.
+    /// Executes one event as `step` does, unless its answer says that it is none: a request is Denied, bytes are no packet for the node,
+    /// nothing is sent, or the node lacks memory. Then nothing has changed, and neither the past, a tape, a ring nor the seat has it.
     pub fn step_or_skip(
         &mut self,
         seat: &mut Seat<L>,
@@ -207,7 +207,7 @@ impl<L: Tapes> Hosted<L> {
         }
     }
 
-    // One event. If `skips`, what is no event by its answer is left out.
+    // Executes one event. If `skips`, an event that is none by its answer is left out.
     fn step_with(
         &mut self,
         seat: &mut Seat<L>,
@@ -267,7 +267,7 @@ impl<L: Tapes> Hosted<L> {
             }
         };
         if is_left_out(skips, &answer) {
-            // The node is as it was.
+            // The node did not change.
             nothing_changes();
             drop(event);
             drop(copies);

@@ -1,4 +1,4 @@
-//! How the past of a node is kept.
+//! The ways in which the past of a node is kept.
 ghost use Rattle.std.specs.Prelude.{◌≡◌, ◌++◌, ◌∷◌, [], true, cond, IfOk, IfErr, OnOk};
 ghost use Rattle.gb_host.specs.Copied.{list_copy, tape_copy};
 ghost use Rattle.gb_host.specs.HostValue.{IsOpenedAt};
@@ -17,7 +17,7 @@ use gb_node::{NodeEvent, NodeStep, TapeEntry};
 use gb_types::NodeId;
 use std::alloc::Global;
 
-/// How a node's past is kept, besides what contracts see of it.
+/// The way in which a node's past is kept, besides the past that contracts see.
 #[derive(Drop)]
 pub enum Kept<L: Tapes> {
     Nothing,
@@ -28,7 +28,7 @@ pub enum Kept<L: Tapes> {
 }
 
 impl<L: Tapes> Kept<L> {
-    /// Returns where the past is kept.
+    /// Returns the way in which the past is kept.
     pub fn way(&self) -> Way
         ensures { result ≡ way_of self.now }
     {
@@ -54,8 +54,8 @@ pub(crate) fn into_tape<L: Tapes>(alloc: Global, kept: Kept<L>) -> Vec<TapeEntry
     }
 }
 
-/// Returns how the past is kept of a node, with the node's recorder if it goes through a ring. If memory holds it, nothing has happened
-/// at the node.
+/// Returns the way in which the past of a node is kept, with the node's recorder if the past goes through a ring. If memory holds it, the
+/// node is new.
 #[tactic(auto, using(crate::proofs::OpenLemmas::ringed_taped, crate::proofs::OpenLemmas::ringed_off, crate::proofs::OpenLemmas::ringed_on, crate::proofs::OpenLemmas::kept_off))]
 pub fn kept_at<L: Tapes>(
     alloc: Global,
@@ -82,7 +82,7 @@ pub fn kept_at<L: Tapes>(
     }
 }
 
-// A call that is kept: the node, the seat's number, how often the seat called the node before, and the event.
+// A call that is kept: the node, the seat's number, the number of the seat's earlier calls at the node, and the event.
 #[derive(Drop)]
 pub(crate) struct KeptCall {
     pub(crate) node: NodeId,
@@ -91,7 +91,7 @@ pub(crate) struct KeptCall {
     pub(crate) event: NodeEvent,
 }
 
-// Makes room for one more entry; if memory holds the tape, also in the seat's list.
+// Makes room for one more entry, and, if memory holds the tape, for one more call in the seat's list.
 pub(crate) fn make_room<L: Tapes>(
     kept: &mut Kept<L>,
     list: &mut Vec<NodeStep>,
@@ -118,7 +118,7 @@ pub(crate) fn make_room<L: Tapes>(
     }
 }
 
-// Keeps a call that the node's past has; if memory holds the tape, also in the seat's list.
+// Keeps a call that the node's past has, and, if memory holds the tape, adds it to the seat's list.
 pub(crate) fn keep<L: Tapes>(
     kept: &mut Kept<L>,
     list: &mut Vec<NodeStep>,

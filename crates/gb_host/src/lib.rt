@@ -1,6 +1,6 @@
-//! A host of nodes. Each node is under a lock of its own, with its past; contracts see the past, and memory holds it only if
-//! tapes are kept. Callers have seats, which see the pasts of the nodes that they call. Nothing here sends or receives. Read
-//! `hosted::Hosted::step` first, then `host::Host` and `close::close`.
+//! A host of nodes. Each node is under a lock of its own, with its past; contracts see the past, and memory holds it only if tapes are
+//! kept. Callers have seats, which see the pasts of the nodes that they call. Nothing here sends or receives. Read `hosted::Hosted::step`
+//! first, then `host::Host` and `close::close`.
 #![tactic(auto)]
 
 pub mod begun;

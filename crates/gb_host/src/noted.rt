@@ -1,4 +1,4 @@
-//! What goes from a node to its recorder.
+//! The values that go from a node to its recorder.
 use crate::names::Tapes;
 use crate::pasts::{NodePast, NodeSeen};
 use gb_node::TapeEntry;
@@ -6,18 +6,18 @@ use gb_types::NodeId;
 use rtrb::Protocol;
 use std::marker::PhantomData;
 
-/// What goes through the ring from a node to its recorder.
+/// A value that goes through the ring from a node to its recorder.
 #[derive(Drop)]
 pub enum Noted {
-    /// The first value of the ring: which node it is of, and a witness of the past that the node had before.
+    /// The first value of the ring: the node's number, and a witness of the past that the node had before.
     Begin(NodeId, NodeSeen),
-    /// What happened next at the node, and a witness of the node's past with this entry.
+    /// The next entry of the node's past, and a witness of the past with this entry.
     Entry(TapeEntry, NodeSeen),
-    /// Nothing more happens at the node. The value hands over its past, to which no entry is added any more.
+    /// The node has ended. The value passes on its past, to which no entry is added any more.
     End(NodePast),
 }
 
-/// The order in which a node's entries go to its recorder: each entry is what happened next at the ring's node.
+/// The order in which a node's entries go to its recorder: each entry is the next one of the past of the ring's node.
 #[derive(Clone, Copy)]
 pub struct InOrder<L: Tapes> {
     marker: PhantomData<L>,

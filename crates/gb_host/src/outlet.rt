@@ -15,13 +15,12 @@ use std::marker::Model;
 use std::sync::Wait;
 use std::thread;
 
-/// The number of entries that wait for a recorder at most.
+/// The maximum number of entries that wait for a recorder.
 pub const WAITING: usize = 16_384;
 
 const _: () = prove!(WAITING == 16_384);
 
-/// Sends what happens at a node to its recorder. Contracts see the node and all entries that were sent; memory does not hold
-/// them.
+/// Sends a node's entries to its recorder. Contracts see the node and all entries that were sent; memory does not hold them.
 #[derive(Drop)]
 pub struct Outlet<L: Tapes> {
     node: NodeId,
@@ -54,7 +53,7 @@ impl<L: Tapes> Outlet<L> {
         !self.out.is_full()
     }
 
-    /// Sends what happened next at the node, once the node's past has it.
+    /// Sends the next entry of the node, once the node's past has it.
     #[tactic(auto, using(crate::proofs::RingLemmas::follows_entry, crate::proofs::RingLemmas::begun_more, crate::proofs::RingLemmas::entries_more))]
     pub fn push(&mut self, entry: TapeEntry, past: &NodePast)
         requires room { 0 < self.old.free }
@@ -91,7 +90,7 @@ impl<L: Tapes> Outlet<L> {
         unreachable!()
     }
 
-    /// Hands the node's past to the recorder, once there is room for it. Hands over nothing if the recorder is gone.
+    /// Passes the node's past to the recorder, once there is room for it. Passes nothing if the recorder is gone.
     #[tactic(auto, using(crate::proofs::RingLemmas::follows_end))]
     pub fn end<R: Wait>(self, rt: &R, past: NodePast)
         requires { IsPast L.plan L.books self.node (self.before ++ self.entries) past }

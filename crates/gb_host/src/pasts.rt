@@ -15,16 +15,16 @@ impl<E> Story<E> for Anything {
     ghost goes_on = { λ before x. Unit {0} };
 }
 
-/// What happened at a node, the oldest first.
+/// The entries of a node, the oldest first.
 pub type NodePast = Past<TapeEntry, Anything>;
 
-/// What was seen of a node's past.
+/// A witness of a node's past: the entries that were seen.
 pub type NodeSeen = Seen<TapeEntry, Anything>;
 
 /// The calls of a seat, the oldest first.
 pub type SeatPast = Past<NodeStep, Anything>;
 
-/// A call: the node, the seat's number, how often the seat called the node before, the event and its answer.
+/// A call: the node, the seat's number, the number of the seat's earlier calls at the node, the event and its answer.
 #[derive(Clone, Copy)]
 pub struct Made<'a> {
     pub node: NodeId,
@@ -34,21 +34,21 @@ pub struct Made<'a> {
     pub answer: &'a NodeAnswer,
 }
 
-/// What a node's past records of a call.
+/// The part of a call that a node's past records.
 pub struct AtNode;
 
 impl<'a> Told<Made<'a>, TapeEntry> for AtNode {
     ghost entry = { λ m. record { seat = m.seat; count = m.count; event = m.event.now; answer = m.answer.now } };
 }
 
-/// What a seat's past records of a call.
+/// The part of a call that a seat's past records.
 pub struct AtSeat;
 
 impl<'a> Told<Made<'a>, NodeStep> for AtSeat {
     ghost entry = { λ m. record { node = m.node; event = m.event.now; answer = m.answer.now } };
 }
 
-/// Returns the pasts of `nodes` nodes at which nothing has happened.
+/// Returns the empty pasts of `nodes` new nodes.
 pub fn new_pasts(alloc: Global, nodes: u8) -> Result<Vec<NodePast>, OutOfMemory>
     ensures { IfOk result (λ pasts. (vec_len pasts ≡ nodes) × AreBlank pasts.items) }
 {
@@ -59,7 +59,7 @@ pub fn new_pasts(alloc: Global, nodes: u8) -> Result<Vec<NodePast>, OutOfMemory>
     Ok(pasts)
 }
 
-// A past begins with what was seen of it. Nothing is added to it.
+// A past begins with the entries that were seen of it. Nothing is added to it.
 pub(crate) fn show(past: &mut NodePast, seen: &NodeSeen)
     requires { seen.now.book ≡ past.old.book }
     ensures past { past.new ≡ past.old }

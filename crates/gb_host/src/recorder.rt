@@ -1,4 +1,4 @@
-//! The end of a node's ring from which its recorder takes what happened.
+//! The end of a node's ring from which its recorder takes the entries.
 ghost use Rattle.std.specs.Prelude.{◌≡◌, [], ◌∷◌, ◌++◌, false, true, IfSome, IsSome, None};
 ghost use Rattle.rtrb.specs.Ring.{received};
 ghost use Rattle.gb_host.specs.Rings.{IsPast};
@@ -14,18 +14,18 @@ use rtrb::Consumer;
 use std::alloc::Global;
 use std::marker::Model;
 
-/// What a recorder takes.
+/// The result of a take by a recorder.
 #[derive(Drop)]
 pub enum Taken {
-    /// What happened next at the node.
+    /// The next entry of the node.
     Entry(TapeEntry),
-    /// The node was given up: the entries that were taken are all that happened there.
+    /// The node has ended: the entries that were taken are all of its entries.
     End,
 }
 
-/// Takes what happened at a node, in order. Contracts see the node, what had happened there before, and all entries that were taken:
-/// together at any moment a beginning of the node's past, and after the end the whole of it. A recorder that is dropped takes no more; once its ring is full, the node
-/// refuses each call.
+/// Takes the entries of a node, in order. Contracts see the node, the entries before the ring, and all entries that were taken: together
+/// they are at any moment a beginning of the node's past, and after the end all of it. A recorder that is dropped takes no more; once its
+/// ring is full, the node refuses each call.
 #[derive(Drop)]
 pub struct Recorder<L: Tapes> {
     node: NodeId,
@@ -52,7 +52,7 @@ impl<L: Tapes> Model for Recorder<L> {
 }
 
 impl<L: Tapes> Recorder<L> {
-    // Returns a recorder that has taken nothing yet. `seen` is what is seen of the node's past.
+    // Returns a recorder that has taken nothing yet. `seen` is a witness of the node's past.
     #[tactic(auto, using(crate::proofs::RingLemmas::taken_new))]
     pub(crate) fn new(
         node: NodeId,
@@ -78,7 +78,7 @@ impl<L: Tapes> Recorder<L> {
         self.node
     }
 
-    /// Takes and returns what happened next. `None` if no more is there yet, and after the end.
+    /// Takes and returns the next entry, or the end. `None` if there is none yet, and after the end.
     #[tactic(auto, using(crate::proofs::RingLemmas::taken_entry, crate::proofs::RingLemmas::taken_end, crate::proofs::RingLemmas::no_begin, crate::proofs::RingLemmas::entries_more, crate::proofs::RingLemmas::entries_ended))]
     pub fn take(&mut self) -> Option<Taken>
         ensures node { self.new.node ≡ self.old.node }
@@ -102,16 +102,15 @@ impl<L: Tapes> Recorder<L> {
         }
     }
 
-    /// Returns a witness of the node's past that knows exactly the entries that were taken. So these are a beginning of the
-    /// node's past.
+    /// Returns a witness of the node's past that knows exactly the entries that were taken. So these are a beginning of the node's past.
     pub fn seen(&self) -> NodeSeen
         ensures { IsPast L.plan L.books self.now.node (self.now.before ++ self.now.entries) result }
     {
         self.seen.again()
     }
 
-    /// Gives up the recorder and returns the node's past if it has ended, otherwise `None`. The entries that were taken are then
-    /// the whole past, and nobody else can add to it.
+    /// Ends the recorder and returns the node's past if it has ended, otherwise `None`. The entries that were taken are then the whole
+    /// past, and nobody else can add to it.
     pub fn into_past(self) -> Option<NodePast>
         ensures whole { IfSome result (IsPast L.plan L.books self.node (self.before ++ self.entries)) }
         ensures some { self.is_whole ≡ true → IsSome result }

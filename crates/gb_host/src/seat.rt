@@ -1,4 +1,4 @@
-//! Callers.
+//! Seats: the callers of a host.
 ghost use Rattle.std.specs.Prelude.{◌≡◌, ◌<◌, [], vec_len};
 ghost use Rattle.gb_host.specs.Happened.{ArePasts, HaveHappened};
 ghost use Rattle.gb_host.specs.Pasts.{AreOfBooks};
@@ -13,8 +13,8 @@ use gb_types::limits::NODES;
 use std::alloc::Global;
 use std::marker::{Model, PhantomData};
 
-/// A caller: its number, how often it called each node, its calls, and what it has seen of each node's past. Memory holds the
-/// calls only if tapes are kept.
+/// A caller: its number, the number of its calls at each node, its calls, and witnesses of each node's past. Memory holds the calls only if
+/// tapes are kept.
 #[derive(Drop)]
 pub struct Seat<L: Tapes> {
     pub(crate) number: u32,
@@ -65,17 +65,16 @@ impl<L: Tapes> Seat<L> {
         self.list.as_slice()
     }
 
-    /// Each call of the seat has happened at its node: the seat has seen a past of the node by which the node comes to a state,
-    /// and in this past the seat's calls at the node stand in their order. The function does nothing when it runs; its contract
-    /// is the law.
+    /// A law: each call of the seat has happened at its node. The seat has seen a past of the node by which the node comes to a state, and
+    /// this past has the seat's calls at the node in their order. The function does nothing when it runs; its contract is the law.
     pub fn have_happened(&self)
         ensures { HaveHappened L.plan self.now }
     {
-        // The proof reads what the type keeps.
+        // The proof reads the type's invariant.
         let _ = &self.number;
     }
 
-    /// Gives up the seat and returns its number and its calls.
+    /// Ends the seat and returns its number and its calls.
     pub fn into_list(self) -> (u32, CallList)
         ensures { (result.0 ≡ self.number) × (result.1 ≡ self.list) }
     {

@@ -1,4 +1,4 @@
--- If no answer of a run refuses for lack of memory, no group's request was refused for it.
+-- If no answer of a run refuses for lack of memory, no group's request was refused for lack of memory.
 use Rattle.gb_types.specs.Common.{◌≡◌, List, [], ◌∷◌, true, not, ◌&&◌, refl, ap, ◌∙◌, and_parts}
 use Rattle.gb_types.specs.declared.{address.Addr.Addr, refusal.Refusal.TheVariants.OutOfMemory, reply.Reply.TheVariants.Refused}
 use Rattle.gb_node.specs.Common.{Happened}

@@ -1,4 +1,4 @@
--- What a packet that is taken does to a group.
+-- The effect of a good packet on a group.
 use Rattle.gb_types.specs.Common.{◌≡◌, ◌≢◌, ℕ, ◌+◌, ◌-◌, ◌<◌, ◌≤◌, List, [], ◌∷◌, ◌++◌, length, map, fold, option_map, Some, Bool, true, false, not, ◌&&◌, ◌||◌, refl, sym, ◌∙◌, ap, subst, arith, nat_eq, nat_le, slice_get, All, if◌then◌else◌, list_any, flat_map, or-false, false_from_ne_true, append-nil, bounds_of, version_at}
 use Rattle.std.specs.FinSet as set
 use Rattle.gb_types.specs.declared.{address.Addr.Addr, limits.TheConstants.NODES, node.NodeId.NodeId, plan.Plan.Plan, version.Version.Version}
@@ -22,7 +22,7 @@ use Rattle.gb_isolation.proofs.ComeLemmas.{with_frame, frame_goes}
 
 -- The view.
 
--- the view after a packet from a node is taken, whose frame comes for the first time or does not
+-- the view after a packet from a node is taken; the packet's frame came for the first time or did not
 abbrev with_packet : Version → Addr → NodeId → Content → Bool → View → View
 with_packet version g me c first v =
     let u : View = with_acks g me (node_numbered c.from) c.from (covers c.base c.mask) v in
@@ -107,7 +107,7 @@ module _ (plan : Plan) (g : Addr) (run : List NodeStep) (a : NodeId) (bytes : Li
   forth : frames_from s.number ≡ frames_to key a.number (past_at s run)
   forth = ap (λ (x : NodeId). frames_to key a.number (past_at x run)) (numbered_is s)
 
-  -- what is acknowledged has come to the sender
+  -- the acknowledged items have arrived at the sender
   come : AreMarked g (v.frames s.number) (λ n. is_taken key a.number n (past_at s run)) ((group s.number).come a.number)
   come = subst (λ (x : NodeId). AreMarked g (frames_to key s.number (past_at x run)) (λ n. is_taken key a.number n (past_at s run)) ((group s.number).come a.number)) (numbered_is a) (sender.come a.number inside)
 
@@ -149,7 +149,7 @@ module _ (plan : Plan) (g : Addr) (run : List NodeStep) (a : NodeId) (bytes : Li
   given : flat_map (arrived plan g run a) (read key bytes) ≡ acknowledges plan g past a c ++ (if is_first good.frame then brings plan g run a c else [])
   given = ap (flat_map (arrived plan g run a)) right.text_is ∙ (append-nil (arrived plan g run a c) ∙ ap (λ b. acknowledges plan g past a c ++ (if b then brings plan g run a c else [])) (sym fresh))
 
-  -- what a packet that is taken gives a group
+  -- the steps that a taken packet gives a group
   pub arrived_goes : Goes (bounds_of plan) g a frames_from (view_of (node_plan plan a) g (record { event = Brought bytes; answer = Taken (TakenGood good) } ∷ past)) group (flat_map (arrived plan g run a) (read key bytes))
   arrived_goes = subst (λ xs. Goes (bounds_of plan) g a frames_from (view_of (node_plan plan a) g (record { event = Brought bytes; answer = Taken (TakenGood good) } ∷ past)) group xs) (sym given)
       (subst (λ w. Goes (bounds_of plan) g a frames_from w group (acknowledges plan g past a c ++ (if is_first good.frame then brings plan g run a c else []))) (sym (packet_view (node_plan plan a) g past bytes good c right.text_is))

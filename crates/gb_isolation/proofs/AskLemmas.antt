@@ -1,4 +1,4 @@
--- The view of a group after a request, and what one command does to the group alone.
+-- The view of a group after a request, and the effect of one command on the group alone.
 use Rattle.gb_types.specs.Common.{◌≡◌, ℕ, ◌<◌, List, [], ◌∷◌, ◌++◌, length, Option, Some, None, Bool, true, false, ◌&&◌, ◌||◌, refl, sym, ◌∙◌, ap, subst, option_or, if◌then◌else◌, nat_le, option_map, and_parts, and_right, append-nil}
 use Rattle.std.specs.FinSet as set
 use Rattle.gb_types.specs.declared.{address.Addr.Addr, entry.Entry.Entry, node.NodeId.NodeId, refusal.Refusal.Refusal, reply.Reply.Reply, request.Request.Request, spec.Spec.Spec, plan.Bounds.Bounds, version.Version.Version, reply.Reply.TheVariants.Done, reply.Reply.TheVariants.Said, reply.Reply.TheVariants.Refused}
@@ -26,7 +26,7 @@ use Rattle.gb_isolation.proofs.View.{View, view_of, bounds_with, MemberIs, Keeps
 abbrev pub asking : Request → Reply → Happened
 asking request reply = record { event = Asked request; answer = Replied reply }
 
--- the view after a request has other links nowhere, and notices nobody
+-- the view after a request has the same links and notices
 pub view_asked : (plan : NodePlan) (g : Addr) (past : List Happened) (request : Request) (reply : Reply) (reserve : Option Reserve) (told : Option (Option Told)) (living : ℕ) (made : Option Spec) (dropped : Bool) (replies : List Reply) (met : Bool)
     → option_map reserve_of (row_of g.tenant (tenants_in past ++ added (Asked request) (Replied reply))) ≡ reserve
     → asked_told g plan.me (noticed_after plan past) reply request.what (told_of plan g past) ≡ told
@@ -51,7 +51,7 @@ view_asked plan g past request reply reserve told living made dropped replies me
   taken = λ b n. is_taken plan.cluster_key b n past;
 }
 
--- only an added tenant is a row more
+-- only a request that adds a tenant adds a row
 pub rows_kept : (plan : NodePlan) (g : Addr) (past : List Happened) (request : Request) (reply : Reply) → added (Asked request) (Replied reply) ≡ [] → option_map reserve_of (row_of g.tenant (tenants_in past ++ added (Asked request) (Replied reply))) ≡ (view_of plan g past).reserve
 rows_kept plan g past request reply none = ap (λ rows. option_map reserve_of (row_of g.tenant (tenants_in past ++ rows))) none ∙ ap (λ rows. option_map reserve_of (row_of g.tenant rows)) (append-nil (tenants_in past))
 
@@ -71,7 +71,7 @@ view_own plan g past request reply told made dropped running own rows tells made
     (ap (λ b. replies_in plan.me g past ++ (if b then reply ∷ [] else [])) own)
     (ap (λ b. (b && is_own_request plan.me g past request) || is_met plan.me g past) running)
 
--- a request that is not the group's own, and makes nothing of it
+-- a request that is not the group's own, and adds nothing to its projection
 pub unrelated_request : (plan : NodePlan) (versions : List Version) (g : Addr) (past : List Happened) (request : Request) (reply : Reply) (frames_from : ℕ → List (List Item)) (group : Group)
     → is_own_request plan.me g past request ≡ false
     → added (Asked request) (Replied reply) ≡ []
@@ -95,7 +95,7 @@ unrelated_request plan versions g past request reply frames_from group other row
   unmet = ap (λ b. is_stopped past && b) other ∙ and_right (is_stopped past) false refl;
 }) fits
 
--- and so one that is refused
+-- a refused request adds nothing to the projection
 pub refused_unrelated : (plan : NodePlan) (versions : List Version) (g : Addr) (past : List Happened) (request : Request) (why : Refusal) (frames_from : ℕ → List (List Item)) (group : Group)
     → is_own_request plan.me g past request ≡ false
     → Fits plan.nodes g plan.me.number frames_from (view_of plan g past) (group plan.me.number)
@@ -105,7 +105,7 @@ refused_unrelated plan versions g past request why frames_from group other fits 
 
 -- A command.
 
--- what a command leaves of the group
+-- the parts of the group that a command does not change
 pub record KeepsLinks (m n : Member) : Type 0 where
   pub reserve : n.reserve ≡ m.reserve
   pub others : n.others ≡ m.others
@@ -123,7 +123,7 @@ did_keeps a AskDrop Done m = record { reserve = refl; others = refl; taken = ref
 did_keeps a (AskSay message) (Said seq) m = record { reserve = refl; others = refl; taken = refl; come = refl; done = refl; noticed = refl; stopped = refl }
 did_keeps a e r m = record { reserve = refl; others = refl; taken = refl; come = refl; done = refl; noticed = refl; stopped = refl }
 
--- what is told fits the group at a node, of whose items these are carried to each node
+-- the group's state by the past agrees with the group alone at a node, of whose items these are carried to each node
 pub record MemberFits (nodes : ℕ) (me : ℕ) (carried : ℕ → List Entry) (o : Option (Option Told)) (m : Member) : Type 0 where
   pub told : MemberIs o m
   pub inside : IsInside nodes o
@@ -131,14 +131,14 @@ pub record MemberFits (nodes : ℕ) (me : ℕ) (carried : ℕ → List Entry) (o
   pub taken : (b : ℕ) → b < nodes → m.taken b ≡ length (carried b)
   pub acks : KeepsAcks nodes me o carried m.done
 
--- the items that the view has carried
+-- the items that are carried by the view
 abbrev pub carried_in : Addr → View → ℕ → List Entry
 carried_in g v b = group_items_of g (v.frames b)
 
 pub member_fits : (nodes : ℕ) (g : Addr) (me : ℕ) (frames_from : ℕ → List (List Item)) (v : View) (m : Member) → Fits nodes g me frames_from v m → MemberFits nodes me (carried_in g v) v.told m
 member_fits nodes g me frames_from v m fits = record { told = fits.told; inside = fits.inside; put = fits.put; taken = fits.taken; acks = fits.acks }
 
--- another generation of the group's room was made, a later one or an earlier one
+-- the views still agree after another generation of the group's room was made, a later one or an earlier one
 pub passed_fits : (nodes me : ℕ) (carried : ℕ → List Entry) (later : Bool) (others : ℕ) (o : Option (Option Told)) (m : Member) → MemberFits nodes me carried o m → MemberFits nodes me carried (where_so later passed o) (record m { passed = m.passed || later; others = others })
 passed_fits nodes me carried true others None m fits = record {
   told = told-passed true others None m fits.told;

@@ -16,9 +16,9 @@ use Rattle.gb_isolation.proofs.MemberLemmas.{KeepsRest, same_member, came_in, to
 use Rattle.gb_isolation.proofs.MarkLemmas.{is_between, offset_next, offset_all, item_there, marks_added, marks_same}
 use Rattle.gb_isolation.proofs.DoneLemmas.{IsOfNode, spec_in, inside_too}
 
--- What the past tells.
+-- The group by the past.
 
--- an item leaves the spec and the acknowledgements
+-- an item changes neither the spec nor the acknowledgements
 came-spec : (long : Bool) (me from : NodeId) (x : Entry) (o : Option (Option Told)) → spec_in (came_in long me from x o) ≡ spec_in o
 came-spec true me from x o = refl
 came-spec false me from x None = refl
@@ -38,7 +38,7 @@ came-acks false me from x None = refl
 came-acks false me from x (Some None) = refl
 came-acks false me from x (Some (Some t)) = elim (falls_after t.spec me.number t.calls from.number x) as (λ b. (if b then t else with_call me (Other from x) t).acknowledged ≡ t.acknowledged) [ true ↦ refl | false ↦ refl ]
 
--- the node makes the same test of the item's length
+-- the node applies the same test to the item's length
 came_told-is : (version : Version) (me from : NodeId) (o : Option (Option Told)) (i : Item) → i.origin < NODES → came_told version me from o i ≡ came_in (is_too_long version i.payload) me from (entry_of i) o
 came_told-is version me from o i low = ap (λ b. where_so (b && not (is_too_long version i.payload)) (stepped (unless_falls me from (entry_of i))) o) node ∙ by (is_too_long version i.payload)
   where
@@ -51,7 +51,7 @@ came_told-is version me from o i low = ap (λ b. where_so (b && not (is_too_long
 
 -- The group alone.
 
--- what items from a node do to the group: the past tells this of it then, and these places have come
+-- the effect of items from a node on the group: this is its state by the past then, and the items at these places have come
 pub record Coming (bounds : Bounds) (g : Addr) (from me : NodeId) (carried : ℕ → List Entry) (place count : ℕ) (o next_told : Option (Option Told)) (group next : Group) (given : List GroupStep) : Type 0 where
   pub legal : IsLegalFrom bounds g group given
   pub others : (x : ℕ) → x ≢ me.number → next x ≡ group x
@@ -95,7 +95,7 @@ nothing_comes bounds g from me carried place o group st puts = record {
   marks = λ q. sym (or_off (is_between place (place + 0) q) (is_marked q ((group me.number).come from.number)) (grind (arith, nat_tests)));
 }
 
--- what more items do, after these
+-- the effect of more items, after these
 abbrev ComesOn : Bounds → Addr → NodeId → NodeId → (ℕ → List Entry) → ℕ → List Item → Option (Option Told) → Type 0
 ComesOn bounds g from me carried place xs o =
     (group : Group) → (group me.number).stopped ≡ false
@@ -106,7 +106,7 @@ ComesOn bounds g from me carried place xs o =
     → ((b : ℕ) → b < bounds.nodes → (group me.number).put b ≡ carried b ++ waiting_of o b)
     → Coming bounds g from me carried place (length (map entry_of xs)) o (fold (came_told (version_at bounds.versions me.number) me from) o xs) group (alone_from bounds g group (comes from me place (length (map entry_of xs)))) (comes from me place (length (map entry_of xs)))
 
--- an item comes, and then the others
+-- one item comes, and then the others
 come_next : (bounds : Bounds) (g : Addr) (from me : NodeId) (carried : ℕ → List Entry) (place : ℕ) (i : Item) (xs : List Item) (o : Option (Option Told)) (group : Group) → from.number ≢ me.number → IsOfNode i → (group me.number).stopped ≡ false
     → ((j : ℕ) (e : Entry) → slice_get (map entry_of (i ∷ xs)) j ≡ Some e → slice_get ((group from.number).put me.number) (place + j) ≡ Some e)
     → place + length (map entry_of (i ∷ xs)) ≤ (group from.number).taken me.number
@@ -198,7 +198,7 @@ come_next bounds g from me carried place i xs o group apart fit running there mo
     by true false c d is = ap (λ x. x || d) is
     by false b c d is = ap (λ x. x || d) is
 
--- these items come, one behind the other
+-- these items come, one after the other
 pub all_come : (bounds : Bounds) (g : Addr) (from me : NodeId) (carried : ℕ → List Entry) (place : ℕ) (xs : List Item) (o : Option (Option Told)) → from.number ≢ me.number → All IsOfNode xs → ComesOn bounds g from me carried place xs o
 all_come bounds g from me carried place [] o apart fits group running there most fresh st puts = nothing_comes bounds g from me carried place o group st puts
 all_come bounds g from me carried place (i ∷ xs) o apart fits group running there most fresh st puts =
@@ -206,7 +206,7 @@ all_come bounds g from me carried place (i ∷ xs) o apart fits group running th
 
 -- Places.
 
--- frames further on begin behind the items before
+-- later frames begin after the items of the earlier ones
 pub offset_rises : (g : Addr) (fs : List (List Item)) (n m : ℕ) → n ≤ m → offset g fs n ≤ offset g fs m
 unfolding group_items_of
 offset_rises g fs zero m le = omega arith
@@ -298,7 +298,7 @@ module _ (bounds : Bounds) (g : Addr) (a s : NodeId) (frames_from : ℕ → List
     beyond = λ b seq far. ap (λ (f : ℕ → ℕ → Bool). f seq b) coming.same_acks ∙ fits.acks.beyond b seq (subst (λ count. count < seq) coming.same_said far);
   }
 
-  -- what a frame that comes for the first time gives a group
+  -- the steps that a frame which comes for the first time gives a group
   pub frame_goes : Goes bounds g a frames_from later group given
   frame_goes = record {
     legal = coming.legal;

@@ -1,4 +1,4 @@
--- What opening, shutting, dropping, saying and fetching do to a group at a running node.
+-- The effects of opening, shutting, dropping, saying and fetching on a group at a running node.
 use Rattle.gb_types.specs.Common.{◌≡◌, ◌≢◌, ℕ, ◌+◌, ◌<◌, ◌≤◌, List, [], ◌∷◌, ◌++◌, length, take, Option, Some, None, Bool, true, false, ◌||◌, ◌⊎◌, inl, inr, refl, sym, ◌∙◌, ap, subst, arith, option_or, if◌then◌else◌, is_some, option_map, list_any, nat_cmp, take-length, and_parts, cases_lt, append-nil, take-append-le, version_at}
 use Rattle.std.specs.FinSet as set
 use Rattle.gb_types.specs.declared.{address.Addr.Addr, entry.Entry.Entry, limits.TheConstants.NODES, node.NodeId.NodeId, refusal.Refusal.Refusal, reply.Reply.Reply, request.Request.Request, request.Action.Action, request.Action.TheVariants.AddTenant, request.Action.TheVariants.Group as AtGroup, request.GroupCommand.GroupCommand, spec.Spec.Spec, spec.TenantRow.TenantRow, version.Version.Version, new_message.NewMessage.NewMessage, refusal.Refusal.TheVariants.NoGroup, refusal.Refusal.TheVariants.Spent, refusal.Refusal.TheVariants.Stopped, reply.Reply.TheVariants.Done, reply.Reply.TheVariants.Said, reply.Reply.TheVariants.Refused}
@@ -25,7 +25,7 @@ use Rattle.gb_isolation.proofs.PastLemmas.{running_unmet}
 use Rattle.gb_isolation.proofs.RoomLemmas.{own_given}
 use Rattle.gb_isolation.proofs.View.{View, view_of, MemberIs, IsThere, IsInside, Fits, Goes, bounds_with, asked_by, is_noticed_after, own_requested_by, requested_by}
 
--- A request that names a group comes with the token that it needs where it comes with the group's.
+-- A request that names a group has the token that it needs if it has the group's token.
 pub group_token_is : (plan : NodePlan) (g : Addr) (past : List Happened) (request : Request) → is_named g request.what ≡ true → has_group_token plan.me (tenants_in past) request ≡ is_admitted_by plan past request
 group_token_is plan g past request named = by request.what named
   where
@@ -62,7 +62,7 @@ by_some r (Some reserve) is = refl
 -- One command.
 
 module _ (plan : NodePlan) (versions : List Version) (g : Addr) (past : List Happened) (request : Request) (reply : Reply) (frames_from : ℕ → List (List Item)) (group : Group) where
-  -- a request with this reply goes so
+  -- a request with this reply keeps the views in agreement
   abbrev pub AskedGoes : Type 0
   AskedGoes = Goes (bounds_with plan versions) g plan.me frames_from (view_of plan g (asking request reply ∷ past)) group (asked_by plan g past request reply)
 
@@ -71,7 +71,7 @@ module _ (plan : NodePlan) (versions : List Version) (g : Addr) (past : List Hap
       → reply_to (bounds_with plan versions) g plan.me.number e (group plan.me.number) ≡ running_reply (bounds_with plan versions) g plan.me.number e (group plan.me.number)
   replies_running e running fits = ap (λ (b : Bool). if b then Refused Stopped else running_reply (bounds_with plan versions) g plan.me.number e (group plan.me.number)) (fits.stopped ∙ running_unmet plan g past running)
 
-  -- what the group's own request gives it at a running node
+  -- the steps that the group's own request gives it at a running node
   pub given_own : is_stopped past ≡ false → is_own_request plan.me g past request ≡ true → asked_by plan g past request reply ≡ tenant_given g plan.me reply request.what ++ own_requested_by plan g past request reply
   given_own running own =
       by
@@ -100,7 +100,7 @@ module _ (plan : NodePlan) (versions : List Version) (g : Addr) (past : List Hap
       (subst (λ (v : View). Goes (bounds_with plan versions) g plan.me frames_from v group (record { node = plan.me; event = e } ∷ [])) (sym (view_own plan g past request reply o (made_with g past) (is_dropped_by g (Asked request) (Replied reply) || is_dropped g past) running own rows told (ap (λ x. option_or x (made_with g past)) unmade) refl))
       (commands (bounds_with plan versions) g plan.me frames_from (view_of plan g past) group e reply o (is_dropped_by g (Asked request) (Replied reply) || is_dropped g past) fits may (is ∙ ap (λ r. commanded plan.me e r (group plan.me.number)) (replies_running e running fits ∙ same)) spec gone tells))
 
-  -- and so where it adds no tenant either
+  -- the same for a request that does not add a tenant either
   plain_command : (e : GroupEvent) (o : Option (Option Told)) → is_stopped past ≡ false → is_own_request plan.me g past request ≡ true
       → added_by request.what ≡ []
       → asked_told g plan.me (noticed_after plan past) reply request.what (told_of plan g past) ≡ o
@@ -120,20 +120,20 @@ module _ (plan : NodePlan) (versions : List Version) (g : Addr) (past : List Hap
       (λ i. if_same reply (tenant_of g plan.me request.what) [] none i ++ (one i ++ ticked plan.me (is_noticed_after plan past) (if_same reply (makes g request.what) None unmade i)))
       may is same spec gone fits tells
 
-  -- a request that drops no group leaves the group as it was
+  -- a request that drops no group leaves the group's state as it was
   left_there : (gone : Bool) → drops g request.what ≡ false → gone ≡ is_dropped g past → gone ≡ (is_dropped_by g (Asked request) (Replied reply) || is_dropped g past)
   left_there gone none was = was ∙ sym (ap (λ b. b || is_dropped g past) (if_same reply (drops g request.what) false none))
 
--- the rules answer the same for the group alone
+-- the rules give the same reply for the group alone
 pub answers_alike : (plan : NodePlan) (g : Addr) (past : List Happened) (request : Request) (frames_from : ℕ → List (List Item)) (group : Group) (answer : Shown → Reply) → plan.nodes ≤ NODES → is_own_request plan.me g past request ≡ true
     → Fits plan.nodes g plan.me.number frames_from (view_of plan g past) (group plan.me.number) → on_group answer plan.me.number (group plan.me.number) ≡ group_answer answer (shown_in plan.me.number (told_of plan g past))
 answers_alike plan g past request frames_from group answer few own fits =
     by_some (on_made (group plan.me.number).passed answer (alone.shown plan.me.number (group plan.me.number))) (group plan.me.number).reserve (ap (λ (x : Option Reserve). is_some x) fits.reserve ∙ tenant_here plan g past request own)
     ∙ answered-is answer plan.me.number (told_of plan g past) (group plan.me.number) fits.told (counts_fit plan.nodes g plan.me.number frames_from (view_of plan g past) (group plan.me.number) few fits)
 
--- What a command finds.
+-- The state in which a command finds the group.
 
--- a command that is answered so, and not as refused, finds the group there
+-- a command that has this reply, which is no refusal, finds the group at the node
 pub found_from : (answer : Shown → Reply) (me : ℕ) (r : Reply) → ((why : Refusal) → r ≢ Refused why) → (o : Option (Option Told)) → group_answer answer (shown_in me o) ≡ r → (t : Told) × (o ≡ Some (Some t)) × (answer (shown_of me t) ≡ r)
 found_from answer me r accepted None is = absurd (accepted NoGroup (sym is))
 found_from answer me r accepted (Some None) is = absurd (accepted Spent (sym is))
@@ -161,7 +161,7 @@ asking_of token addr command = record { token = token; what = AtGroup addr comma
 
 -- Opening and shutting.
 
--- the group after the reply: it moves to a phase where it is that it does
+-- the group after the reply: it moves to a phase if the reply says so
 abbrev moved_after : Phase → Reply → Option (Option Told) → Option (Option Told)
 moved_after phase Done o = stepped (moved_to phase) o
 moved_after phase r o = o
@@ -192,7 +192,7 @@ moved_spec : (phase : Phase) (r : Reply) (m : Member) → (member_moved phase r 
 moved_spec phase Done m = refl
 moved_spec phase r m = refl
 
--- a group that moves had not been dropped
+-- a group that moves was not dropped before
 moved_gone : (answer : Shown → Reply) (phase : Phase) → is_gone phase ≡ false → (me : ℕ) (o : Option (Option Told)) (m : Member) (r : Reply) → group_answer answer (shown_in me o) ≡ r → MemberIs o m → is_gone (member_moved phase r m).phase ≡ is_gone m.phase
 moved_gone answer phase live me o m Done is st =
     let made = found_from answer me Done done_accepted o is in
@@ -264,7 +264,7 @@ dropped_for g me noticed addr r o here = refl
 
 -- Saying.
 
--- what is said at a node, with the reply's number
+-- the call for a message that is said at a node, with the reply's number
 abbrev saying : NodeId → List ℕ → ℕ → GroupCall
 saying me payload seq = Own (record { origin = me; seq = seq; payload = payload })
 
@@ -272,7 +272,7 @@ abbrev said_after : NodeId → List ℕ → Reply → Option (Option Told) → O
 said_after me payload (Said seq) o = stepped (with_call me (saying me payload seq)) o
 said_after me payload r o = o
 
--- a message is said, whose number no item has that is carried
+-- a message is said with a number that no carried item has
 said_fits : (nodes : ℕ) (a : NodeId) (carried : ℕ → List Entry) (payload : List ℕ) (seq : ℕ) (t : Told) (m : Member)
     → ((b : ℕ) → b < nodes → list_any (alone.is_message a.number (said_in t.calls + 1)) (carried b) ≡ false)
     → MemberFits nodes a.number carried (Some (Some t)) m
@@ -329,7 +329,7 @@ module _ (plan : NodePlan) (versions : List Version) (g : Addr) (past : List Hap
   abbrev m : Member
   m = group plan.me.number
 
-  -- the node's reply is that for the group with this address
+  -- the node's reply is the one for the group with this address
   same_answer : (answer : Shown → Reply) → is_addr g addr ≡ true → reply ≡ group_answer answer (shown_in plan.me.number (told_of plan addr past)) → group_answer answer (shown_in plan.me.number (told_of plan g past)) ≡ reply
   same_answer answer named is = sym (is ∙ ap (λ (x : Addr). group_answer answer (shown_in plan.me.number (told_of plan x past))) (sym (addr_is g addr named)))
 

@@ -1,4 +1,4 @@
--- The generations of a room at a node count each other, since each has a place of its own in the node's table.
+-- The generations of a room at a node count each other, since each has a row of its own in the node's table.
 use Rattle.gb_types.specs.Common.{◌≡◌, ℕ, suc, ◌+◌, ◌<◌, ◌≤◌, List, [], ◌∷◌, length, Option, Some, None, is_some, Bool, true, false, ◌&&◌, not, ◌⊎◌, inl, inr, refl, sym, ap, ◌∙◌, subst, arith, if◌then◌else◌, cases_Bool, and_parts, and-false, nat_tests}
 use Rattle.gb_types.specs.declared.{address.Addr.Addr, node.NodeId.NodeId}
 use Rattle.gb_rules.specs.Common.{is_addr, is_same_room, is_other_generation, count_by-cons}
@@ -68,7 +68,7 @@ none_lives : (addr : Addr) (rows : List Row) → ((p : ℕ) → p < length rows 
 none_lives addr [] each = tt
 none_lives addr (r ∷ rows) each = (each 0 (omega arith), none_lives addr rows (λ p l. each (suc p) (omega (arith, l))))
 
--- where none does, another generation counts no more than this one would
+-- if none lives with the address, another generation counts no more than this one would
 counts_less : (g addr : Addr) (r : Row) → is_other_generation g addr ≡ true → (is_addr addr r.addr ≡ true → r.slot ≡ None) → flag (is_living_other g r) ≤ flag (is_living_other addr r)
 counts_less g addr r other none = by (is_living_other g r) refl
   where
@@ -87,7 +87,7 @@ counts_less g addr r other none = by (is_living_other g r) refl
     by true e = subst (λ (b : Bool). 1 ≤ flag b) (sym (lives e)) (omega arith)
     by false e = omega arith
 
--- and it counts that other generation too, if it lives
+-- and it counts that other generation too, if that one lives
 counts_all : (g addr : Addr) (rows : List Row) → is_other_generation g addr ≡ true → NoneLives addr rows → others_living g rows + alive (first_with g rows) ≤ others_living addr rows
 counts_all g addr [] other none = omega arith
 counts_all g addr (r ∷ rows) other none = by (is_addr g r.addr) refl (counts_all g addr rows other none.1)
@@ -149,7 +149,7 @@ first_lives true (Some None) s e = absurd (cc)
 first_lives false (Some None) s e = absurd (cc)
 first_lives b (Some (Some x)) s e = e
 
--- What the past tells of them.
+-- The groups by the past.
 
 none_in : (me : NodeId) (p : Option (Option SlotState)) → IsTold me p None → p ≡ None
 none_in me None is = refl

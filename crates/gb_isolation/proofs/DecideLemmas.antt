@@ -1,4 +1,4 @@
--- Each node follows its own steps, and reads of the other nodes only items that are carried, which never change.
+-- Each node follows its own steps, and reads of the other nodes only carried items, which never change.
 use Rattle.gb_types.specs.Common.{◌≡◌, ℕ, suc, ◌+◌, ◌-◌, ◌<◌, ◌≤◌, Bool, true, false, not, ◌&&◌, ◌||◌, nat_eq, nat_le, List, [], ◌∷◌, ◌++◌, take, Option, Some, None, is_some, option_map, refl, sym, ap, ◌∙◌, subst, arith, inl, inr, ◌⊎◌, slice_get, fold, fold-append, append_assoc, append-nil, if◌then◌else◌, cases_Bool, eqb-true, version_at}
 use Rattle.gb_types.specs.declared.{address.Addr.Addr, entry.Entry.Entry, node.NodeId.NodeId, plan.Bounds.Bounds, reply.Reply.Reply, reply.Reply.TheVariants.Done, reply.Reply.TheVariants.Said, reply.Reply.TheVariants.Refused, refusal.Refusal.TheVariants.Stopped, refusal.Refusal.TheVariants.NoGroup, refusal.Refusal.TheVariants.Spent, spec.Spec.Spec, version.Version.Version}
 use Rattle.gb_rules.specs.Common.{Shown, is_other, is_too_long, open_answer, shut_answer, drop_answer, say_answer, fetch_answer, on_made, make_answer, by_tenant}
@@ -12,16 +12,16 @@ use Rattle.gb_isolation.specs.Decides.{counts, step_at, steps_from, by_itself, E
 -- A step at one node, with given items from the others.
 
 module _ (bounds : Bounds) (addr : Addr) where
-  -- an event at the node, to which the other nodes put out these items
+  -- an event at the node, for which the other nodes queued these items
   abbrev local : (ℕ → List Entry) → NodeId → GroupEvent → Member → Member
   local from_all me (Came from place) m = taken_in (version_at bounds.versions me.number) me.number from place (slice_get (from_all from.number) (place - 1)) m
   local from_all me event m = member_after bounds addr me event (λ x. m)
 
-  -- the same, where the items are those of the whole list
+  -- the same, if the items are those of the whole list
   abbrev stepped_on : (ℕ → ℕ → List Entry) → Member → GroupStep → Member
   stepped_on put m step = local (λ from. put from step.node.number) step.node step.event m
 
-  -- Once the group is made, nothing reads of other generations.
+  -- Once the group is made, no event reads other generations.
 
   on_made_same : (passed : Bool) (answer : Shown → Reply) (o : Option Shown) → is_some o ≡ true → on_made passed answer o ≡ on_made false answer o
   on_made_same passed answer None made = absurd (cc)
@@ -103,7 +103,7 @@ module _ (bounds : Bounds) (addr : Addr) where
   local_same from_all me Stop m made = refl
   local_same from_all me event m made = commanded_same me event m made
 
-  -- A group that was made stays so.
+  -- A group that was made stays made.
 
   did_made : (me : NodeId) (event : GroupEvent) (reply : Reply) (m : Member) → is_some m.spec ≡ true → is_some (did me event reply m).spec ≡ true
   did_made me (AskMake spec) Done m made = refl
@@ -143,7 +143,7 @@ module _ (bounds : Bounds) (addr : Addr) where
   local_made from_all me Stop m made = made
   local_made from_all me event m made = did_made me event (reply_to bounds addr me.number event m) m made
 
-  -- Members that are the same; once made, but for what they know of other generations.
+  -- Members that are equal; once made, except for their knowledge of other generations.
 
   record Like (m n : Member) : Type 0 where
     same : by_itself m ≡ by_itself n
@@ -171,7 +171,7 @@ module _ (bounds : Bounds) (addr : Addr) where
   skipped me OtherDropped group n idle like = record { same = like.same; fresh = λ none. let bad : true ≡ false = sym (ap not none) ∙ idle in absurd (cc) }
   skipped me event group n idle like = absurd (cc)
 
-  -- A step that counts: the item that comes is one of the given ones.
+  -- A step that counts: the item that comes is one of the given items.
 
   abbrev Agrees : Member → (ℕ → List Entry) → Type 0
   Agrees m put = (b i : ℕ) → i < m.taken b → slice_get (m.put b) i ≡ slice_get (put b) i
@@ -232,7 +232,7 @@ module _ (bounds : Bounds) (addr : Addr) where
           → Like (alone_from bounds addr group (step ∷ ss) x) (follows put (base x) (step_at group step x ++ steps_from bounds addr (after bounds addr group step) ss x))
       joined x ss h = subst (Like (alone_from bounds addr (after bounds addr group step) ss x)) (sym (fold-append (stepped_on put) (base x) (step_at group step x) (steps_from bounds addr (after bounds addr group step) ss x))) h
 
-  -- Carried items stay.
+  -- Carried items do not change.
 
   carried_stay : (steps : List GroupStep) (group : Group) → IsLegalFrom bounds addr group steps → Flow group → (a : ℕ) → Agrees (group a) (alone_from bounds addr group steps a).put
   carried_stay [] group legal flow a b i lt = refl
@@ -293,7 +293,7 @@ module _ (bounds : Bounds) (addr : Addr) where
       ap (λ (k : Member). slice_get (k.put b) i) like.same ∙ agrees b i (omega (arith, taken, lt))
 
   module _ (xs ys : List GroupStep) (legal : IsLegal bounds addr xs) (lawful : IsLegal bounds addr ys) (same : (a : ℕ) → steps_from bounds addr nobody xs a ≡ steps_from bounds addr nobody ys a) where
-    -- what was put out in the second list
+    -- the items that were queued in the second list
     abbrev put : ℕ → ℕ → List Entry
     put a = (alone bounds addr ys a).put
 

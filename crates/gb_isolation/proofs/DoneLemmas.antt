@@ -1,4 +1,4 @@
--- An acknowledgement is taken: in the past, and by the group alone.
+-- An acknowledgement is taken: by the past, and by the group alone.
 use Rattle.gb_types.specs.Common.{◌≡◌, ◌≢◌, ℕ, zero, suc, ◌+◌, ◌<◌, ◌≤◌, List, [], ◌∷◌, ◌++◌, length, map, fold, cond, Option, Some, None, Bool, true, false, not, ◌&&◌, ◌||◌, ◌⊎◌, inl, inr, refl, sym, ◌∙◌, ap, subst, arith, nat_eq, nat_lt, nat_le, slice_get, take, add-one, length-append, All, filter, if◌then◌else◌, list_any, range_with_len, cases_Bool, cases_eq, cases_lt, or_right, or_from, eq-eqb, ne_eqb, nat_tests, same_Some, append-nil, take_all, All-nil, All-cons, All-head, All-tail, fold-append, and-false, or-false, or_assoc, message_of}
 use Rattle.gb_types.proofs.BoolLemmas.{or_off}
 use Rattle.gb_types.specs.declared.{address.Addr.Addr, entry.Entry.Entry, limits.TheConstants.NODES, message.MsgId.MsgId, node.NodeId.NodeId, spec.Spec.Spec, plan.Bounds.Bounds}
@@ -15,13 +15,13 @@ use Rattle.gb_isolation.proofs.GoesLemmas.{legal-append, after_there, after_else
 use Rattle.gb_isolation.proofs.MemberLemmas.{same_member}
 use Rattle.gb_isolation.proofs.MarkLemmas.{Found, is_between, is_in, in_above, in_frame, in_beyond, in_found, or_and_off, offset_all, marks_same}
 
--- Items that groups put out.
+-- Items that groups queue.
 
 -- the item's origin is a node
 abbrev pub IsOfNode : Item → Type 0
 IsOfNode i = i.origin < NODES
 
--- the group's items of frames that come to these
+-- the group's items of the frames that these make acknowledged
 abbrev pub freed_of : Addr → (ℕ → Bool) → (ℕ → Bool) → ℕ → List (List Item) → List Item
 freed_of g covered acked n fs = items_for g (items_freed (filter (λ u. covered u.0) (filter (λ u. not (acked u.0)) (numbered n fs))))
 
@@ -49,9 +49,9 @@ freed_fit g covered acked n (f ∷ fs) fit = by (acked n) (freed_fit g covered a
     by true all = all
     by false all = go (covered n) all
 
--- What the past tells.
+-- The group by the past.
 
--- the spec of a group that is there
+-- the spec of a group that is at the node
 abbrev pub spec_in : Option (Option Told) → Option Spec
 spec_in None = None
 spec_in (Some None) = None
@@ -60,7 +60,7 @@ spec_in (Some (Some t)) = Some t.spec
 none_some : {X : Type 0} (x : X) → Some x ≡ None → ⊥
 none_some x same = cc
 
--- with the same spec the members are inside as well
+-- with the same spec the members are nodes of the cluster as well
 pub inside_too : (nodes : ℕ) (o k : Option (Option Told)) → spec_in k ≡ spec_in o → IsInside nodes o → IsInside nodes k
 inside_too nodes None k same inside s is b member = absurd (none_some s.spec (sym (ap spec_in is) ∙ same))
 inside_too nodes (Some None) k same inside s is b member = absurd (none_some s.spec (sym (ap spec_in is) ∙ same))
@@ -68,7 +68,7 @@ inside_too nodes (Some (Some t)) k same inside s is b member =
     let specs : s.spec ≡ t.spec = same_Some s.spec t.spec (sym (ap spec_in is) ∙ same) in
     inside t refl b (ap (λ (x : Spec). is_member x b) (sym specs) ∙ member)
 
--- acknowledged items change nothing of what a group shows and has waiting
+-- acknowledged items change nothing of a group's shown state and its waiting items
 pub record SameGroup (o k : Option (Option Told)) : Type 0 where
   pub stands : (m : Member) → MemberIs o m → MemberIs k m
   pub waiting : (b : ℕ) → waiting_of k b ≡ waiting_of o b
@@ -102,7 +102,7 @@ all_done-same me from (i ∷ xs) o =
       said = later.said ∙ first.said;
     }
 
--- Which acknowledgements it tells of.
+-- The acknowledgements by the past.
 
 -- one item is acknowledged
 done_told-one : (me from : NodeId) (i : Item) (k c : ℕ) (o : Option (Option Told)) → IsOfNode i → k < said_of o
@@ -132,7 +132,7 @@ items_done me from k c (i ∷ xs) o fits low =
     by false true a b = refl
     by false false a b = refl
 
--- of a message that was not said nothing is acknowledged
+-- no acknowledgement is recorded for a message that was not said
 none_done : (me from : NodeId) (seq c : ℕ) (xs : List Item) (o : Option (Option Told)) → said_of o < seq → acknowledged_of o seq c ≡ false → acknowledged_of (fold (done_told me from) o xs) seq c ≡ false
 none_done me from seq c [] o far none = none
 none_done me from seq c (i ∷ xs) o far none = none_done me from seq c xs (done_told me from o i) (omega (arith, far, (done_told-same me from o i).said)) (one o far none (nat_lt i.origin NODES))
@@ -143,7 +143,7 @@ none_done me from seq c (i ∷ xs) o far none = none_done me from seq c xs (done
     one (Some None) far none true = none
     one (Some (Some t)) far none true = let out : nat_le seq (said_in t.calls) ≡ false = grind (arith, nat_tests, far) in rw (none, out) refl
 
--- what is told of acknowledgements after one of a node
+-- the acknowledgements by the past after one from a node
 pub acks_taken : (nodes : ℕ) (me from : NodeId) (xs : List Item) (o : Option (Option Told)) (carried : ℕ → List Entry) (done next : ℕ → List ℕ) → All IsOfNode xs
     → ((k : ℕ) → is_acknowledged me.number k (next from.number) 1 (carried from.number) ≡ (is_acknowledged me.number k (done from.number) 1 (carried from.number) || list_any (is_message me.number k) (map entry_of xs)))
     → ((b : ℕ) → b ≢ from.number → next b ≡ done b)
@@ -210,7 +210,7 @@ any_joined g me k (i ∷ f) xs = by (names g i) (any_joined g me k f xs)
     by true same = ap (λ b. is_message me k (entry_of i) || b) same ∙ sym (or_assoc (is_message me k (entry_of i)) (list_any (is_message me k) (group_items g f)) (list_any (is_message me k) (group_items g xs)))
     by false same = same
 
--- of these frames that did not pass before those that pass now
+-- the items of the frames that did not pass before and pass now
 freed_own : (g : Addr) (me k : ℕ) (covered acked : ℕ → Bool) (n : ℕ) (fs : List (List Item)) → list_any (is_message me k) (map entry_of (freed_of g covered acked n fs)) ≡ is_in_acked g me k (λ m. covered m && not (acked m)) n fs
 unfolding numbered
 freed_own g me k covered acked n [] = refl
@@ -237,7 +237,7 @@ freed_own g me k covered acked n (f ∷ fs) = by (acked n) (covered n) refl (fre
         last true = refl
         last false = refl
 
--- where the places of newly covered frames are marked, too
+-- the acknowledgements after the places of newly covered frames are marked too
 freed_acknowledged : (g : Addr) (me k : ℕ) (covered acked : ℕ → Bool) (marks next : List ℕ) (fs : List (List Item)) → ((place : ℕ) → is_marked place next ≡ (is_in g (λ m. covered m && not (acked m)) 1 0 fs place || is_marked place marks))
     → is_acknowledged me k next 1 (group_items_of g fs) ≡ (is_acknowledged me k marks 1 (group_items_of g fs) || list_any (is_message me k) (map entry_of (freed_of g covered acked 1 fs)))
 freed_acknowledged g me k covered acked marks next fs more =
@@ -246,7 +246,7 @@ freed_acknowledged g me k covered acked marks next fs more =
 
 -- The group alone.
 
--- what acknowledged items do to the group: nothing but that these places are marked
+-- the effect of acknowledged items on the group: only these places are marked
 pub record Acked (bounds : Bounds) (g : Addr) (me from : NodeId) (group next : Group) (given : List GroupStep) (added : ℕ → Bool) : Type 0 where
   pub legal : IsLegalFrom bounds g group given
   pub others : (x : ℕ) → x ≢ me.number → next x ≡ group x
@@ -323,7 +323,7 @@ acked-append bounds g me from group mid xs ys first later both is parts a b =
     swap false true c = refl
     swap false false c = refl
 
--- all that a packet newly acknowledges, where it has come and is not acknowledged
+-- all items that a packet newly acknowledges, which have arrived and were not acknowledged
 pub all_acked : (bounds : Bounds) (g : Addr) (me from : NodeId) (new : ℕ → Bool) (n before : ℕ) (fs : List (List Item)) (group : Group) → me.number ≢ from.number → (group me.number).stopped ≡ false
     → ((place : ℕ) → is_in g new n before fs place ≡ true → (is_marked place ((group from.number).come me.number) ≡ true) × (is_marked place ((group me.number).done from.number) ≡ false))
     → Acked bounds g me from group (alone_from bounds g group (all_acknowledged g me from new n before fs)) (all_acknowledged g me from new n before fs) (is_in g new n before fs)
@@ -356,14 +356,14 @@ all_acked bounds g me from new n before (f ∷ fs) group apart running may = go 
 
 -- The node's view.
 
--- the view after an acknowledgement of the frames that pass came from a node, which has the number d
+-- the view after an acknowledgement came from the node with the number d, for the frames that pass
 abbrev pub with_acks : Addr → NodeId → NodeId → ℕ → (ℕ → Bool) → View → View
 with_acks g me from d covered v = record v {
   told = fold (done_told me from) v.told (freed_of g covered (v.acked d) 1 (v.frames d));
   acked = λ b n. v.acked b n || (nat_le n (length (v.frames b)) && (nat_eq d b && covered n));
 }
 
--- a place of a frame's items is one of a frame
+-- a place of a frame's item is within the frame
 offset_inside : (g : Addr) (fs : List (List Item)) (n place : ℕ) → offset g fs n < place → place ≤ offset g fs (n + 1) → n < length fs
 offset_inside g fs n place low high = by (cases_lt n (length fs))
   where
@@ -451,7 +451,7 @@ module _ (bounds : Bounds) (g : Addr) (a s : NodeId) (frames_from : ℕ → List
       (λ k. freed_acknowledged g a.number k covered (v.acked s.number) ((group a.number).done s.number) ((mid a.number).done s.number) back acked.marks) acked.elsewhere
       fits.acks
 
-  -- what an acknowledgement gives a group
+  -- the steps that an acknowledgement gives a group
   pub acks_goes : Goes bounds g a frames_from later group acks
   acks_goes = record {
     legal = acked.legal;

@@ -9,7 +9,7 @@ use Rattle.gb_isolation.specs.Project.{is_named, is_starved_by, is_fed, fed_run}
 use Rattle.gb_isolation.specs.RunLaws.{OfGroupsInRuns, OfEveryGroup, RefusalsMayBeLeftOut}
 use Rattle.gb_isolation.proofs.RefusalLemmas.{acts_same}
 
--- a step that is left out is a request that was refused
+-- a step that is left out is a refused request
 record IsLeftOut (d : NodeStep) : Type 0 where
   request : Request
   asked : d.event ≡ Asked request
@@ -19,7 +19,7 @@ starved_is : (a : NodeId) (g : Addr) (past : List Happened) (e : NodeEvent) (x :
 starved_is a g past (Asked request) (Replied (Refused OutOfMemory)) is = record { request = request; asked = refl; refused = refl }
 starved_is a g past e x is = absurd (cc)
 
--- and adds no tenant
+-- a step that is left out adds no tenant
 starved_adds : (a : NodeId) (g : Addr) (past : List Happened) (e : NodeEvent) (x : NodeAnswer) → is_starved_by a g past e x ≡ true → added e x ≡ []
 starved_adds a g past (Asked request) (Replied (Refused OutOfMemory)) is = refl
 starved_adds a g past e x is = absurd (cc)
@@ -60,7 +60,7 @@ fed_tenants g a (d ∷ run) = by (is_starved_by d.node g (past_at d.node run) d.
         ∙ (ap (λ (rows : List TenantRow). if nat_eq d.node.number a.number then rows ++ added d.event d.answer else rows) earlier
         ∙ sym (tenants_more a d run))
 
--- It comes to the same value.
+-- The run without these requests comes to the same value.
 pub fed_comes : (g : Addr) (plan : Plan) (run : List NodeStep) (v : ClusterValue) → ComesTo plan run v → ComesTo plan (fed_run g run) v
 unfolding fed_run ComesTo
 fed_comes g plan [] v comes = comes
@@ -72,7 +72,7 @@ fed_comes g plan (d ∷ run) v (before, was, sent, acts) = by (is_starved_by d.n
         subst (ComesTo plan (fed_run g run)) (sym (acts_same before v d out.request OutOfMemory out.asked out.refused acts)) earlier
     by false is earlier = (before, earlier, sent, acts)
 
--- No refused request of the group is left in it.
+-- The run has no refused request of the group.
 pub fed_fed : (g : Addr) (run : List NodeStep) → is_fed g (fed_run g run) ≡ true
 unfolding fed_run is_fed
 fed_fed g [] = refl
@@ -82,7 +82,7 @@ fed_fed g (d ∷ run) = by (is_starved_by d.node g (past_at d.node run) d.event 
     by true is earlier = earlier
     by false is earlier = and_both (ap not (starved_same d.node g (past_at d.node (fed_run g run)) (past_at d.node run) d.event d.answer (fed_tenants g d.node run) ∙ is)) earlier
 
--- If there was none, it is the run itself.
+-- If there was none, the run is the original run.
 pub fed_whole : (g : Addr) (run : List NodeStep) → is_fed g run ≡ true → fed_run g run ≡ run
 unfolding fed_run is_fed
 fed_whole g [] fed = refl
@@ -102,6 +102,6 @@ left_out plan run v comes g = record { comes = fed_comes g plan run v comes; fed
 pub of_every : RefusalsMayBeLeftOut → (Property : Plan → List NodeStep → ClusterValue → Addr → Type 0) → OfGroupsInRuns Property → OfEveryGroup Property
 of_every left Property law plan run v comes g = let fed = left plan run v comes g in law plan (fed_run g run) v fed.comes g fed.fed
 
--- And the other way round.
+-- And conversely.
 pub of_fed : (Property : Plan → List NodeStep → ClusterValue → Addr → Type 0) → OfEveryGroup Property → OfGroupsInRuns Property
 of_fed Property law plan run v comes g fed = subst (λ (ds : List NodeStep). Property plan ds v g) (fed_whole g run fed) (law plan run v comes g)

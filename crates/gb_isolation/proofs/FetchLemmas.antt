@@ -1,4 +1,4 @@
--- A request to fetch a log may come next in any run, and the node answers what the group alone answers.
+-- A request to fetch a log may come next in any run, and the node replies as the group alone does.
 use Rattle.gb_types.specs.Common.{◌≡◌, ℕ, ◌<◌, true, false, List, [], ◌∷◌, ◌++◌, length, refl, sym, ap, subst, ◌∙◌, inr, arith, and_parts, append-nil, set-get_or}
 use Rattle.gb_types.specs.declared.{address.Addr.Addr, node.NodeId.NodeId, plan.Plan.Plan, reply.Reply.Reply, request.Request.Request}
 use Rattle.gb_rules.specs.Common.{fetch_answer}
@@ -15,14 +15,14 @@ use Rattle.gb_isolation.proofs.CommandLemmas.{answers_alike, group_token_is}
 use Rattle.gb_isolation.proofs.RunLemmas.{Laws, behaves}
 use Rattle.gb_isolation.proofs.View.{BehavesAlone, frames_for}
 
--- what a node makes of a request to fetch: it stays as it is
+-- the turn of a node with a request to fetch: its state does not change
 fetch_turn : (old : NodeValue) (token : List ℕ) (g : Addr) (from most : ℕ) (reply : Reply) → (turn old (Asked (to_fetch token g from most))).answer ≡ Replied reply → IsTurn old (Asked (to_fetch token g from most)) (Replied reply) old
 fetch_turn old token g from most reply due = inr (sym due, sym (reads old (turn old event).value event (turn old event).answer (inr (refl, refl)) refl))
   where
     event : NodeEvent
     event = Asked (to_fetch token g from most)
 
--- it may happen in the cluster, which stays as it is
+-- the request may happen in the cluster, whose state does not change
 fetch_acts : (v : ClusterValue) (a : NodeId) (token : List ℕ) (g : Addr) (from most : ℕ) (reply : Reply) → a.number < length v.nodes
     → (turn (node_at v a) (Asked (to_fetch token g from most))).answer ≡ Replied reply → NodeActs v a (Asked (to_fetch token g from most)) (Replied reply) v
 fetch_acts v a token g from most reply placed due = record {
@@ -46,7 +46,7 @@ goes_on : (plan : Plan) (run : List NodeStep) (v w : ClusterValue) (d : NodeStep
 unfolding ComesTo
 goes_on plan run v w d comes sent acts = (v, comes, sent, acts)
 
--- what the past says of a request of the group at a running node
+-- the past's reply to a request of the group at a running node
 own_answered : (plan : NodePlan) (past : List Happened) (g : Addr) (request : Request) → is_stopped past ≡ false → is_own_request plan.me g past request ≡ true
     → past_answer plan past request ≡ admitted_answer plan past request.what
 own_answered plan past g request running own = by

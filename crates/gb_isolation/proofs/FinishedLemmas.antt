@@ -1,4 +1,4 @@
--- Which of a node's own messages of a group are finished: the past's acknowledgements say the same as the acknowledged places of the group alone.
+-- The finished own messages of a group at a node: the past's acknowledgements agree with the acknowledged places of the group alone.
 use Rattle.gb_types.specs.Common.{◌≡◌, ℕ, zero, suc, ◌+◌, ◌<◌, ◌≤◌, List, ◌∷◌, length, Bool, true, false, not, ◌||◌, cond, nat_eq, refl, sym, ◌∙◌, ap, subst, arith, filter, if◌then◌else◌, range_with_len, AreNodes}
 use Rattle.gb_types.specs.declared.{address.Addr.Addr, limits.TheConstants.NODES}
 use Rattle.gb_types.proofs.AllMemberLemmas.{all_rising}
@@ -13,7 +13,7 @@ use Rattle.gb_isolation.proofs.MemberLemmas.{CountsAlike}
 use Rattle.gb_isolation.proofs.PackLemmas.{acknowledged_more}
 use Rattle.gb_isolation.proofs.View.{View, Fits, said_of, acknowledged_of}
 
--- numbers that do not pass are counted one by one, or listed
+-- the numbers that do not pass are counted one by one, or listed
 counts : (p q : ℕ → Bool) (first n : ℕ) → ((k : ℕ) → k < n → p (first + k) ≡ q (first + k)) → count_unfinished p first n ≡ length (filter (λ k. not (q k)) (range_with_len first n))
 unfolding count_unfinished
 counts p q first zero same = refl
@@ -29,7 +29,7 @@ counts p q first (suc n) same =
     one true xs = omega arith
     one false xs = omega arith
 
--- the group at the node has as many unfinished messages as the past tells of: what waits is not marked
+-- the group at the node has as many unfinished messages as the past says: the items that wait are not marked
 pub counts_fit : (nodes : ℕ) (g : Addr) (me : ℕ) (frames_from : ℕ → List (List Item)) (v : View) (m : Member) → nodes ≤ NODES → Fits nodes g me frames_from v m → CountsAlike me v.told m
 counts_fit nodes g me frames_from v m few fits t is st =
     ap (λ n. count_unfinished (is_finished_alone t.spec me m.told m.put m.done) 1 n) (ap said_in st.calls)

@@ -18,7 +18,7 @@ use Rattle.gb_isolation.specs.Project.{has_come, is_new_frame}
 
 -- A packet that is taken.
 
--- a frame that is not outside the window is the first with its number where none was received
+-- a frame that is not outside the window is the first with its number if none with the number was received
 first_fate : (r : Received) (n : ℕ) → fate n r ≢ Beyond → is_first (fate n r) ≡ (not (nat_eq n 0) && not (set.contains r n))
 first_fate r n inside = by (nat_eq n 0) inside
   where
@@ -31,7 +31,7 @@ first_fate r n inside = by (nat_eq n 0) inside
     by true inside = refl
     by false inside = admitted (set.contains r n) (is_awaited r n) inside
 
--- the packet, whose frame is the first where none with its number was taken from its sender
+-- the packet, whose frame is the first if none with its number was taken from its sender
 record IsTakenOnce (key : List ℕ) (past : List Happened) (bytes : List ℕ) (good : Good) : Type 0 where
   content : Content
   text : read key bytes ≡ content ∷ []
@@ -67,7 +67,7 @@ taken_once inside pasts plan run d v bytes good comes event answer =
 
 -- Packets of one frame.
 
--- what comes with a frame's number is taken, where it was not before
+-- a packet with the frame's number is taken now, or one was before
 came_or_taken : (key : List ℕ) (past : List Happened) (bytes : List ℕ) (good : Good) (b n : ℕ) → 1 ≤ n → IsTakenOnce key past bytes good
     → (list_any (is_frame b n) (read key bytes) || is_taken key b n past) ≡ ((is_first good.frame && list_any (is_frame b n) (read key bytes)) || is_taken key b n past)
 came_or_taken key past bytes good b n some once =
@@ -136,7 +136,7 @@ module _ (inside : NothingIsOutside) (pasts : PastsSay) (plan : Plan) where
         | inr other ↦ ap (has_come key b n) (past_other a d run other) ∙ (earlier ∙ sym (ap (is_taken key b n) (past_other a d run other)))
       ]
 
--- the frame is taken for the first time where it is new
+-- a new frame is taken for the first time
 pub first_is_new : NothingIsOutside → LinksHold → PastsSay → (plan : Plan) (run : List NodeStep) (d : NodeStep) (v : ClusterValue) (bytes : List ℕ) (good : Good) (c : Content) → ComesTo plan (d ∷ run) v → d.event ≡ Came bytes → d.answer ≡ Taken (TakenGood good)
     → read plan.cluster_key bytes ≡ c ∷ [] → is_first good.frame ≡ is_new_frame plan.cluster_key (past_at d.node run) c
 unfolding ComesTo

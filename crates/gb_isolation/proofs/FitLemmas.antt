@@ -14,7 +14,7 @@ all_of_nodes : (g : Addr) (es : List Entry) → AllByRecursion IsOfNode (map (it
 all_of_nodes g [] = tt
 all_of_nodes g (e ∷ es) = (e.origin.below, all_of_nodes g es)
 
--- the items of a packet that is packed
+-- the items of a packed packet
 content_fit : (plan : NodePlan) (g : Addr) (past : List Happened) (b : NodeId) (text : List ℕ) (right : IsPacked plan past b text) → All IsOfNode (items_for g right.content.items)
 content_fit plan g past b text right = subst (All IsOfNode) (sym (right.front g)) (All-from_recursion IsOfNode (map (item_for g) waits) (all_of_nodes g waits))
   where
@@ -42,7 +42,7 @@ packed_fit plan g past (Pack y) (Sent (SentPacket text)) right b j f is = by (na
         clash h = cc
 packed_fit plan g past e x right b j f is = absurd (cc)
 
--- so the items of every frame of a run
+-- the origins of the items of every frame of a run are nodes
 pub frames_fit : AnswersSay → (plan : Plan) (g : Addr) (run : List NodeStep) (v : ClusterValue) → ComesTo plan run v → (x : NodeId) → x.number < plan.nodes → (b k : ℕ) (f : List Item)
     → slice_get (frames_to plan.cluster_key b (past_at x run)) k ≡ Some f → All IsOfNode (items_for g f)
 unfolding ComesTo past_at frames_to

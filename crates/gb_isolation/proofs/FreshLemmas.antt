@@ -12,7 +12,7 @@ use Rattle.gb_isolation.proofs.NoticeLemmas.{AreRising, numbered_is, all_noticed
 
 -- The nodes.
 
--- each is another member
+-- each node is another member
 abbrev pub AreOthers : Spec → ℕ → List ℕ → Type 0
 AreOthers spec me bs = AllByRecursion (λ b. (b < NODES) × (is_other spec me b ≡ true)) bs
 
@@ -36,14 +36,14 @@ noticed_is me b spec m made present below other =
     let there : is_other spec me (node_numbered b).number ≡ true = ap (is_other spec me) (numbered_is b below) ∙ other in
     ap (λ (c : Bool). took_notice me (node_numbered b) (if c then None else m.spec) m) present ∙ (ap (λ (o : Option Spec). took_notice me (node_numbered b) o m) made ∙ ap (λ (c : Bool). if c then called me (Crashed (node_numbered b)) (cut (node_numbered b) m) else m) there)
 
--- what the group was told then
+-- the group's calls after its first notices
 told_onto : (me : ℕ) (spec : Spec) (bs : List ℕ) (m : Member) → m.spec ≡ Some spec → is_gone m.phase ≡ false → AreOthers spec me bs → (all_noticed me bs m).told ≡ crashed_onto m.told bs
 told_onto me spec [] m made present others = refl
 told_onto me spec (b ∷ bs) m made present others =
     let is = noticed_is me b spec m made present others.0.0 others.0.1 in
     told_onto me spec bs (node_noticed me (node_numbered b) m) (ap (λ (n : Member). n.spec) is ∙ made) (ap (λ (n : Member). is_gone n.phase) is ∙ present) others.1 ∙ ap (λ (n : Member). crashed_onto n.told bs) is
 
--- and what is put out: what was, all of which is carried
+-- the queued items do not change: all of them are carried
 put_stays : (me : ℕ) (spec : Spec) (bs : List ℕ) (qs : List NodeId) (m : Member) (x : ℕ) → m.spec ≡ Some spec → is_gone m.phase ≡ false → m.told ≡ map Crashed qs → m.taken x ≡ length (m.put x) → AreOthers spec me bs → (all_noticed me bs m).put x ≡ m.put x
 put_stays me spec [] qs m x made present told carried others = refl
 put_stays me spec (b ∷ bs) qs m x made present told carried others =
@@ -71,7 +71,7 @@ before_rising spec me new = passing_rising (other_noticed spec me new) 0 NODES (
 pub marked_before : (spec : Spec) (me : ℕ) (new : ℕ → Bool) → ((x : ℕ) → new x ≡ true → x < NODES) → (x : ℕ) → is_marked x (noticed_members spec me new) ≡ (is_other spec me x && new x)
 marked_before spec me new nodes x = passing_marked (other_noticed spec me new) (λ y is. nodes y (and_parts (is_other spec me y) (new y) is).1) x
 
--- the group alone after its notices is what is told first
+-- the group alone after its notices is the group's first state by the past
 pub fresh_there : (a : NodeId) (spec : Spec) (noticed : set.FinSet nat_cmp) (m : Member) → m.spec ≡ Some spec → m.phase ≡ Made → m.told ≡ [] → IsThere (told_first spec a noticed) (all_noticed a.number (noticed_members spec a.number (set.contains noticed)) m)
 fresh_there a spec noticed m made phase told =
     let bs = noticed_members spec a.number (set.contains noticed) in
@@ -83,6 +83,6 @@ fresh_there a spec noticed m made phase told =
       calls = told_onto a.number spec bs m made (ap is_gone phase) (passing_others spec a.number (set.contains noticed) 0 NODES (omega arith)) ∙ ap (λ cs. crashed_onto cs bs) told;
     }
 
--- and what is put out stays
+-- the queued items do not change
 pub fresh_put : (me : ℕ) (spec : Spec) (new : ℕ → Bool) (m : Member) (x : ℕ) → m.spec ≡ Some spec → is_gone m.phase ≡ false → m.told ≡ [] → m.taken x ≡ length (m.put x) → (all_noticed me (noticed_members spec me new) m).put x ≡ m.put x
 fresh_put me spec new m x made present told carried = put_stays me spec (noticed_members spec me new) [] m x made present told carried (passing_others spec me new 0 NODES (omega arith))

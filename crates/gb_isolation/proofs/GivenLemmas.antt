@@ -1,4 +1,4 @@
--- What an event of a run adds to the projection on a group: the node, its commands, and its notices.
+-- The steps that an event of a run adds to the projection onto a group: their node, their commands, and their notices.
 use Rattle.gb_types.specs.Common.{◌≡◌, ◌≢◌, ℕ, zero, suc, ◌+◌, ◌-◌, Bool, true, false, ◌&&◌, nat_eq, List, [], ◌∷◌, ◌++◌, length, Option, Some, None, refl, sym, ap, ◌∙◌, subst, map, option_or, is_some, filter, if◌then◌else◌, range_with_len, flat_map, and_parts, ne_eqb, bounds_of}
 use Rattle.std.specs.FinSet as set
 use Rattle.gb_types.specs.declared.{address.Addr.Addr, limits.TheConstants.NODES, node.NodeId.NodeId, reply.Reply.Reply, reply.Reply.TheVariants.Done, request.Request.Request, request.Action.Action, request.Action.TheVariants.AddTenant, request.Action.TheVariants.Group as AtGroup, request.GroupCommand.GroupCommand, spec.Spec.Spec, plan.Plan.Plan, plan.Bounds.Bounds}
@@ -22,7 +22,7 @@ use Rattle.gb_isolation.proofs.GoesLemmas.{after_there}
 use Rattle.gb_isolation.proofs.RoomLemmas.{own_given}
 use Rattle.gb_isolation.proofs.View.{asked_by, is_noticed_after, own_requested_by}
 
--- each of these events is so
+-- each of these steps has the property
 abbrev pub AllAre : (GroupStep → Type 0) → List GroupStep → Type 0
 AllAre Is [] = Unit {0}
 AllAre Is (step ∷ steps) = Is step × AllAre Is steps
@@ -47,7 +47,7 @@ is_carrying (Came from place) = true
 is_carrying (Acknowledged b place count) = true
 is_carrying event = false
 
--- it is carried at the node, or comes or is acknowledged there
+-- the step carries items at the node, or items come or are acknowledged there
 abbrev pub IsCarried : NodeId → GroupStep → Type 0
 IsCarried a step = (step.node ≡ a) × (is_carrying step.event ≡ true)
 
@@ -81,9 +81,9 @@ carried_arrived plan g run a c =
 pub carried_packets : (plan : Plan) (g : Addr) (run : List NodeStep) (a : NodeId) (cs : List Content) → AllAre (IsCarried a) (flat_map (arrived plan g run a) cs)
 carried_packets plan g run a cs = all_flat (IsCarried a) (arrived plan g run a) (carried_arrived plan g run a) cs
 
--- Where.
+-- The node.
 
--- it happens at the node
+-- the step is at the node
 abbrev pub IsAt : NodeId → GroupStep → Type 0
 IsAt a step = step.node ≡ a
 
@@ -141,7 +141,7 @@ at_asked plan g past request reply = by (is_stopped past) (is_own_request plan.m
     by false true = beside (own_requested_by plan g past request reply) (at_requested plan g past request reply)
     by false false = beside [] tt
 
--- what an event gives happens where the event does
+-- the steps that an event gives are at the node of the event
 pub given_at : (plan : Plan) (g : Addr) (run : List NodeStep) (a : NodeId) (e : NodeEvent) (x : NodeAnswer) → AllAre (IsAt a) (gives plan g run a e x)
 given_at plan g run a (Asked request) (Replied reply) = at_asked (node_plan plan a) g (past_at a run) request reply
 given_at plan g run a (Pack b) (Sent (SentPacket text)) =
@@ -156,7 +156,7 @@ abbrev is_notice : GroupEvent → Bool
 is_notice (Notice q) = true
 is_notice event = false
 
--- it is no notice
+-- the step is no notice
 abbrev IsPlain : GroupStep → Type 0
 IsPlain step = is_notice step.event ≡ false
 
@@ -211,7 +211,7 @@ notices_due bounds addr a (b ∷ bs) group made =
     next : Group
     next = after bounds addr group (record { node = a; event = Notice (node_numbered b) })
 
--- the group is made, and then told of the nodes that were noticed before
+-- the group is made, and then gets the notices of the nodes that were noticed before
 making_due : (bounds : Bounds) (addr : Addr) (a : NodeId) (spec : Spec) (bs : List ℕ) (group : Group) → is_some (alone_from bounds addr group (record { node = a; event = AskMake spec } ∷ notices_of a bs) a.number).spec ≡ true
     → AreDue bounds addr group (record { node = a; event = AskMake spec } ∷ notices_of a bs)
 making_due bounds addr a spec bs group made =
@@ -221,7 +221,7 @@ making_due bounds addr a spec bs group made =
     next = after bounds addr group (record { node = a; event = AskMake spec })
 
 module _ (bounds : Bounds) (plan : NodePlan) (g : Addr) (past : List Happened) (group : Group) where
-  -- where the request is the group's own and the node runs
+  -- if the request is the group's own and the node runs
   own_due : (request : Request) (reply : Reply) → is_named g request.what ≡ true
       → (alone_from bounds g group (tenant_given g plan.me reply request.what ++ own_requested_by plan g past request reply) plan.me.number).spec ≡ made_with g (record { event = Asked request; answer = Replied reply } ∷ past)
       → AreDue bounds g group (tenant_given g plan.me reply request.what ++ own_requested_by plan g past request reply)
@@ -264,7 +264,7 @@ ticked_due : (bounds : Bounds) (addr : Addr) (a : NodeId) (found : ℕ → Bool)
 ticked_due bounds addr a found None group made = tt
 ticked_due bounds addr a found (Some spec) group made = notices_due bounds addr a (filter (λ b. is_other spec a.number b && found b) (range_with_len 0 NODES)) group (ap is_some made)
 
--- the notices that an event gives come where the group was made
+-- the notices that an event gives come at nodes where the group was made
 pub given_due : (plan : Plan) (g : Addr) (run : List NodeStep) (group : Group) (a : NodeId) (e : NodeEvent) (x : NodeAnswer) → (group a.number).spec ≡ made_with g (past_at a run)
     → (alone_from (bounds_of plan) g group (gives plan g run a e x) a.number).spec ≡ made_with g (record { event = e; answer = x } ∷ past_at a run) → AreDue (bounds_of plan) g group (gives plan g run a e x)
 given_due plan g run group a (Asked request) (Replied reply) before now = asked_due (bounds_of plan) (node_plan plan a) g (past_at a run) group request reply now
@@ -279,7 +279,7 @@ given_due plan g run group a e x before now = tt
 
 -- Commands.
 
--- nothing is commanded at a node by what happens at another
+-- an event at one node gives no command at another
 pub no_commands_elsewhere : (s : ℕ) (a : NodeId) (steps : List GroupStep) → s ≢ a.number → AllAre (IsAt a) steps → commands s steps ≡ []
 unfolding commands
 no_commands_elsewhere s a [] other at = refl
@@ -336,7 +336,7 @@ no_commands_other s g a Done (AtGroup addr Drop) = elim (is_other_generation g a
 no_commands_other s g a Done what = refl
 no_commands_other s g a reply what = refl
 
--- a stop that is shown is no command
+-- the step of a stop is no command
 pub commands_stopped : (s : ℕ) (a : NodeId) (met : Bool) (cs : List GroupStep) → commands s (with_stop a met cs) ≡ commands s cs
 unfolding commands
 commands_stopped s a met [] = refl

@@ -1,4 +1,4 @@
--- How a group alone goes on.
+-- The group alone and the view keep in agreement step by step.
 use Rattle.gb_types.specs.Common.{◌≡◌, ◌≢◌, ℕ, List, [], ◌∷◌, ◌++◌, refl, sym, ap, ◌∙◌, subst, eq-eqb, ne_eqb, fold-append}
 use Rattle.gb_types.specs.declared.{address.Addr.Addr, node.NodeId.NodeId, plan.Bounds.Bounds}
 use Rattle.gb_frame.specs.declared.item.Item.{Item}
@@ -18,11 +18,11 @@ pub after_elsewhere : (bounds : Bounds) (addr : Addr) (group : Group) (a : NodeI
 unfolding after
 after_elsewhere bounds addr group a x e other = rw (ne_eqb x a.number other) refl
 
--- nothing is given
+-- no step is given
 pub goes_none : (bounds : Bounds) (g : Addr) (a : NodeId) (frames_from : ℕ → List (List Item)) (v : View) (group : Group) → Fits bounds.nodes g a.number frames_from v (group a.number) → Goes bounds g a frames_from v group []
 goes_none bounds g a frames_from v group fits = record { legal = tt; elsewhere = λ x other. refl; there = fits }
 
--- one event is given
+-- one step is given
 pub goes_one : (bounds : Bounds) (g : Addr) (a : NodeId) (frames_from : ℕ → List (List Item)) (v : View) (group : Group) (e : GroupEvent)
     → MayHappen g a e group → Fits bounds.nodes g a.number frames_from v (member_after bounds g a e group) → Goes bounds g a frames_from v group (record { node = a; event = e } ∷ [])
 goes_one bounds g a frames_from v group e may fits = record {

@@ -1,4 +1,4 @@
--- What making a group at a running node does to it: the group learns which members were noticed before.
+-- The effect of making a group at a running node: the group gets the notices of the members that were noticed before.
 use Rattle.gb_isolation.specs.Project.{notices, ticked}
 use Rattle.gb_types.specs.Common.{◌≡◌, ℕ, ◌<◌, List, [], ◌∷◌, ◌++◌, length, Option, Some, None, Bool, true, false, ◌&&◌, ◌||◌, refl, sym, ◌∙◌, ap, subst, arith, option_or, if◌then◌else◌, is_some, nat_le, option_map, nat_cmp, or-false, and_parts, append-nil, version_at}
 use Rattle.std.specs.FinSet as set
@@ -23,7 +23,7 @@ use Rattle.gb_isolation.proofs.NoticeLemmas.{all_noticed, notices_of, notices_th
 use Rattle.gb_isolation.proofs.PastLemmas.{running_unmet}
 use Rattle.gb_isolation.proofs.View.{View, view_of, AreMarked, Fits, Goes, NotMade, IsThere, MemberIs, is_concerned, said_of, bounds_with, is_noticed_after}
 
--- notices say nothing
+-- notices are no messages that are said
 none_said : (bs : List ℕ) (calls : List GroupCall) → said_in calls ≡ 0 → said_in (crashed_onto calls bs) ≡ 0
 unfolding said_in
 none_said [] calls none = none
@@ -88,7 +88,7 @@ module _ (bounds : Bounds) (g : Addr) (a : NodeId) (frames_from : ℕ → List (
       absent : NotMade (group a.number)
       absent = subst (λ o. MemberIs o (group a.number)) free fits.told
 
-      -- nothing was said
+      -- no message was said
       none : said_of (Some (Some (told_first spec a noticed))) ≡ 0
       none = first_said (noticed_members spec a.number (set.contains noticed))
 
@@ -130,7 +130,7 @@ module _ (plan : NodePlan) (versions : List Version) (g : Addr) (past : List Hap
   abbrev noticed : set.FinSet nat_cmp
   noticed = noticed_after plan past
 
-  -- what the rules answer for the group
+  -- the reply of the rules for the group
   abbrev rule : Reply
   rule = by_tenant (make_answer plan.version plan.nodes plan.me.number g (is_some (told_of plan g past)) (living_of g past) spec) before.reserve
 
@@ -144,7 +144,7 @@ module _ (plan : NodePlan) (versions : List Version) (g : Addr) (past : List Hap
       go true e = cc
       go false e = cc
 
-  -- the group alone answers the same
+  -- the group alone gives the same reply
   alone_rule : (r : Reply) → version_at versions plan.me.number ≡ plan.version → Fits plan.nodes g plan.me.number frames_from before m → rule ≡ r → running_reply (bounds_with plan versions) g plan.me.number (AskMake spec) m ≡ r
   alone_rule r right fits is = (λ i. by_tenant (make_answer (right i) plan.nodes plan.me.number g (made-is (told_of plan g past) m fits.told i) (fits.others i) spec) (fits.reserve i)) ∙ is
 

@@ -1,4 +1,4 @@
--- The places of a group's items in the frames of a link, and which of these places are marked.
+-- The places of a group's items in the frames of a link, and the marked ones among these places.
 use Rattle.gb_types.specs.Common.{◌≡◌, ℕ, zero, suc, ◌+◌, ◌-◌, ◌<◌, ◌≤◌, List, [], ◌∷◌, ◌++◌, length, take, Some, Bool, true, false, ◌&&◌, ◌||◌, ◌⊎◌, inl, inr, refl, sym, ◌∙◌, ap, subst, arith, length-append, add-one, zero-add, nat_lt, nat_le, slice_get, cases_Bool, cases_lt, and_parts, and_right, or_cases, or_from, nat_tests, take-append-add, append-nil, append_assoc, take-append-le}
 use Rattle.gb_types.proofs.BoolLemmas.{or_off}
 use Rattle.gb_types.specs.declared.{address.Addr.Addr, entry.Entry.Entry}
@@ -14,7 +14,7 @@ slice_get-behind (x ∷ xs) ys k = ap (slice_get (x ∷ xs ++ ys)) (plus (length
     plus : (n k : ℕ) → suc n + k ≡ suc (n + k)
     plus n k = omega arith
 
--- a frame's items stand behind those of the frames before it
+-- a frame's items follow those of the frames before it
 pub offset_next : (g : Addr) (fs : List (List Item)) (i : ℕ) (f : List Item) → slice_get fs i ≡ Some f → offset g fs (i + 1) ≡ offset g fs i + length (group_items g f)
 unfolding group_items_of
 offset_next g [] i p is = absurd (cc)
@@ -25,7 +25,7 @@ offset_next g (f ∷ fs) (suc i) p is =
     let rest = offset_next g fs i p is in
     rw add-one (omega (arith, rw add-one at rest, length-append (group_items g f) (group_items_of g (take (suc i) fs)), length-append (group_items g f) (group_items_of g (take i fs))))
 
--- and there are no more than all
+-- there are at most as many as in all frames
 pub offset_all : (g : Addr) (fs : List (List Item)) (i : ℕ) → offset g fs i ≤ length (group_items_of g fs)
 unfolding group_items_of
 offset_all g fs zero = omega arith
@@ -37,7 +37,7 @@ unfolding group_items_of
 offset_none g zero = refl
 offset_none g (suc i) = refl
 
--- the items of a frame, among all
+-- the item of a frame at its place among all items
 pub item_there : (g : Addr) (fs : List (List Item)) (ys : List Entry) (i j : ℕ) (f : List Item) (e : Entry) → slice_get fs i ≡ Some f → slice_get (group_items g f) j ≡ Some e → slice_get (group_items_of g fs ++ ys) (offset g fs i + j) ≡ Some e
 unfolding group_items_of
 item_there g [] ys i j p e is has = absurd (cc)
@@ -60,11 +60,11 @@ item_there g (f ∷ fs) ys (suc i) j p e is has =
 
 -- The items of some of the frames.
 
--- the place is one of this stretch
+-- the place is within this range
 abbrev pub is_between : ℕ → ℕ → ℕ → Bool
 is_between low high place = nat_lt low place && nat_le place high
 
--- among these frames, numbered from n on and behind `before` items of the group, one whose number passes the test has the item with this place
+-- among these frames, numbered from n on and after `before` items of the group, one whose number passes the test has the item at this place
 abbrev pub is_in : Addr → (ℕ → Bool) → ℕ → ℕ → List (List Item) → ℕ → Bool
 is_in g new n before [] place = false
 is_in g new n before (f ∷ fs) place = (new n && is_between before (before + length (group_items g f)) place) || is_in g new (n + 1) (before + length (group_items g f)) fs place
@@ -82,7 +82,7 @@ or_last : (b c : Bool) → c ≡ false → (b || c) ≡ b
 or_last true c is = refl
 or_last false c is = is
 
--- then it stands behind those before
+-- then the place is above those before
 pub in_above : (g : Addr) (new : ℕ → Bool) (n before : ℕ) (fs : List (List Item)) (place : ℕ) → is_in g new n before fs place ≡ true → before < place
 in_above g new n before [] place is = absurd (cc)
 in_above g new n before (f ∷ fs) place is = go (in_above g new (n + 1) (before + length (group_items g f)) fs place) (or_cases (new n && is_between before (before + length (group_items g f)) place) (is_in g new (n + 1) (before + length (group_items g f)) fs place) is)
@@ -98,7 +98,7 @@ not_in g new n before fs place low = go (cases_Bool (is_in g new n before fs pla
     go (inl is) = let above = in_above g new n before fs place is in absurd (omega arith)
     go (inr is) = is
 
--- a place of one frame's items counts by that frame's number
+-- a place of one frame's items is tested by that frame's number
 pub in_frame : (g : Addr) (new : ℕ → Bool) (n before : ℕ) (fs : List (List Item)) (i place : ℕ) → before + offset g fs i < place → place ≤ before + offset g fs (i + 1) → is_in g new n before fs place ≡ new (n + i)
 unfolding group_items_of
 in_frame g new n before [] zero place low high = absurd (omega (arith, high, low))
@@ -122,7 +122,7 @@ in_frame g new n before (f ∷ fs) (suc i) place low high =
     next : offset g (f ∷ fs) (suc i + 1) ≡ length (group_items g f) + offset g fs (i + 1)
     next = rw add-one (rw add-one (length-append (group_items g f) (group_items_of g (take (suc i) fs))))
 
--- beyond all items there is none
+-- above all items there is no place
 pub in_beyond : (g : Addr) (new : ℕ → Bool) (n before : ℕ) (fs : List (List Item)) (place : ℕ) → before + length (group_items_of g fs) < place → is_in g new n before fs place ≡ false
 unfolding group_items_of
 in_beyond g new n before [] place above = refl
@@ -171,7 +171,7 @@ in_found g new n before (f ∷ fs) place is = go (in_found g new (n + 1) (before
 
 -- Marks.
 
--- these places are marked, too: those of the frames whose numbers pass the new test
+-- the places of the frames whose numbers pass the new test are marked too
 pub marks_added : (g : Addr) (fs : List (List Item)) (new test after : ℕ → Bool) (added : ℕ → Bool) (marks next : List ℕ)
     → ((n place : ℕ) → offset g fs n < place → place ≤ offset g fs (n + 1) → added place ≡ new (n + 1))
     → ((place : ℕ) → length (group_items_of g fs) < place → added place ≡ false)
@@ -183,7 +183,7 @@ marks_added g fs new test after added marks next within beyond more is was = rec
   beyond = λ place above. more place ∙ or_from (added place) (is_marked place marks) (beyond place above) (was.beyond place above);
 }
 
--- the same marks, by another name
+-- the same marks by an equal test
 pub marks_same : (g : Addr) (fs : List (List Item)) (test other : ℕ → Bool) (marks next : List ℕ) → next ≡ marks → ((n : ℕ) → 1 ≤ n → other n ≡ test n) → AreMarked g fs test marks → AreMarked g fs other next
 marks_same g fs test other marks next same is was = record {
   each = λ n place low high. ap (is_marked place) same ∙ (was.each n place low high ∙ sym (is (n + 1) (omega arith)));
@@ -205,11 +205,11 @@ pub group_items_of-one : (g : Addr) (f : List Item) → group_items_of g (f ∷ 
 unfolding group_items_of
 group_items_of-one g f = append-nil (group_items g f)
 
--- the first frames stand where they stood
+-- the items of the first frames keep their places
 pub offset_front : (g : Addr) (fs more : List (List Item)) (n : ℕ) → n ≤ length fs → offset g (fs ++ more) n ≡ offset g fs n
 offset_front g fs more n low = ap (λ xs. length (group_items_of g xs)) (take-append-le n fs more low)
 
--- those behind stand behind all of them
+-- the places of the later frames are above all of them
 offset_past : (g : Addr) (fs more : List (List Item)) (n : ℕ) → length fs ≤ n → length (group_items_of g fs) ≤ offset g (fs ++ more) n
 offset_past g fs more n high =
     let at : offset g (fs ++ more) n ≡ length (group_items_of g fs) + length (group_items_of g (take (n - length fs) more)) =
@@ -219,7 +219,7 @@ offset_past g fs more n high =
     split : (n k : ℕ) → k ≤ n → n ≡ k + (n - k)
     split n k le = omega (arith, le)
 
--- marks among more frames, none of which passes the test
+-- the marks of more frames, none of which passes the test
 pub marks_more : (g : Addr) (fs more : List (List Item)) (test : ℕ → Bool) (marks : List ℕ) → ((n : ℕ) → length fs < n → test n ≡ false) → AreMarked g fs test marks → AreMarked g (fs ++ more) test marks
 marks_more g fs more test marks none was = record {
   each = λ n place low high. by n place low high (cases_lt n (length fs));

@@ -1,4 +1,4 @@
--- The moments of a run: how an earlier moment stands in a later one, and which notices the group is told of at each.
+-- The moments of a run: the part that an earlier moment is of a later one, and the notices of the group at each.
 use Rattle.gb_types.specs.Common.{◌≡◌, ◌≢◌, ℕ, suc, ◌+◌, ◌-◌, ◌<◌, ◌≤◌, true, not, ◌⊎◌, inl, inr, List, [], ◌∷◌, ◌++◌, length, take, Some, refl, sym, ap, ◌∙◌, subst, arith, length-append, append_assoc, slice_get, and_parts, cases_eq, cases_lt, append-nil, fold-append, bounds_of}
 use Rattle.gb_types.specs.declared.{address.Addr.Addr, entry.Entry.Entry, node.NodeId.NodeId, spec.Spec.Spec, plan.Plan.Plan}
 use Rattle.gb_frame.specs.declared.item.Item.{Item}
@@ -28,7 +28,7 @@ unfolding ComesTo
 back plan [] earlier v comes = (v, comes)
 back plan (d ∷ later) earlier v comes = back plan later earlier comes.0 comes.1
 
--- what happens happens at nodes of the cluster
+-- each step is at a node of the cluster
 pub placed : (plan : Plan) (d : NodeStep) (run : List NodeStep) (v : ClusterValue) → ComesTo plan (d ∷ run) v → d.node.number < plan.nodes
 unfolding ComesTo
 placed plan d run v comes = let at = comes.3.placed in let count = (stays plan run comes.0 comes.1).count in omega (arith, at, count)
@@ -45,7 +45,7 @@ made_inside plan g (d ∷ run) v comes a spec made = by (made_inside plan g run 
 
 -- The projection.
 
--- what a run goes on with goes on in its projection
+-- the projection of a run's continuation continues the projection
 pub record Continues (plan : Plan) (g : Addr) (later earlier : List NodeStep) : Type 0 where
   pub rest : List GroupStep
   pub whole : project plan g (later ++ earlier) ≡ project plan g earlier ++ rest
@@ -58,7 +58,7 @@ project_continues plan g (d ∷ later) earlier =
     let given : List GroupStep = gives plan g (later ++ earlier) d.node d.event d.answer in
     record { rest = more.rest ++ given; whole = ap (λ xs. xs ++ given) more.whole ∙ append_assoc (project plan g earlier) more.rest given }
 
--- the group's notices are marked as it is told of them
+-- the group's notices are marked when it receives them
 pub marked : AllBehave → (plan : Plan) (g : Addr) (run : List NodeStep) (v : ClusterValue) → ComesTo plan run v → is_fed g run ≡ true → AllMarked (alone (bounds_of plan) g (project plan g run))
 unfolding ComesTo project
 marked behave plan g [] v comes fed = nobody_marked
@@ -84,7 +84,7 @@ marked behave plan g (d ∷ run) v comes fed =
     now : (alone_from (bounds_of plan) g group given d.node.number).spec ≡ made_with g (record { event = d.event; answer = d.answer } ∷ past_at d.node run)
     now = ap (λ (q : Group). (q d.node.number).spec) (sym split) ∙ (((behave plan g (d ∷ run) v comes fed).fits d.node within).spec ∙ ap (made_with g) (past_same d.node d run refl))
 
--- The frame in which an item stands, counted from 1 among the items of these frames.
+-- The frame that has an item, counted from 1 among the items of these frames.
 pub record StandsIn (g : Addr) (fs : List (List Item)) (place : ℕ) : Type 0 where
   pub number : ℕ
   pub frame : List Item

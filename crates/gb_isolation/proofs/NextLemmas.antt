@@ -3,7 +3,7 @@ use Rattle.gb_types.specs.Common.{◌≡◌, ℕ, zero, suc, ◌-◌, ◌<◌, L
 use Rattle.gb_types.specs.declared.entry.Entry.{Entry}
 use Rattle.gb_alone.specs.Common.{is_message, Accepted, IsAccepted}
 
--- no item has a number beyond those that were accepted
+-- no item has a number above those that were accepted
 pub none_beyond_accepted : (accepted : ℕ → List Accepted) (me k : ℕ) (xs : List Entry) → length (accepted me) < k → All (IsAccepted accepted) xs → list_any (is_message me k) xs ≡ false
 none_beyond_accepted accepted me k [] low all = refl
 none_beyond_accepted accepted me k (x ∷ xs) low all =

@@ -15,7 +15,7 @@ use Rattle.gb_isolation.proofs.GoesLemmas.{after_there, after_elsewhere}
 pub numbered_is : (b : ℕ) → b < NODES → (node_numbered b).number ≡ b
 numbered_is b below = omega arith
 
--- the numbers rise from one on, and all are nodes'
+-- the numbers rise from one on, and all are numbers of nodes
 abbrev pub AreRising : ℕ → List ℕ → Type 0
 AreRising low [] = Unit {0}
 AreRising low (b ∷ bs) = (low ≤ b) × (b < NODES) × AreRising (b + 1) bs
@@ -32,7 +32,7 @@ pub passing_rising : (test : ℕ → Bool) (low count : ℕ) → low + count ≤
 passing_rising test low zero within = tt
 passing_rising test low (suc count) within = one_rising low (filter test (range_with_len (low + 1) count)) (omega arith) (passing_rising test (low + 1) count (omega arith)) (test low)
 
--- which numbers pass
+-- the numbers that pass
 unmarked_below : (low x : ℕ) (bs : List ℕ) → x < low → AreRising low bs → is_marked x bs ≡ false
 unmarked_below low x [] below rise = refl
 unmarked_below low x (b ∷ bs) below rise =
@@ -66,7 +66,7 @@ marked_in test low (suc count) x within least most = by (cases_eq low x) (λ oth
     by (inl same) go = subst (λ (b : Bool). is_marked x (if b then low ∷ rest else rest) ≡ test x) (sym (ap test same)) (first (test x) refl same)
     by (inr other) go = later (test low) other (go other)
 
--- where only nodes' numbers pass
+-- if only numbers of nodes pass
 pub passing_marked : (test : ℕ → Bool) → ((x : ℕ) → test x ≡ true → x < NODES) → (x : ℕ) → is_marked x (filter test (range_with_len 0 NODES)) ≡ test x
 passing_marked test nodes x = by (cases_lt x NODES)
   where
@@ -84,7 +84,7 @@ passing_marked test nodes x = by (cases_lt x NODES)
 abbrev pub notices_of : NodeId → List ℕ → List GroupStep
 notices_of a bs = map (λ b. record { node = a; event = Notice (node_numbered b) }) bs
 
--- the group's part at a node after them
+-- the member at a node after these notices
 abbrev pub all_noticed : ℕ → List ℕ → Member → Member
 all_noticed me [] m = m
 all_noticed me (b ∷ bs) m = all_noticed me bs (node_noticed me (node_numbered b) m)
@@ -97,7 +97,7 @@ pub notices_elsewhere : (bounds : Bounds) (addr : Addr) (a : NodeId) (bs : List 
 notices_elsewhere bounds addr a [] group x other = refl
 notices_elsewhere bounds addr a (b ∷ bs) group x other = notices_elsewhere bounds addr a bs _ x other ∙ after_elsewhere bounds addr group a x (Notice (node_numbered b)) other
 
--- a notice leaves the rest of the group at the node
+-- a notice does not change the other fields of the member
 pub notice_keeps : (me : ℕ) (q : NodeId) (m : Member) → KeepsRest m (node_noticed me q m)
 notice_keeps me q m = go (held_spec m.phase m.spec)
   where
@@ -126,14 +126,14 @@ notices_keep me (b ∷ bs) m =
       stopped = rest.stopped ∙ one.stopped;
     }
 
--- the nodes are noticed then
+-- the nodes are then noticed
 pub notices_mark : (me low : ℕ) (bs : List ℕ) (m : Member) (x : ℕ) → AreRising low bs → is_marked x (all_noticed me bs m).noticed ≡ (is_marked x bs || is_marked x m.noticed)
 notices_mark me low [] m x rise = refl
 notices_mark me low (b ∷ bs) m x rise =
     notices_mark me (b + 1) bs (node_noticed me (node_numbered b) m) x rise.2
     ∙ (ap (λ k. is_marked x bs || (nat_eq k x || is_marked x m.noticed)) (numbered_is b rise.1) ∙ or_turned (is_marked x bs) (nat_eq b x) (is_marked x m.noticed))
 
--- each of them may be noticed, where none was before
+-- each of the notices is legal, if none of the nodes was noticed before
 pub notices_legal : (bounds : Bounds) (addr : Addr) (a : NodeId) (low : ℕ) (bs : List ℕ) (group : Group) → AreRising low bs → (group a.number).stopped ≡ false → ((x : ℕ) → is_marked x bs ≡ true → is_marked x (group a.number).noticed ≡ false) → IsLegalFrom bounds addr group (notices_of a bs)
 notices_legal bounds addr a low [] group rise running new = tt
 notices_legal bounds addr a low (b ∷ bs) group rise running new =

@@ -1,4 +1,4 @@
--- What packing a packet does to a group.
+-- The effect of packing a packet on a group.
 use Rattle.gb_types.specs.Common.{◌≡◌, ◌≢◌, ℕ, zero, suc, ◌+◌, ◌<◌, ◌≤◌, List, [], ◌∷◌, ◌++◌, length, take, drop, Option, Some, None, Bool, true, false, ◌||◌, ◌⊎◌, inl, inr, refl, sym, ◌∙◌, ap, subst, arith, length-append, nat_eq, nat_le, map, fold, option_map, if◌then◌else◌, drop-nil, and_right, cases_eq, nat_tests, append-nil, append_assoc, length-map, take-append-drop, or-false}
 use Rattle.std.specs.FinSet as set
 use Rattle.gb_types.specs.declared.{address.Addr.Addr, entry.Entry.Entry, limits.TheConstants.NODES, node.NodeId.NodeId, spec.Spec.Spec, version.Version.Version}
@@ -46,7 +46,7 @@ packed_view plan g past b text c one = λ i. record {
   taken = λ x n. is_taken plan.cluster_key x n past;
 }
 
--- What the past tells.
+-- The group by the past.
 
 abbrev member_took : NodeId → ℕ → Member → Member
 member_took b k m = record m { taken = λ x. if nat_eq x b.number then m.taken x + k else m.taken x }
@@ -66,7 +66,7 @@ others_wait b k x None other = refl
 others_wait b k x (Some None) other = refl
 others_wait b k x (Some (Some t)) other = let off : nat_eq x b.number ≡ false = grind (arith, nat_tests, other) in ap (λ (c : Bool). if c then drop k (t.waiting x) else t.waiting x) off
 
--- a step that leaves its spec leaves its members
+-- a step that does not change its spec does not change its members
 pub inside_stepped : (nodes : ℕ) (step : Told → Told) (o : Option (Option Told)) → ((t : Told) → (step t).spec ≡ t.spec) → IsInside nodes o → IsInside nodes (stepped step o)
 inside_stepped nodes step None same was s is = absurd (cc)
 inside_stepped nodes step (Some None) same was s is = absurd (cc)

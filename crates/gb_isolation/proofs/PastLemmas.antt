@@ -1,4 +1,4 @@
--- What follows from a node's past alone.
+-- Facts that follow from a node's past alone.
 use Rattle.gb_types.specs.Common.{◌≡◌, ℕ, ◌%◌, ◌<◌, ◌≤◌, List, [], ◌∷◌, ◌++◌, length, true, false, ◌&&◌, ◌||◌, ◌⊎◌, inl, inr, refl, ap, arith, length-append, nat_le, map, list_any, or_cases, and_parts, nat_tests}
 use Rattle.gb_types.specs.declared.{address.Addr.Addr, entry.Entry.Entry, limits.TheConstants.NODES}
 use Rattle.gb_types.proofs.BoolLemmas.{or_sides}
@@ -8,7 +8,7 @@ use Rattle.gb_node.specs.declared.{answer.NodeAnswer.NodeAnswer, answer.NodeAnsw
 use Rattle.gb_node.proofs.TookLemmas.{numbered_is}
 use Rattle.gb_isolation.specs.Project.{is_met, is_met_by, is_own_request}
 
--- a running node's stop was met by no request
+-- no request met the stop of a running node
 pub running_unmet : (plan : NodePlan) (g : Addr) (past : List Happened) → is_stopped past ≡ false → is_met plan.me g past ≡ false
 unfolding is_met is_stopped
 running_unmet plan g [] running = refl
@@ -38,7 +38,7 @@ acked_within key b n (h ∷ past) is = by (acked_within key b n past) (or_cases 
 pub number_same : (n : ℕ) → n < NODES → n % NODES ≡ n
 number_same n low = omega (arith, low)
 
--- an entry is what its item says
+-- the entry of an entry's item is the entry
 pub entry_back : (g : Addr) (e : Entry) → entry_of (item_for g e) ≡ e
 entry_back g e = λ i. record { origin = numbered_is e.origin i; seq = e.seq; payload = e.payload }
 

@@ -10,7 +10,7 @@ use Rattle.gb_isolation.specs.RunLaws.{RefusalsChangeNothing}
 refused_same : (what : Action) (why : Refusal) (v : NodeValue) (reply : Reply) → Replied (Refused why) ≡ Replied reply → node_did reply what v ≡ v
 refused_same what why v reply is = let same : reply ≡ Refused why = cc in ap (λ (r : Reply). node_did r what v) same
 
--- the node is as it was
+-- the node does not change
 node_same : (old new : NodeValue) (request : Request) (why : Refusal) → IsTurn old (Asked request) (Replied (Refused why)) new → new ≡ old
 node_same old new request why (inl starved) = starved.1
 node_same old new request why (inr went) = went.1 ∙ by old.stopped refl

@@ -1,4 +1,4 @@
--- A request at a node does to each group what it does to the group alone.
+-- A request at a node has the same effect on each group as on the group alone.
 use Rattle.gb_types.specs.Common.{◌≡◌, ◌≢◌, ℕ, ◌+◌, ◌-◌, ◌<◌, ◌≤◌, List, [], ◌∷◌, ◌++◌, Option, Some, None, Bool, true, false, ◌&&◌, ◌||◌, ◌⊎◌, inl, inr, refl, sym, ◌∙◌, ap, subst, arith, option_or, if◌then◌else◌, is_some, nat_eq, nat_le, nat_lt, leb-false, option_map, list_any, cases_Bool, and_parts, nat_tests, append-nil, version_at}
 use Rattle.std.specs.FinSet as set
 use Rattle.gb_types.proofs.BoolLemmas.{and_both}
@@ -29,7 +29,7 @@ use Rattle.gb_isolation.proofs.View.{View, view_of, Fits, Goes, IsCounted, bound
 
 -- Tenants.
 
--- the first row of a tenant stays
+-- the first row of a tenant does not change
 row-append : (tenant : ℕ) (rows : List TenantRow) (row : TenantRow) → row_of tenant rows ≡ None → row_of tenant (rows ++ row ∷ []) ≡ (if nat_eq row.tenant tenant then Some row else None)
 row-append tenant [] row none = refl
 row-append tenant (r ∷ rows) row none = by (nat_eq r.tenant tenant) none (row-append tenant rows row)
@@ -39,12 +39,12 @@ row-append tenant (r ∷ rows) row none = by (nat_eq r.tenant tenant) none (row-
     by true none rest = absurd (cc)
     by false none rest = rest none
 
--- a row of another tenant is not looked at
+-- a row of another tenant is not read
 row-other : (tenant : ℕ) (rows : List TenantRow) (row : TenantRow) → nat_eq row.tenant tenant ≡ false → row_of tenant (rows ++ row ∷ []) ≡ row_of tenant rows
 row-other tenant [] row other = ap (λ b. if b then Some row else None) other
 row-other tenant (r ∷ rows) row other = ap (λ o. if nat_eq r.tenant tenant then Some r else o) (row-other tenant rows row other)
 
--- a tenant that is taken in was not there
+-- a tenant that is added was not there before
 tenant_new : (places before : ℕ) (there : Bool) (row : TenantRow) → tenant_answer places before there row ≡ Done → there ≡ false
 tenant_new places before there row is = go (is_over_limits row) there (nat_lt places (before + row.groups)) is
   where
@@ -97,9 +97,9 @@ module _ (plan : NodePlan) (versions : List Version) (g : Addr) (past : List Hap
   abbrev FitsBefore : Type 0
   FitsBefore = Fits plan.nodes g plan.me.number frames_from before (group plan.me.number)
 
-  -- Requests that make nothing of the group.
+  -- Requests that add nothing to the group's projection.
 
-  -- what is given then
+  -- the steps that are given then
   given_beside : (request : Request) (reply : Reply) → is_stopped past ≡ false → is_own_request plan.me g past request ≡ false → asked_by plan g past request reply ≡ tenant_given g plan.me reply request.what ++ other_given g plan.me reply request.what
   given_beside request reply running other =
       by
@@ -125,7 +125,7 @@ module _ (plan : NodePlan) (versions : List Version) (g : Addr) (past : List Hap
       subst (λ es. Goes (bounds_with plan versions) g plan.me frames_from (view_of plan g (asking request reply ∷ past)) group es) (sym (given_unrelated request reply running other no_tenant none))
       (unrelated_request plan versions g past request reply frames_from group other rows told living unmade undropped fits)
 
-  -- and so where what is done makes nothing of it
+  -- the same for a request whose effect adds nothing to the group's projection
   idle : (request : Request) (reply : Reply) → is_stopped past ≡ false → is_own_request plan.me g past request ≡ false
       → added_by request.what ≡ []
       → asked_told g plan.me (noticed_after plan past) reply request.what (told_of plan g past) ≡ told_of plan g past
@@ -144,7 +144,7 @@ module _ (plan : NodePlan) (versions : List Version) (g : Addr) (past : List Hap
       subst (λ es. Goes (bounds_with plan versions) g plan.me frames_from (view_of plan g (asking request (Refused why) ∷ past)) group es) (sym (given_unrelated request (Refused why) running other refl refl))
       (refused_unrelated plan versions g past request why frames_from group other fits)
 
-  -- A tenant is taken in.
+  -- A tenant is added.
 
   tenant_taken : (token : List ℕ) (row : TenantRow) → is_stopped past ≡ false → row_of row.tenant (tenants_in past) ≡ None → nat_eq row.tenant g.tenant ≡ true → FitsBefore → AskedGoes plan versions g past (adding token row) Done frames_from group
   tenant_taken token row running new own fits =
@@ -201,7 +201,7 @@ module _ (plan : NodePlan) (versions : List Version) (g : Addr) (past : List Hap
       later = view_asked plan g past (adding token row) Done before.reserve (told_of plan g past) (living_of g past) (made_with g past) (is_dropped g past) (replies_in plan.me g past) (is_met plan.me g past)
           (ap (option_map reserve_of) (row-other g.tenant (tenants_in past) row other)) refl refl refl refl (append-nil (replies_in plan.me g past)) (ap (λ b. (b && false) || is_met plan.me g past) running)
 
-  -- by the reply
+  -- by the cases of the reply
   at_tenant : (token : List ℕ) (row : TenantRow) (r : Reply) → is_stopped past ≡ false → (r ≡ Done → row_of row.tenant (tenants_in past) ≡ None) → FitsBefore → AskedGoes plan versions g past (adding token row) r frames_from group
   at_tenant token row Done running new fits = go (cases_Bool (nat_eq row.tenant g.tenant))
     where
@@ -212,7 +212,7 @@ module _ (plan : NodePlan) (versions : List Version) (g : Addr) (past : List Hap
 
   -- Another generation of the group's room is made or dropped.
 
-  -- the request changes what is told and how many live
+  -- the request changes the group's state by the past and the number of living generations
   generation_goes : (request : Request) (event : GroupEvent) (told : Option (Option Told)) (living : ℕ) → is_stopped past ≡ false → is_own_request plan.me g past request ≡ false
       → added (Asked request) (Replied Done) ≡ []
       → asked_told g plan.me (noticed_after plan past) Done request.what (told_of plan g past) ≡ told

@@ -15,7 +15,7 @@ own_generation g addr own = and_right (is_same_room g addr) (not (is_addr g addr
 pub other_address : (g addr : Addr) → is_other_generation g addr ≡ true → is_addr g addr ≡ false
 other_address g addr other = grind (arith, nat_tests, other)
 
--- and another number
+-- another generation has another number
 pub other_number : (g addr : Addr) → is_other_generation g addr ≡ true → addr.generation ≢ g.generation
 other_number g addr other = λ same. let own : is_addr g addr ≡ true = grind (arith, nat_tests, other, same) in clash (sym own ∙ other_address g addr other)
   where
@@ -37,7 +37,7 @@ own_others g a (AtGroup addr (Make spec)) named = ap (λ b. if b then record { n
 own_others g a (AtGroup addr Drop) named = ap (λ b. if b then record { node = a; event = OtherDropped } ∷ [] else []) (own_generation g addr named)
 own_others g a what named = refl
 
--- so they give what they give beside such makes and drops
+-- so they give the same steps beside such makes and drops
 pub own_given : (g : Addr) (a : NodeId) (reply : Reply) (what : Action) → is_named g what ≡ true → tenant_given g a reply what ++ other_given g a reply what ≡ tenant_given g a reply what
 own_given g a reply what named = ap (λ es. tenant_given g a reply what ++ es) (if_same reply (other_of g a what) [] (own_others g a what named)) ∙ append-nil (tenant_given g a reply what)
 

@@ -94,7 +94,7 @@ module _ (isolated : GroupsAreIsolated) (behave : AllBehave) (plan : Plan) (run 
   split : project plan g run ≡ project plan g settled.earlier ++ goes_on.rest
   split = ap (project plan g) settled.moment ∙ goes_on.whole
 
-  -- Now.
+  -- The end of the run.
 
   made : (a : ℕ) → is_member spec a ≡ true → (group a).spec ≡ Some spec
   made a in_a =

@@ -20,7 +20,7 @@ use Rattle.gb_isolation.proofs.GivenLemmas.{carried_any, carried_packets, given_
 use Rattle.gb_isolation.proofs.View.{asked_by, is_noticed_after, own_requested_by}
 use Rattle.gb_frame.specs.Common.{Content}
 
--- what a request gives besides the command is no command
+-- the steps that a request gives besides its command are no commands
 commands_own : (plan : NodePlan) (g : Addr) (past : List Happened) (s : ℕ) (request : Request) (reply : Reply) → commands s (own_requested_by plan g past request reply) ≡ commands s (command_for plan.me request.what)
 unfolding commands
 commands_own plan g past s request reply =
@@ -91,7 +91,7 @@ given_pairs plan g run a Tick (Ticked (Noticed found)) =
     none_paired (commands a.number given) (no_commands_ticked a.number a (set.contains found) (made_with g (past_at a run)))
 given_pairs plan g run a e x = no_pairs
 
--- the commands of the projection at a node are those that have the replies there, and so it says what was accepted
+-- the projection's commands at a node are those that have the replies there, so the projection has the accepted messages
 pub run_pairs : (plan : Plan) (g : Addr) (a : NodeId) (run : List NodeStep) → Pairs (commands a.number (project plan g run)) (replies_in a g (past_at a run)) (accepted_in_past (node_plan plan a) g (past_at a run))
 unfolding commands project replies_in accepted_in_past past_at
 run_pairs plan g a [] = no_pairs

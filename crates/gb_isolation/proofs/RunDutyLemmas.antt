@@ -18,7 +18,7 @@ use Rattle.gb_isolation.proofs.View.{BehavesAlone, is_concerned}
 use Rattle.gb_isolation.proofs.MomentLemmas.{AllBehave, marked}
 use Rattle.gb_isolation.proofs.NoticeLemmas.{numbered_is}
 
--- the laws of a group's duties, and of what is delivered and logged
+-- the laws of a group's duties, and of its delivered and logged messages
 pub record DutyLaws : Type 0 where
   pub dutiful : IsDutiful
   pub members : DeliveredAreOfMembers

@@ -1,4 +1,4 @@
--- Integrity and order of a group in a run: what was accepted in the run is what the group alone accepted.
+-- Integrity and order of a group in a run: the messages accepted in the run are those that the group alone accepted.
 use Rattle.gb_types.specs.Common.{◌≡◌, ℕ, ◌-◌, ◌≤◌, ◌<◌, Bool, true, false, List, [], Option, Some, None, refl, sym, ap, ◌∙◌, subst, arith, All, slice_get, nat_lt, nat_tests, All-weaker, bounds_of}
 use Rattle.gb_types.specs.declared.{address.Addr.Addr, entry.Entry.Entry, limits.TheConstants.NODES, node.NodeId.NodeId, plan.Plan.Plan}
 use Rattle.gb_alone.specs.Common.{nobody, alone, Accepted, accepted, IsAccepted, KeepsIntegrity, KeepsOrder, IsIntegral, IsInOrder}
@@ -19,7 +19,7 @@ module _ (plan : Plan) (run : List NodeStep) (v : ClusterValue) (g : Addr) (few 
   abbrev steps : List GroupStep
   steps = project plan g run
 
-  -- at a node
+  -- the messages accepted at a node
   accepted_here : (a : NodeId) → a.number < plan.nodes → accepted (bounds_of plan) g steps a.number ≡ accepted_in_past (node_plan plan a) g (past_at a run)
   accepted_here a inside =
       sym told_alone.payloads

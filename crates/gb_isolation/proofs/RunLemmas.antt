@@ -30,7 +30,7 @@ use Rattle.gb_isolation.proofs.UnrelatedLemmas.{unrelated_goes}
 use Rattle.gb_isolation.proofs.TickLemmas.{ticked_goes}
 use Rattle.gb_isolation.proofs.SilenceLemmas.{silent_is}
 
--- more frames from other nodes, where the marks of those before are the marks of all
+-- more frames from other nodes, if the marks of the earlier frames are all marks
 fits_frames : (nodes : ℕ) (g : Addr) (me : ℕ) (from later : ℕ → List (List Item)) (v : View) (m : Member) → ((b : ℕ) → b < nodes → AreMarked g (from b) (v.taken b) (m.come b) → AreMarked g (later b) (v.taken b) (m.come b))
     → Fits nodes g me from v m → Fits nodes g me later v m
 fits_frames nodes g me from later v m more was = record {
@@ -94,7 +94,7 @@ not_replied : (g : Addr) (request : Request) (x : NodeAnswer) (n : ℕ) → is_r
 not_replied g request (Replied reply) n no_reply = absurd (cc)
 not_replied g request x n no_reply = (refl, refl, refl, refl)
 
--- The laws of nodes and links that the theorem stands on.
+-- The laws of nodes and links from which the theorem is proved.
 pub record Laws : Type 0 where
   pub answers : AnswersSay
   pub rooms : RoomsAreCounted
@@ -112,7 +112,7 @@ module _ (laws : Laws) (plan : Plan) (g : Addr) (run : List NodeStep) (before : 
   least : SILENCE_MIN ≤ plan.silence
   least = (stays plan run before comes).right.least
 
-  -- no item that is carried has the number that is said next
+  -- no carried item has the number of the message that is said next
   unsaid : (a : NodeId) → a.number < plan.nodes → (t : Told) → told_of (node_plan plan a) g (past_at a run) ≡ Some (Some t) → (b : ℕ) → b < plan.nodes
       → list_any (is_message a.number (said_in t.calls + 1)) (group_items_of g (frames_to plan.cluster_key b (past_at a run))) ≡ false
   unsaid a within t there b in_b =
@@ -135,7 +135,7 @@ module _ (laws : Laws) (plan : Plan) (g : Addr) (run : List NodeStep) (before : 
         absent = λ addr other is. laws.rooms.absent (node_plan plan a) (past_at a run) (node_at before a) come g addr other is;
       }
 
-  -- what an event gives the group
+  -- the steps that an event gives the group
   step_goes : (a : NodeId) (e : NodeEvent) (x : NodeAnswer) (v : ClusterValue) → a.number < plan.nodes → ComesTo plan (record { node = a; event = e; answer = x } ∷ run) v → IsAnswered (node_plan plan a) (past_at a run) e x
       → is_starved_by a g (past_at a run) e x ≡ false
       → Goes (bounds_of plan) g a (frames_for plan run a) (view_of (node_plan plan a) g (record { event = e; answer = x } ∷ past_at a run)) group (gives plan g run a e x)
@@ -191,7 +191,7 @@ module _ (laws : Laws) (plan : Plan) (g : Addr) (run : List NodeStep) (before : 
     unmet = refl;
   }) (was.fits a within)
 
-  -- the group behaves so after the step
+  -- the group behaves as alone after the step
   pub goes_further : (a : NodeId) (e : NodeEvent) (x : NodeAnswer) (v : ClusterValue) → ComesTo plan (record { node = a; event = e; answer = x } ∷ run) v → is_starved_by a g (past_at a run) e x ≡ false
       → BehavesAlone plan g (record { node = a; event = e; answer = x } ∷ run)
   unfolding project ComesTo frames_to
@@ -272,7 +272,7 @@ module _ (laws : Laws) (plan : Plan) (g : Addr) (run : List NodeStep) (before : 
       by b inside (inl same) = subst (λ (c : NodeId). Fits plan.nodes g c.number (frames_for plan (d ∷ run) c) (view_at plan g (d ∷ run) c) (later c.number)) (same_number a b same) here
       by b inside (inr other) = elsewhere b inside other
 
--- every group that had no request refused for want of memory behaves so in every run
+-- every group that had no request refused for lack of memory behaves as alone in every run
 pub behaves : Laws → (plan : Plan) (g : Addr) (run : List NodeStep) (v : ClusterValue) → ComesTo plan run v → is_fed g run ≡ true → BehavesAlone plan g run
 unfolding ComesTo is_fed project
 behaves laws plan g [] v comes fed = record { legal = tt; fits = new_fits plan g }

@@ -9,11 +9,11 @@ use Rattle.gb_cluster.specs.Common.{ClusterValue, node_at, NodeStep, past_at}
 use Rattle.gb_isolation.specs.Isolation.{Seen, AreSpelt, IsIsolated, IsSeenAlone, alone_in, carried_alone}
 use Rattle.gb_isolation.specs.Project.{group_items, group_items_of}
 
--- the first items of a list that is continued
+-- the first items of a list with more items behind them
 pub take_front : (xs ys : List Entry) → take (length xs) (xs ++ ys) ≡ xs
 take_front xs ys = take-append-le (length xs) xs ys (omega arith) ∙ take_all (length xs) xs (omega arith)
 
--- items as they stand in frames, where each frame says of them what is shown
+-- the items of frames are the shown items if each frame has exactly the shown items
 items_spelt : (g : Addr) (fs : List (List Item)) → AllByRecursion (AreSpelt g) fs → flat_map (items_for g) fs ≡ map (item_for g) (group_items_of g fs)
 unfolding group_items_of
 items_spelt g [] spelt = refl

@@ -1,4 +1,4 @@
--- What a request at a node that has stopped does to each group there: the group's first command meets the stop.
+-- The effect of a request at a stopped node on each group there: the group's first command meets the stop.
 use Rattle.gb_types.specs.Common.{◌≡◌, ℕ, List, [], ◌∷◌, ◌++◌, Bool, true, false, ◌&&◌, ◌||◌, ◌⊎◌, inl, inr, refl, sym, ◌∙◌, ap, subst, if◌then◌else◌, cases_Bool, and_parts}
 use Rattle.gb_types.specs.declared.{address.Addr.Addr, node.NodeId.NodeId, refusal.Refusal.TheVariants.Stopped, reply.Reply.Reply, reply.Reply.TheVariants.Refused, request.Action.Action, request.Action.TheVariants.AddTenant, request.Action.TheVariants.Group as AtGroup, request.Request.Request, plan.Bounds.Bounds, version.Version.Version}
 use Rattle.gb_types.specs.declared.request.GroupCommand.TheVariants.{Make, Open, Shut, Drop, Say, Fetch}
@@ -19,7 +19,7 @@ use Rattle.gb_isolation.proofs.View.{View, view_of, Fits, Goes, bounds_with, ask
 abbrev pub refused : Reply
 refused = Refused Stopped
 
--- the one command that a request is
+-- the one command of a request
 pub record IsCommand (g : Addr) (a : NodeId) (what : Action) : Type 0 where
   pub event : GroupEvent
   pub one : command_for a what ≡ record { node = a; event = event } ∷ []
@@ -39,7 +39,7 @@ command_named g a (AtGroup addr (Fetch from most)) named = record { event = AskF
 -- The group alone at a node that has stopped.
 
 module _ (bounds : Bounds) (g : Addr) (a : NodeId) (frames_from : ℕ → List (List Item)) where
-  -- the stop is shown
+  -- the step of the stop
   stop_goes : (v : View) (group : Group) → Fits bounds.nodes g a.number frames_from v (group a.number) → Goes bounds g a frames_from (record v { met = true }) group (record { node = a; event = Stop } ∷ [])
   stop_goes v group fits = goes_one bounds g a frames_from (record v { met = true }) group Stop tt (record {
     reserve = fits.reserve;
@@ -58,7 +58,7 @@ module _ (bounds : Bounds) (g : Addr) (a : NodeId) (frames_from : ℕ → List (
     acks = fits.acks;
   })
 
-  -- and a command is refused then
+  -- a command is then refused
   refused_goes : (what : Action) (c : IsCommand g a what) (v : View) (group : Group) → v.met ≡ true → Fits bounds.nodes g a.number frames_from v (group a.number)
       → Goes bounds g a frames_from (record v { replies = v.replies ++ refused ∷ [] }) group (record { node = a; event = c.event } ∷ [])
   refused_goes what c v group met fits = goes_one bounds g a frames_from (record v { replies = v.replies ++ refused ∷ [] }) group c.event (c.may group) (subst (Fits bounds.nodes g a.number frames_from (record v { replies = v.replies ++ refused ∷ [] })) (sym left) (record {
@@ -103,7 +103,7 @@ module _ (plan : NodePlan) (versions : List Version) (g : Addr) (past : List Hap
   abbrev StoppedGoes : Type 0
   StoppedGoes = Goes (bounds_with plan versions) g plan.me frames_from (view_of plan g (asking request refused ∷ past)) group (asked_by plan g past request refused)
 
-  -- what it gives the group
+  -- the steps that the request gives the group
   given_stopped : is_stopped past ≡ true → (own : Bool) → is_own_request plan.me g past request ≡ own → asked_by plan g past request refused ≡ (if own then with_stop plan.me (is_met plan.me g past) (command_for plan.me request.what) else [])
   given_stopped stopped own is = rw (stopped, is) refl
 

@@ -1,4 +1,4 @@
--- What a request without its token is answered, and which requests are never refused for lack of memory.
+-- The answer to a request without its token, and the requests that are never refused for lack of memory.
 use Rattle.gb_types.specs.Common.{◌≡◌, ℕ, Bool, true, false, ◌⊎◌, inl, inr, List, ◌∷◌, refl, sym, ap, subst, ◌∙◌, if◌then◌else◌, nat_le, nat_lt, length, ◌+◌, Option, Some, None}
 use Rattle.gb_types.specs.declared.{new_message.NewMessage.NewMessage, plan.Plan.Plan, refusal.Refusal.Refusal, reply.Reply.Reply, reply.Reply.TheVariants.Said, reply.Reply.TheVariants.Refused, request.Action.Action, request.Action.TheVariants.Group as AtGroup, request.Request.Request, version.Version.Version}
 use Rattle.gb_types.specs.declared.refusal.Refusal.TheVariants.{Stopped, Denied, OutOfMemory, BadPlace, TooLong, Budget, Bytes, Window}
@@ -14,13 +14,13 @@ use Rattle.gb_isolation.specs.RunLaws.{needs_no_memory, OnlySomeTakeMemory, Stra
 use Rattle.gb_isolation.proofs.MomentLemmas.{placed}
 use Rattle.gb_isolation.proofs.RefusalLemmas.{acts_same}
 
--- a request is answered as it should be, or the node lacked memory for that
+-- a request gets the answer that it should get, or the node lacked memory for it
 turned : (old new : NodeValue) (request : Request) (answer : NodeAnswer) (should : Reply) → (turn old (Asked request)).answer ≡ Replied should → IsTurn old (Asked request) answer new
     → IsStarved (Asked request) (Replied should) answer ⊎ (answer ≡ Replied should)
 turned old new request answer should due (inl starved) = inl (subst (λ (a : NodeAnswer). IsStarved (Asked request) a answer) due starved.0)
 turned old new request answer should due (inr went) = inr (went.0 ∙ due)
 
--- as the past says
+-- the same, by the past
 answered : AnswersSay → (plan : Plan) (earlier : List NodeStep) (d : NodeStep) (v : ClusterValue) → ComesTo plan (d ∷ earlier) v → (request : Request) → d.event ≡ Asked request
     → IsStarved (Asked request) (Replied (past_answer (node_plan plan d.node) (past_at d.node earlier) request)) d.answer ⊎ (d.answer ≡ Replied (past_answer (node_plan plan d.node) (past_at d.node earlier) request))
 unfolding ComesTo
@@ -39,7 +39,7 @@ stranger_reply plan past request denied =
     by true = refl
     by false = refl
 
--- a refusal takes no memory
+-- a refusal needs no memory
 unstarved : (request : Request) (why : Refusal) (answer : NodeAnswer) → IsStarved (Asked request) (Replied (Refused why)) answer → ⊥
 unstarved request why answer starved = let takes : takes_memory (Refused why) ≡ true = starved.1.1 in cc
 

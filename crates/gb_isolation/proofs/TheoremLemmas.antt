@@ -26,7 +26,7 @@ spelt_append : (g : Addr) (xs ys : List (List Item)) → AllByRecursion (AreSpel
 spelt_append g [] ys a b = b
 spelt_append g (x ∷ xs) ys a b = (a.0, spelt_append g xs ys a.1 b)
 
--- A packing says of each item what the node puts out.
+-- A packed frame has each item exactly as the node queued it.
 frames_spelt : AnswersSay → (plan : NodePlan) (past : List Happened) (v : NodeValue) (g : Addr) (b : ℕ) → NodeComesTo plan past v → AllByRecursion (AreSpelt g) (frames_to plan.cluster_key b past)
 unfolding NodeComesTo frames_to
 frames_spelt law plan [] v g b comes = tt

@@ -12,7 +12,7 @@ use Rattle.gb_isolation.specs.RunLaws.{AnswersNewNotices, TicksAnswerNewNotices,
 use Rattle.gb_isolation.proofs.MomentLemmas.{placed}
 use Rattle.gb_isolation.proofs.SilenceLemmas.{noticed_is_silent}
 
--- at a node that runs
+-- the answer to a tick at a running node
 tick_answer : (old new : NodeValue) (answer : NodeAnswer) → old.stopped ≡ false → IsTurn old Tick answer new → answer ≡ Ticked (Noticed (due old.watch))
 tick_answer old new answer running (inl starved) =
     absurd (subst (λ b. IsStarved Tick (if b then record { value = old; answer = stopped_answer Tick } else running_turn old Tick).answer answer) running starved.0)

@@ -1,4 +1,4 @@
--- What a tick that notices nodes does to a group.
+-- The effect of a tick that notices nodes on a group.
 use Rattle.gb_types.specs.Common.{◌≡◌, ℕ, zero, suc, ◌+◌, ◌<◌, ◌≤◌, List, [], ◌∷◌, ◌++◌, length, Option, Some, None, Bool, true, false, cond, ◌&&◌, ◌||◌, refl, sym, ◌∙◌, ap, subst, arith, nat_le, fold, filter, option_map, if◌then◌else◌, range_with_len, nat_cmp, and_right, and_parts, or-false, append-nil, rising}
 use Rattle.std.specs.FinSet as set
 use Rattle.gb_types.specs.declared.{address.Addr.Addr, entry.Entry.Entry, limits.TheConstants.NODES, node.NodeId.NodeId, spec.Spec.Spec, version.Version.Version}
@@ -41,9 +41,9 @@ ticked_view plan g past found right = λ i. record {
   taken = λ x n. is_taken plan.cluster_key x n past;
 }
 
--- What the past tells.
+-- The group by the past.
 
--- what is told stands for the group, of whose items these are carried
+-- the state by the past agrees with the group alone, of whose items these are carried
 record MemberFits (nodes me : ℕ) (o : Option (Option Told)) (m : Member) (carried : ℕ → List Entry) : Type 0 where
   told : MemberIs o m
   inside : IsInside nodes o
@@ -79,11 +79,11 @@ fits-noticed nodes me q o m carried was = record {
   };
 }
 
--- a node that is no other member changes nothing
+-- a node that is not another member changes nothing
 foreign-noticed : (me : NodeId) (b : ℕ) (t : Told) → b < NODES → is_other t.spec me.number b ≡ false → if_other me (node_numbered b) t ≡ t
 foreign-noticed me b t below foreign = ap (λ (c : Bool). if c then with_call me (Crashed (node_numbered b)) (cut_off (node_numbered b).number t) else t) (ap (is_other t.spec me.number) (numbered_is b below) ∙ foreign)
 
--- nodes are noticed in what is told, and those of them that are other members in the group alone
+-- nodes are noticed in the state by the past, and those of them that are other members in the group alone
 fits-all : (nodes : ℕ) (me : NodeId) (new : ℕ → Bool) (low count : ℕ) (spec : Spec) (t : Told) (m : Member) (carried : ℕ → List Entry) → low + count ≤ NODES → t.spec ≡ spec → MemberFits nodes me.number (Some (Some t)) m carried
     → MemberFits nodes me.number (fold (noticed_told me) (Some (Some t)) (filter new (range_with_len low count))) (all_noticed me.number (filter (λ b. is_other spec me.number b && new b) (range_with_len low count)) m) carried
 fits-all nodes me new low zero spec t m carried few same was = was
@@ -108,13 +108,13 @@ fits-all nodes me new low (suc count) spec t m carried few same was =
     by false true is noticed skipped = skipped
     by false false is noticed skipped = skipped
 
--- where the group is spent no notice changes anything but what is noticed
+-- in a spent group a notice changes only the noticed nodes
 fits-gone : (nodes : ℕ) (me : NodeId) (found bs : List ℕ) (m : Member) (carried : ℕ → List Entry) → MemberFits nodes me.number (Some None) m carried → MemberFits nodes me.number (fold (noticed_told me) (Some None) found) (all_noticed me.number bs m) carried
 fits-gone nodes me [] [] m carried was = was
 fits-gone nodes me [] (b ∷ bs) m carried was = fits-gone nodes me [] bs (node_noticed me.number (node_numbered b) m) carried (fits-noticed nodes me (node_numbered b) (Some None) m carried was)
 fits-gone nodes me (x ∷ found) bs m carried was = fits-gone nodes me found bs m carried was
 
--- where the group is not there no notice is told
+-- if the group is not at the node, a notice has no effect
 none_noticed : (me : NodeId) (found : List ℕ) → fold (noticed_told me) None found ≡ None
 none_noticed me [] = refl
 none_noticed me (b ∷ found) = none_noticed me found

@@ -1,4 +1,4 @@
--- Two runs in which the same happened to a group show the same of it.
+-- If the same events happened to a group in two runs, the same is seen of it in both.
 use Rattle.gb_types.specs.Common.{◌≡◌, ℕ, zero, suc, ◌<◌, All, List, [], ◌∷◌, ◌++◌, arith, nat_eq, ◌-◌, slice_get, refl, sym, ap, subst, ◌∙◌, ◌||◌, is_some, if◌then◌else◌, bounds_of, version_at}
 use Rattle.gb_types.specs.declared.{address.Addr.Addr, node.NodeId.NodeId, plan.Bounds.Bounds, plan.Plan.Plan, refusal.Refusal.TheVariants.Stopped, reply.Reply.TheVariants.Refused}
 use Rattle.gb_rules.specs.Common.{say_answer, make_answer, by_tenant}
@@ -13,7 +13,7 @@ use Rattle.gb_isolation.specs.RunLaws.{RunsAgree, RunsAgreeNodeByNode}
 use Rattle.gb_isolation.proofs.GivenLemmas.{AllAre, IsAt, all_both, all_weaker, given_at}
 use Rattle.gb_isolation.proofs.MomentLemmas.{placed}
 
--- A group alone reads the versions of those nodes alone at which its events happen.
+-- A group alone reads only the versions of the nodes of its steps.
 module _ (bounds other : Bounds) (addr : Addr) (size : bounds.nodes ≡ other.nodes) where
   -- a node sends the same version under both
   abbrev IsSameAt : ℕ → Type 0
@@ -57,7 +57,7 @@ all_are : (Is : GroupStep → Type 0) (steps : List GroupStep) → All Is steps 
 all_are Is [] all = tt
 all_are Is (step ∷ steps) all = (all zero step (omega arith), all_are Is steps (λ i d lt. all (suc i) d (omega (arith, lt))))
 
--- what is seen of the group alone is the same at a node where the members are, but for what they know of other generations
+-- the same is seen of the group alone at a node if the members there are equal except for their knowledge of other generations
 seen_same : (xs ys : Group) (a b : ℕ) → by_itself (xs a) ≡ by_itself (ys a) → seen_alone xs a b ≡ seen_alone ys a b
 seen_same xs ys a b same = ap (λ (m : Member). record { replies = m.replies; log = log_of_member a m; put = m.put b }) same
 
@@ -82,7 +82,7 @@ alike_by_node isolated decides plan other run that v w comes goes g bounds event
     versions : AllAre (λ step. version_at plan.versions step.node.number ≡ version_at other.versions step.node.number) steps
     versions = all_are (λ step. version_at plan.versions step.node.number ≡ version_at other.versions step.node.number) steps bounds.versions
 
--- what concerns a group in a run happens at nodes of the cluster
+-- the steps of a group in a run are at nodes of the cluster
 all_placed : (plan : Plan) (g : Addr) (run : List NodeStep) (v : ClusterValue) → ComesTo plan run v → AllAre (λ step. step.node.number < plan.nodes) (project plan g run)
 unfolding project ComesTo
 all_placed plan g [] v comes = tt

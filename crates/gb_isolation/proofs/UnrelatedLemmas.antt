@@ -14,7 +14,7 @@ use Rattle.gb_isolation.specs.RunLaws.{is_dropped, is_dropped_by}
 use Rattle.gb_isolation.proofs.View.{view_of, Fits, Goes, bounds_with}
 use Rattle.gb_isolation.proofs.GoesLemmas.{goes_none}
 
--- An event with its answer that makes nothing of a group.
+-- An event and its answer that add nothing to a group's projection.
 pub record IsUnrelated (plan : NodePlan) (g : Addr) (past : List Happened) (e : NodeEvent) (x : NodeAnswer) : Type 0 where
   pub packed : (b : ℕ) → packed_for plan.cluster_key b e x ≡ []
   pub none_came : came plan.cluster_key e x ≡ []

@@ -1,4 +1,4 @@
--- What a group has at a node, read from the node's past, and how this agrees with the group alone.
+-- The state of a group at a node, read from the node's past, and its agreement with the group alone.
 use Rattle.gb_types.specs.Common.{ℕ, ◌+◌, ◌≡◌, ◌≢◌, ◌≤◌, ◌<◌, ◌&&◌, not, nat_eq, nat_lt, Bool, true, false, ◌||◌, List, [], ◌++◌, length, Option, Some, None, is_some, option_map, if◌then◌else◌, bounds_of}
 use Rattle.std.specs.FinSet as set
 use Rattle.gb_types.specs.declared.{address.Addr.Addr, entry.Entry.Entry, node.NodeId.NodeId, reply.Reply.Reply, request.Request.Request, spec.Spec.Spec, plan.Plan.Plan, plan.Bounds.Bounds, version.Version.Version}
@@ -15,27 +15,27 @@ use Rattle.gb_cluster.specs.Common.{node_plan, NodeStep, past_at}
 use Rattle.gb_isolation.specs.Project.{project, asked, is_own_request, command_for, tenant_given, other_given, ticked, group_items_of, offset, made_by, made_with, replies_in, is_met}
 use Rattle.gb_isolation.specs.RunLaws.{is_dropped}
 
--- What a group has at a node.
+-- The state of a group at a node.
 pub record View : Type 0 where
-  -- what its tenant may have
+  -- the reserve of its tenant
   pub reserve : Option Reserve
-  -- what the past tells of it
+  -- its state by the past
   pub told : Option (Option Told)
-  -- how many other generations of its room live
+  -- the number of living other generations of its room
   pub living : ℕ
-  -- what it was made with
+  -- the spec with which it was made
   pub made : Option Spec
-  -- whether it was dropped
+  -- true if it was dropped
   pub dropped : Bool
-  -- whether a node is noticed there
+  -- true for a node that is noticed there
   pub noticed : ℕ → Bool
   pub replies : List Reply
-  -- a request of it met the node's stop
+  -- true if a request of the group met the node's stop
   pub met : Bool
-  -- the frames that were packed for each node, and which of them are acknowledged
+  -- the frames that were packed for each node, and the acknowledged ones of these
   pub frames : ℕ → List (List Item)
   pub acked : ℕ → ℕ → Bool
-  -- which frames of each node were taken
+  -- the frames of each node that were taken
   pub taken : ℕ → ℕ → Bool
 
 abbrev pub view_of : NodePlan → Addr → List Happened → View
@@ -67,7 +67,7 @@ pub record IsSpent (m : Member) : Type 0 where
   pub held : held_spec m.phase m.spec ≡ None
   pub spent : (is_some m.spec || m.passed) ≡ true
 
--- the group is there as it is told of
+-- the group is at the node, in this state
 pub record IsThere (t : Told) (m : Member) : Type 0 where
   pub spec : m.spec ≡ Some t.spec
   pub phase : m.phase ≡ t.phase
@@ -79,13 +79,13 @@ MemberIs None m = NotMade m
 MemberIs (Some None) m = IsSpent m
 MemberIs (Some (Some t)) m = IsThere t m
 
--- of these frames' items those of the frames whose numbers pass the test are marked
+-- the marked items of these frames are those of the frames whose numbers pass the test
 pub record AreMarked (g : Addr) (fs : List (List Item)) (test : ℕ → Bool) (marks : List ℕ) : Type 0 where
   pub each : (n place : ℕ) → offset g fs n < place → place ≤ offset g fs (n + 1) → is_marked place marks ≡ test (n + 1)
-  -- and no place beyond
+  -- no place above these is marked
   pub beyond : (place : ℕ) → length (group_items_of g fs) < place → is_marked place marks ≡ false
 
--- how many messages were said there, and which of them, by number, a node acknowledged
+-- the number of messages that were said there, and the numbers of those that a node acknowledged
 abbrev pub said_of : Option (Option Told) → ℕ
 said_of None = 0
 said_of (Some None) = 0
@@ -96,7 +96,7 @@ acknowledged_of None seq b = false
 acknowledged_of (Some None) seq b = false
 acknowledged_of (Some (Some t)) seq b = t.acknowledged seq b
 
--- a node acknowledged one of them where its place is marked, and none that was not said
+-- a node acknowledged a message if its place is marked, and no message that was not said
 pub record KeepsAcks (nodes me : ℕ) (o : Option (Option Told)) (carried : ℕ → List Entry) (done : ℕ → List ℕ) : Type 0 where
   pub each : (b k : ℕ) → b < nodes → k < said_of o → acknowledged_of o (k + 1) b ≡ is_acknowledged me (k + 1) (done b) 1 (carried b)
   pub beyond : (b seq : ℕ) → said_of o < seq → acknowledged_of o seq b ≡ false
@@ -105,12 +105,12 @@ pub record KeepsAcks (nodes me : ℕ) (o : Option (Option Told)) (carried : ℕ 
 abbrev pub IsInside : ℕ → Option (Option Told) → Type 0
 IsInside nodes o = (t : Told) → o ≡ Some (Some t) → (b : ℕ) → is_member t.spec b ≡ true → b < nodes
 
--- a node that was noticed is so in a group where it is another member
+-- a noticed node is another member of the group
 abbrev pub is_concerned : ℕ → ℕ → Option Spec → Bool
 is_concerned me b None = false
 is_concerned me b (Some spec) = is_other spec me b
 
--- The view is that of the group alone at the node me of this number of nodes. The other nodes packed these frames for it.
+-- The view agrees with the group alone at the node me, in a cluster of this many nodes. The other nodes packed these frames for it.
 pub record Fits (nodes : ℕ) (g : Addr) (me : ℕ) (frames_from : ℕ → List (List Item)) (v : View) (m : Member) : Type 0 where
   pub reserve : m.reserve ≡ v.reserve
   pub told : MemberIs v.told m
@@ -123,7 +123,7 @@ pub record Fits (nodes : ℕ) (g : Addr) (me : ℕ) (frames_from : ℕ → List 
   pub gone : is_gone m.phase ≡ v.dropped
   pub noticed : (b : ℕ) → is_marked b m.noticed ≡ (is_concerned me b v.made && v.noticed b)
   pub stopped : m.stopped ≡ v.met
-  -- the items of the frames that were taken have come, and those of the frames that were acknowledged are done
+  -- the items of the taken frames have arrived, and those of the acknowledged frames are done
   pub come : (b : ℕ) → b < nodes → AreMarked g (frames_from b) (v.taken b) (m.come b)
   pub done : (b : ℕ) → b < nodes → AreMarked g (v.frames b) (v.acked b) (m.done b)
   pub acks : KeepsAcks nodes me v.told (λ b. group_items_of g (v.frames b)) m.done
@@ -137,7 +137,7 @@ pub record IsCounted (plan : NodePlan) (g : Addr) (past : List Happened) : Type 
 abbrev pub bounds_with : NodePlan → List Version → Bounds
 bounds_with plan versions = record { nodes = plan.nodes; versions = versions }
 
--- What events give a group at a node: they may happen, after them the view is the group's there, and nothing else has changed.
+-- The steps of events keep a group's view in agreement: they are legal, after them the view is that of the group, and nothing else has changed.
 pub record Goes (bounds : Bounds) (g : Addr) (a : NodeId) (frames_from : ℕ → List (List Item)) (v : View) (group : Group) (given : List GroupStep) : Type 0 where
   pub legal : IsLegalFrom bounds g group given
   pub elsewhere : (x : ℕ) → x ≢ a.number → alone_from bounds g group given x ≡ group x
@@ -152,7 +152,7 @@ frames_for plan run a b = frames_to plan.cluster_key a.number (past_at (node_num
 abbrev pub view_at : Plan → Addr → List NodeStep → NodeId → View
 view_at plan g run a = view_of (node_plan plan a) g (past_at a run)
 
--- each node's view is that of the group alone
+-- each node's view agrees with the group alone
 abbrev pub AllFit : Plan → Addr → List NodeStep → Group → Type 0
 AllFit plan g run group = (a : NodeId) → a.number < plan.nodes → Fits plan.nodes g a.number (frames_for plan run a) (view_at plan g run a) (group a.number)
 

@@ -13,7 +13,7 @@ use Rattle.gb_alone.specs.Common.{Group, alone, IsLegal, log_of_member}
 use Rattle.gb_cluster.specs.Common.{ClusterValue, node_at, NodeStep, ComesTo, past_at}
 use Rattle.gb_isolation.specs.Project.{project, group_items, group_items_of, replies_in, is_fed, fed_run}
 
--- the group alone, given the projection of the run
+-- the group alone, after the projection of the run
 abbrev pub alone_in : Plan → Addr → List NodeStep → Group
 alone_in plan g run = alone (bounds_of plan) g (project plan g run)
 
@@ -21,13 +21,13 @@ alone_in plan g run = alone (bounds_of plan) g (project plan g run)
 abbrev pub carried_alone : Plan → Addr → List NodeStep → ℕ → ℕ → List Entry
 carried_alone plan g run a b = let m = alone_in plan g run a in take (m.taken b) (m.put b)
 
--- What a run shows of a group, in events, answers and packets, is what the group has alone. Nothing is read from a node.
+-- The events, replies and packets of a group in a run are those that the group has alone. No node's state is read.
 pub record IsSeenAlone (plan : Plan) (run : List NodeStep) (g : Addr) : Type 0 where
   -- the projection of the run is a legal list of events of the group by itself
   pub legal : IsLegal (bounds_of plan) g (project plan g run)
   -- the replies to the group's commands at each node
   pub replies : (a : NodeId) → a.number < plan.nodes → replies_in a g (past_at a run) ≡ (alone_in plan g run a.number).replies
-  -- the group's items in the packets from each node to each other, exactly as they stand there
+  -- the group's items in the packets from each node to each other, exactly as the packets have them
   pub items : (a b : NodeId) → a.number < plan.nodes → b.number < plan.nodes
       → flat_map (items_for g) (frames_to plan.cluster_key b.number (past_at a run)) ≡ map (item_for g) (carried_alone plan g run a.number b.number)
 
@@ -37,16 +37,16 @@ log_in None = []
 log_in (Some None) = []
 log_in (Some (Some x)) = x.log
 
--- what is seen of a group at a node, and towards another node
+-- the observation of a group at a node, and from there towards another node
 pub record Seen : Type 0 where
   -- the replies to its commands
   pub replies : List Reply
-  -- the log
+  -- the log of the group at the node
   pub log : List Entry
-  -- the items put out to the other node: those that are carried, then those that wait
+  -- the items queued for the other node: first those that are carried, then those that wait
   pub put : List Entry
 
--- what is seen in a run: replies and carried items are read from what happened, log and waiting items from the nodes
+-- the observation of a group in a run: replies and carried items come from the events, log and waiting items from the nodes
 abbrev pub seen_in : Plan → List NodeStep → ClusterValue → Addr → NodeId → NodeId → Seen
 seen_in plan run v g a b = record {
   replies = replies_in a g (past_at a run);
@@ -54,24 +54,24 @@ seen_in plan run v g a b = record {
   put = group_items_of g (frames_to plan.cluster_key b.number (past_at a run)) ++ waiting_at (node_at v a) g b.number;
 }
 
--- what is seen of a group alone
+-- the observation of a group that is alone
 abbrev pub seen_alone : Group → ℕ → ℕ → Seen
 seen_alone group a b = record { replies = (group a).replies; log = log_of_member a (group a); put = (group a).put b }
 
--- each of the group's items in the frame is exactly what is shown of it: its origin stands there as a node's number
+-- each of the group's items in the frame is exactly the item that is shown for it: its origin is a node's number
 abbrev pub AreSpelt : Addr → List Item → Type 0
 AreSpelt g frame = items_for g frame ≡ map (item_for g) (group_items g frame)
 
--- the projection of the run is legal, and what is seen of the group in the run is what is seen of it alone, given the projection
+-- the projection of the run is legal, and the same is seen of the group in the run as of the group alone after the projection
 pub record IsIsolated (plan : Plan) (run : List NodeStep) (v : ClusterValue) (g : Addr) : Type 0 where
   pub legal : IsLegal (bounds_of plan) g (project plan g run)
   pub same : (a b : NodeId) → a.number < plan.nodes → b.number < plan.nodes → seen_in plan run v g a b ≡ seen_alone (alone_in plan g run) a.number b.number
-  -- what is seen of a carried item is all that its frame says of it
+  -- a carried item is exactly the item in its frame
   pub spelt : (a b : NodeId) → a.number < plan.nodes → b.number < plan.nodes → All (AreSpelt g) (frames_to plan.cluster_key b.number (past_at a run))
-  -- the number of items that are carried is the same, too
+  -- the number of carried items is the same, too
   pub carried : (a b : NodeId) → a.number < plan.nodes → b.number < plan.nodes → (alone_in plan g run a.number).taken b.number ≡ length (group_items_of g (frames_to plan.cluster_key b.number (past_at a run)))
 
--- Every group is isolated in every run, read without the group's own requests that were refused for lack of memory. Such a request changes nothing, so the run without them comes to the same value.
+-- Every group is isolated in every run, read without the group's own requests that were refused for lack of memory.
 abbrev pub EveryGroupIsIsolated : Type 0
 EveryGroupIsIsolated = (plan : Plan) (run : List NodeStep) (v : ClusterValue) → ComesTo plan run v → (g : Addr) → IsIsolated plan (fed_run g run) v g
 

@@ -1,4 +1,4 @@
--- What concerns one group in a run, read from events and answers, never from what the nodes keep. Runs and pasts have the newest first.
+-- The events of one group in a run, read from events and answers, never from the nodes' states. Runs and pasts have the newest first.
 use Rattle.std.specs.Prelude.{ℕ, zero, suc, ◌+◌, ◌-◌, ◌&&◌, ◌||◌, not, Bool, true, false, List, [], ◌∷◌, ◌++◌, length, take, map, filter, Option, Some, None, nat_eq, nat_lt, if◌then◌else◌}
 use Rattle.std.specs.FinSet as set
 use Rattle.std.specs.{List.range_with_len, List.list_any, List.flat_map, Option.option_or, Option.option_map_or}
@@ -38,7 +38,7 @@ has_come key b n past = list_any (λ (h : Happened). list_any (is_frame b n) (ca
 
 -- Requests.
 
--- what a command is to the group alone
+-- the event of the group alone for a command
 abbrev pub event_of : GroupCommand → GroupEvent
 event_of (Make spec) = AskMake spec
 event_of Open = AskOpen
@@ -52,7 +52,7 @@ abbrev pub is_named : Addr → Action → Bool
 is_named g (AddTenant row) = false
 is_named g (AtGroup addr command) = is_addr g addr
 
--- the request is one of the group at the node a: it names the group and has the token that it needs, under the tenants that were added there
+-- the request is one of the group at the node a: it names the group and has the token that it needs, by the tenants that were added there
 abbrev pub is_own_request : NodeId → Addr → List Happened → Request → Bool
 is_own_request a g past request = is_named g request.what && has_group_token a (tenants_in past) request
 
@@ -61,12 +61,12 @@ abbrev pub command_for : NodeId → Action → List GroupStep
 command_for a (AddTenant row) = []
 command_for a (AtGroup addr command) = record { node = a; event = event_of command } ∷ []
 
--- the spec with which a request makes the group, if it does so where it is done
+-- the spec with which a request makes the group once it is done, if it does so
 abbrev pub makes : Addr → Action → Option Spec
 makes g (AtGroup addr (Make spec)) = if is_addr g addr then Some spec else None
 makes g what = None
 
--- the spec with which the group is made, if this event with its answer makes it
+-- the spec with which an event and its answer make the group, if they do
 abbrev pub made_by : Addr → NodeEvent → NodeAnswer → Option Spec
 made_by g (Asked request) (Replied reply) = if_done reply (makes g request.what) None
 made_by g event answer = None
@@ -83,11 +83,11 @@ is_noticed_at plan a past b = (nat_lt b plan.nodes && not (nat_eq b a.number)) &
 abbrev pub notices : NodeId → Spec → (ℕ → Bool) → List GroupStep
 notices a spec new = map (λ b. record { node = a; event = Notice (node_numbered b) }) (filter (λ b. is_other spec a.number b && new b) (range_with_len 0 NODES))
 
--- a group that was made learns of each other member among these nodes that it is noticed
+-- the notices, to a group that was made, of each other member among these nodes
 abbrev pub ticked : NodeId → (ℕ → Bool) → Option Spec → List GroupStep
 ticked a found made = option_map_or (λ spec. notices a spec found) made []
 
--- the group's tenant is added
+-- the step that adds the group's tenant
 abbrev pub tenant_of : Addr → NodeId → Action → List GroupStep
 tenant_of g a (AddTenant row) = if nat_eq row.tenant g.tenant then record { node = a; event = Tenant (reserve_of row) } ∷ [] else []
 tenant_of g a (AtGroup addr command) = []
@@ -95,7 +95,7 @@ tenant_of g a (AtGroup addr command) = []
 abbrev pub tenant_given : Addr → NodeId → Reply → Action → List GroupStep
 tenant_given g a reply what = if_done reply (tenant_of g a what) []
 
--- another generation of the group's room is made or dropped
+-- the step that makes or drops another generation of the group's room
 abbrev pub other_of : Addr → NodeId → Action → List GroupStep
 other_of g a (AtGroup addr (Make spec)) = if is_other_generation g addr then record { node = a; event = OtherMade addr.generation } ∷ [] else []
 other_of g a (AtGroup addr Drop) = if is_other_generation g addr then record { node = a; event = OtherDropped } ∷ [] else []
@@ -130,18 +130,18 @@ asked a g noticed past request reply =
 
 -- Links.
 
--- the event at the node, unless it is one of 0 items
+-- the event at the node, unless it is about 0 items
 abbrev pub if_any : NodeId → ℕ → GroupEvent → List GroupStep
 if_any a zero event = []
 if_any a (suc k) event = record { node = a; event = event } ∷ []
 
--- this number of items comes, with the places after `place`
+-- the steps in which this number of items comes, at the places after `place`
 abbrev pub comes : NodeId → NodeId → ℕ → ℕ → List GroupStep
 comes from to place zero = []
 comes from to place (suc k) = record { node = to; event = Came from (place + 1) } ∷ comes from to (place + 1) k
 
--- The acknowledged items of these frames from a to b: those in the frames whose number passes the test. The frames are numbered from n on, and
--- `before` is the number of the group's items in the frames before them.
+-- The steps that acknowledge items of these frames from a to b: the items of the frames whose number passes the test. The frames are numbered from n
+-- on, and `before` is the number of the group's items in the frames before them.
 abbrev pub all_acknowledged : Addr → NodeId → NodeId → (ℕ → Bool) → ℕ → ℕ → List (List Item) → List GroupStep
 all_acknowledged g a b new n before [] = []
 all_acknowledged g a b new n before (f ∷ fs) =
@@ -156,7 +156,7 @@ is_new_ack key past c n = covers c.base c.mask n && not (is_acked key c.from n p
 abbrev pub is_new_frame : List ℕ → List Happened → Content → Bool
 is_new_frame key past c = not (nat_eq c.frame 0) && not (has_come key c.from c.frame past)
 
--- A packet's acknowledgement counts first. Then, if its frame is new, the frame's items come: their places follow those of the items in the frames before it.
+-- A packet's acknowledgement comes first. Then, if its frame is new, its items come: their places follow those of the items in the frames before it.
 abbrev pub acknowledges : Plan → Addr → List Happened → NodeId → Content → List GroupStep
 acknowledges plan g past a c = all_acknowledged g a (node_numbered c.from) (is_new_ack plan.cluster_key past c) 1 0 (frames_to plan.cluster_key c.from past)
 
@@ -177,7 +177,7 @@ gives plan g run a (Brought bytes) (Taken (TakenGood good)) = flat_map (arrived 
 gives plan g run a Tick (Ticked (Noticed found)) = ticked a (set.contains found) (made_with g (past_at a run))
 gives plan g run a event answer = []
 
--- the projection of a run on the group, in order
+-- the projection of a run onto the group, in order
 unfoldable pub project : Plan → Addr → List NodeStep → List GroupStep
 project plan g [] = []
 project plan g (d ∷ run) = project plan g run ++ gives plan g run d.node d.event d.answer

@@ -6,12 +6,12 @@ use Rattle.gb_node.specs.Common.{NodeValue, Happened, Told, told_of, living_of}
 use Rattle.gb_node.specs.Past.{ComesTo}
 use Rattle.gb_node.specs.declared.plan.NodePlan.{NodePlan}
 
--- 1 for a group that lives, 0 for one that was not made or was dropped
+-- 1 for a group that lives, 0 for a group that was not made or was dropped
 abbrev pub one_living : Option (Option Told) → ℕ
 one_living (Some (Some t)) = 1
 one_living o = 0
 
--- the number of others that live is at least 1 beside a generation that lives, and one that may still be made counts all that live
+-- a generation counts at least 1 other that lives if another lives, and a generation that may still be made counts all that live
 pub record RoomsAreCounted : Type 0 where
   pub living : (plan : NodePlan) (past : List Happened) (v : NodeValue) → ComesTo plan past v → (g addr : Addr) → is_other_generation g addr ≡ true
       → (t : Told) → told_of plan addr past ≡ Some (Some t) → 0 < living_of g past

@@ -16,9 +16,9 @@ use Rattle.gb_isolation.specs.Decides.{steps_at}
 use Rattle.gb_isolation.specs.Isolation.{seen_in, alone_in}
 use Rattle.gb_isolation.specs.Project.{project, group_items, is_noticed_at, is_own_request, made_with, is_fed, fed_run}
 
--- What was accepted.
+-- The accepted messages.
 
--- the message that a request with its reply says, if it says one
+-- the message that a request and its reply say, if they say one
 abbrev pub said_by : Action → Reply → List Accepted
 said_by (AtGroup addr (Say message)) (Said seq) = record { seq = seq; payload = message.payload } ∷ []
 said_by what reply = []
@@ -40,11 +40,11 @@ accepted_there plan g run s = accepted_in_past (node_plan plan (node_numbered s)
 abbrev pub OfGroupsInRuns : (Plan → List NodeStep → ClusterValue → Addr → Type 0) → Type 0
 OfGroupsInRuns Property = (plan : Plan) (run : List NodeStep) (v : ClusterValue) → ComesTo plan run v → (g : Addr) → is_fed g run ≡ true → Property plan run v g
 
--- a law of every group: in every run of every cluster each group has the property, if the run is read without the group's own requests that were refused for lack of memory
+-- a law of every group: each group has the property in every run of every cluster, read without its own requests that were refused for lack of memory
 abbrev pub OfEveryGroup : (Plan → List NodeStep → ClusterValue → Addr → Type 0) → Type 0
 OfEveryGroup Property = (plan : Plan) (run : List NodeStep) (v : ClusterValue) → ComesTo plan run v → (g : Addr) → Property plan (fed_run g run) v g
 
--- The run without the group's own requests that were refused for lack of memory comes to the same value, and none of these is left in it. If there were none, it is the run itself.
+-- The run without the group's requests refused for lack of memory has no such request and comes to the same value. If there were none, it is the run.
 pub record IsFedRun (plan : Plan) (run : List NodeStep) (v : ClusterValue) (g : Addr) : Type 0 where
   pub comes : ComesTo plan (fed_run g run) v
   pub fed : is_fed g (fed_run g run) ≡ true
@@ -70,7 +70,7 @@ GroupsKeepOrder = OfEveryGroup RunOrder
 
 -- Duties.
 
--- the request drops the group where it is done
+-- the request drops the group once it is done
 abbrev pub drops : Addr → Action → Bool
 drops g (AtGroup addr Drop) = is_addr g addr
 drops g what = false
@@ -88,11 +88,11 @@ is_dropped g (h ∷ past) = is_dropped_by g h.event h.answer || is_dropped g pas
 abbrev pub is_noticed_in : Plan → List NodeStep → NodeId → ℕ → Bool
 is_noticed_in plan run a = is_noticed_at plan a (past_at a run)
 
--- the duties of the node b in the run, for these messages: notices and items put out are read from the run, what another node has had is read from the projection
+-- the duties of the node b in the run, for these messages: notices and queued items are read from the run, what other nodes had from the projection
 abbrev pub KeepsRunDuties : Plan → List NodeStep → ClusterValue → Addr → NodeId → Spec → (MsgId → Bool) → Type 0
 KeepsRunDuties plan run v g b spec messages = KeepsDuties spec b.number (is_noticed_in plan run b) (λ c. (seen_in plan run v g b (node_numbered c)).put) (HasHad (alone_in plan g run)) messages
 
--- each node that made the group, and did not drop it, has done its duties for each message that its module delivered, and so for each message in the log seen there
+-- each node that made the group and did not drop it has done its duties for each message that its module delivered, so for each message in its log
 pub record RunDuties (plan : Plan) (run : List NodeStep) (v : ClusterValue) (g : Addr) : Type 0 where
   pub delivered : (b : NodeId) (spec : Spec) → b.number < plan.nodes → made_with g (past_at b run) ≡ Some spec → is_dropped g (past_at b run) ≡ false
       → KeepsRunDuties plan run v g b spec (delivered_at spec b.number (alone_in plan g run b.number))
@@ -132,7 +132,7 @@ pub record IsSettledIn (plan : Plan) (run : List NodeStep) (v : ClusterValue) (g
   pub noticed : (a b : ℕ) → IsRunning runs spec a → is_member spec b ≡ true → runs b ≡ false → is_noticed_in plan run (node_numbered a) b ≡ true
   pub unnoticed : (a b : ℕ) → is_member spec a ≡ true → IsRunning runs spec b → is_noticed_in plan run (node_numbered a) b ≡ false
 
--- if the group is settled, the logs seen at its members agree, whichever nodes are taken as those that run, provided that enough of them run
+-- if the group is settled, the logs at its members agree, whichever nodes are taken as those that run, if enough of them run
 abbrev pub RunAgreement : Plan → List NodeStep → ClusterValue → Addr → Type 0
 RunAgreement plan run v g = (runs : ℕ → Bool) (spec : Spec) → IsSettledIn plan run v g runs spec → AreEnough runs spec → KeepsAgreement (accepted_there plan g run) (log_seen plan run v g) runs spec
 
@@ -141,7 +141,7 @@ SettledGroupsAgree = OfEveryGroup RunAgreement
 
 -- Logs.
 
--- what the group alone answers to a request to fetch its log at a running node
+-- the reply of the group alone to a request to fetch its log at a running node
 abbrev pub fetched_alone : Plan → List NodeStep → Addr → NodeId → ℕ → ℕ → Reply
 fetched_alone plan run g a from most = running_reply (bounds_of plan) g a.number (AskFetch from most) (alone_in plan g run a.number)
 
@@ -149,7 +149,7 @@ fetched_alone plan run g a from most = running_reply (bounds_of plan) g a.number
 abbrev pub to_fetch : List ℕ → Addr → ℕ → ℕ → Request
 to_fetch token g from most = record { token = token; what = AtGroup g (Fetch from most) }
 
--- The run may go on by a request to fetch the group's log, at any running node, with the token that it needs. The answer is that of the group alone, and the cluster stays as it is.
+-- The run may go on with a fetch of the group's log at a running node with the right token. The group alone gives that reply, and nothing changes.
 abbrev pub MayBeFetched : Plan → List NodeStep → ClusterValue → Addr → Type 0
 MayBeFetched plan run v g =
     (a : NodeId) (token : List ℕ) (from most : ℕ) → a.number < plan.nodes → is_stopped (past_at a run) ≡ false → is_own_request a g (past_at a run) (to_fetch token g from most) ≡ true
@@ -165,8 +165,8 @@ pub record HaveSameBounds (plan other : Plan) : Type 0 where
   pub nodes : plan.nodes ≡ other.nodes
   pub versions : (a : ℕ) → a < plan.nodes → version_at plan.versions a ≡ version_at other.versions a
 
--- Another run, of a cluster with the same bounds, in which the same happened to the group, shows the same of it: its replies, its logs and the items that it put out,
--- whatever else happened and whatever else the packets held. What happens to a group are its own requests, the fates of its items, and the notices of its members.
+-- If the same events happened to the group in another run, of a cluster with the same bounds, its replies, its logs and the items that it queued are
+-- the same there, whatever else happened. A group's events are its own requests, the fates of its items, and its members' notices.
 abbrev pub IsSeenAlike : Plan → List NodeStep → ClusterValue → Addr → Type 0
 IsSeenAlike plan run v g =
     (other : Plan) (that : List NodeStep) (w : ClusterValue) → ComesTo other that w → is_fed g that ≡ true → HaveSameBounds plan other → project plan g run ≡ project other g that
@@ -180,7 +180,7 @@ pub record HaveSameBoundsAt (plan other : Plan) (steps : List GroupStep) : Type 
   pub nodes : plan.nodes ≡ other.nodes
   pub versions : All (λ (step : GroupStep). version_at plan.versions step.node.number ≡ version_at other.versions step.node.number) steps
 
--- Two runs in which the same happened to a group at each node show the same of it, in whatever order the nodes acted. What other generations of its room did counts only until the group is made at the node.
+-- Two runs with the same events of a group at each node, as far as they count there, show the same of it, in whatever order the nodes acted.
 abbrev pub RunsAgreeNodeByNode : Type 0
 RunsAgreeNodeByNode = (plan other : Plan) (run that : List NodeStep) (v w : ClusterValue) → ComesTo plan run v → ComesTo other that w → (g : Addr)
     → HaveSameBoundsAt plan other (project plan g (fed_run g run))
@@ -189,11 +189,11 @@ RunsAgreeNodeByNode = (plan other : Plan) (run that : List NodeStep) (v w : Clus
 
 -- Moments.
 
--- at each moment of a run the property holds of what happened then, after what had happened before
+-- the property holds of each step of a run and of the steps before it
 abbrev pub AtEachMoment : (List NodeStep → NodeStep → Type 0) → List NodeStep → Type 0
 AtEachMoment Holds run = (later earlier : List NodeStep) (d : NodeStep) → run ≡ later ++ d ∷ earlier → Holds earlier d
 
--- At a running node, a tick answers the nodes that are noticed there after it and were not before.
+-- At a running node, a tick answers the nodes that are noticed there after the tick and were not before.
 abbrev pub AnswersNewNotices : Plan → List NodeStep → NodeStep → Type 0
 AnswersNewNotices plan earlier d = d.event ≡ Tick → is_stopped (past_at d.node earlier) ≡ false
     → (found : set.FinSet nat_cmp) × (d.answer ≡ Ticked (Noticed found)) × ((b : ℕ) → set.contains found b ≡ (is_noticed_in plan (d ∷ earlier) d.node b && not (is_noticed_in plan earlier d.node b)))
@@ -215,7 +215,7 @@ abbrev pub IsDenied : Plan → List NodeStep → NodeStep → Type 0
 IsDenied plan earlier d = (request : Request) → d.event ≡ Asked request → is_admitted_by (node_plan plan d.node) (past_at d.node earlier) request ≡ false
     → d.answer ≡ Replied (Refused (if is_stopped (past_at d.node earlier) then Stopped else Denied))
 
--- So it is, and the cluster is after it what it was before.
+-- Each request without the token that it needs is denied, and the cluster does not change.
 abbrev pub StrangersAreDenied : Type 0
 StrangersAreDenied = (plan : Plan) (earlier : List NodeStep) (d : NodeStep) (v : ClusterValue) → ComesTo plan (d ∷ earlier) v
     → IsDenied plan earlier d × ((request : Request) → d.event ≡ Asked request → is_admitted_by (node_plan plan d.node) (past_at d.node earlier) request ≡ false → ComesTo plan earlier v)
@@ -230,7 +230,7 @@ needs_no_memory (AtGroup addr Drop) = true
 needs_no_memory (AtGroup addr (Say message)) = true
 needs_no_memory what = false
 
--- No such request is ever refused for lack of memory, whoever asks.
+-- No such request is ever refused for lack of memory, whoever sends it.
 abbrev pub OnlySomeTakeMemory : Type 0
 OnlySomeTakeMemory = (plan : Plan) (earlier : List NodeStep) (d : NodeStep) (v : ClusterValue) → ComesTo plan (d ∷ earlier) v
     → (request : Request) → d.event ≡ Asked request → needs_no_memory request.what ≡ true → d.answer ≢ Replied (Refused OutOfMemory)

@@ -1,4 +1,4 @@
--- Bytes that are read one piece behind another.
+-- Bytes that are read piece by piece.
 use Rattle.gb_types.specs.Common.{◌≡◌, ◌∙◌, ◌+◌, ◌*◌, ◌≤◌, ◌&&◌, ◌||◌, ℕ, zero, suc, Bool, true, false, List, [], ◌∷◌, ◌++◌, Option, Some, None, Result, Ok, Err, IfErr, length, take, refl, sym, ap, subst, arith, true≢false, if◌then◌else◌, length-take-le, take-add, take-take, take_at, drop_at, IsErrAnd, nat_le, All, IsSome}
 use Rattle.std.specs.{Char.is_ascii_hexdigit, Io.KnownBytes.Consumes, Io.KnownBytes.Keeps}
 use Rattle.hex.proofs.Pairs.{decode_pairs-ok_pair}
@@ -14,23 +14,23 @@ take_filled xs ys n k le =
     let front = length-take-le n xs le in
     take-add n k (take n xs ++ ys) ∙ (λ i. take_at (take n xs) ys n front i ++ take k (drop_at (take n xs) ys n front i))
 
--- the front of what was filled, with as many more bytes as were read behind it
+-- the first filled bytes, followed by the bytes that were read behind them
 pub front_filled : (xs ys : List ℕ) (i k n : ℕ) → i + k ≤ length xs → length ys ≡ k → n ≤ k → take (i + n) (put_mid i k xs ys) ≡ take i xs ++ take n ys
 front_filled xs ys i k n fits long few =
     sym (take-take (i + n) (i + k) (put_mid i k xs ys) (omega arith)) ∙ ap (take (i + n)) (take-put_mid i k xs ys (i + k) (omega arith) (omega arith))
     ∙ take_filled xs ys i n (omega arith)
 
--- what was consumed, with more behind it
+-- the consumed bytes, followed by more
 pub more_consumed : (a b c : Option (List ℕ)) (front bytes all : List ℕ) → Consumes a b front → Consumes b c bytes → all ≡ front ++ bytes → Consumes a c all
 more_consumed a b c front bytes all here next is = subst (λ (w : List ℕ). Consumes a c w) (sym is) (Consumes-join a b c front bytes here next)
 
--- bytes that are kept
+-- a reader that is kept consumes nothing
 pub kept : (a b : Option (List ℕ)) → Keeps a b → Consumes a b []
 kept None b keeps = tt
 kept (Some xs) None keeps = absurd keeps
 kept (Some xs) (Some ys) keeps = sym keeps
 
--- one of three that are asked in turn
+-- one of three tests that are tried in turn
 one_of_three : (a b c : Bool) (x y z : ℕ) → ((c || a) || b) ≡ true → (v : ℕ) × ((if a then Some x else if b then Some y else if c then Some z else None) ≡ Some v)
 one_of_three true b c x y z e = (x, refl)
 one_of_three false true c x y z e = (y, refl)
@@ -64,7 +64,7 @@ digits_spell word long all =
     let read = pairs_of 32 0 word long all in
     rw (long, read.1) refl
 
--- an error that is handed on
+-- an error that is returned as it is
 pub handed_on : (r : Result Keys KeyFault) (fault : KeyFault) (P : KeyFault → Type 0) → IsErrAnd r (λ x. x ≡ fault) → P fault → IfErr r P
 handed_on (Ok keys) fault P is p = absurd is
 handed_on (Err x) fault P is p = subst P (sym is) p

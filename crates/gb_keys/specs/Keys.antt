@@ -10,7 +10,7 @@ use Rattle.gb_keys.specs.declared.keys.KeyFault.TheVariants as why
 abbrev pub run_key : List ℕ → ℕ → List ℕ
 run_key cluster run = hmac_of cluster (to_be_bytes w64 run)
 
--- whether a line ends with its line feed (10), and whether a carriage return (13) stands before that
+-- a line ends with its line feed (10), and a carriage return (13) comes before it
 abbrev pub has_feed : List ℕ → Bool
 has_feed line = nat_lt 0 (length line) && (slice_index line (length line - 1) == 10)
 
@@ -21,7 +21,7 @@ has_return line = nat_lt 1 (length line) && (slice_index line (length line - 2) 
 abbrev pub characters_of : List ℕ → List ℕ
 characters_of line = if has_feed line then (if has_return line then take (length line - 2) line else take (length line - 1) line) else line
 
--- whether a line says `stop`
+-- a line is `stop`
 abbrev pub is_stop : List ℕ → Bool
 is_stop line = bytes_eq (characters_of line) (codes "stop")
 
@@ -34,7 +34,7 @@ pub record AreKeys (text : List ℕ) (keys : Keys) : Type 0 where
   pub cluster : token_of (characters_of first) ≡ Some keys.cluster
   pub admin : token_of (characters_of second) ≡ Some keys.admin
 
--- what is wrong with a line of this number
+-- the fault of a line of this number
 abbrev pub IsLineFault : List ℕ → ℕ → KeyFault → Type 0
 IsLineFault line number why.Read = ⊥
 IsLineFault line number (why.Missing n) = (n ≡ number) × (line ≡ [])
@@ -43,7 +43,7 @@ IsLineFault line number (why.Long n) = (n ≡ number) × (64 < length (character
 IsLineFault line number (why.Digit n place) = (n ≡ number) × (length (characters_of line) ≡ 64) × (1 ≤ place) × (place ≤ 64)
     × (is_ascii_hexdigit (slice_index (characters_of line) (place - 1)) ≡ false)
 
--- what is wrong with a text: with its first line, or behind one that spells a key with the second
+-- the fault of a text: of its first line, or, if that spells a key, of the second
 abbrev pub IsKeyFault : List ℕ → KeyFault → Type 0
 IsKeyFault text fault = IsLineFault text 1 fault
     ⊎ ((first : List ℕ) × (second : List ℕ) × (text ≡ first ++ second) × (is_some (token_of (characters_of first)) ≡ true) × IsLineFault second 2 fault)

@@ -15,7 +15,7 @@ pub const LINE: usize = 66;
 
 const _: () = prove!(LINE == 66);
 
-/// How many reads, of a byte each, are made for a line at most. A line has to be whole before the last of them.
+/// The greatest number of reads, of a byte each, for a line. A line has to be whole before the last of them.
 pub const READS: usize = 500;
 
 const _: () = prove!(READS == 500);
@@ -37,8 +37,8 @@ pub struct Keys {
     pub admin: [u8; 32],
 }
 
-/// Returns the keys that the nodes of the run with this number have: the key of the run, under which they tag their packets, and the
-/// administrator's.
+/// Returns the keys of the nodes of the run with this number: the key of the run, under which they tag their packets, and the
+/// administrator's key.
 pub fn keys_of_run(keys: Keys, run: u64) -> Keys
     ensures cluster { result.cluster ≡ run_key keys.cluster run }
     ensures admin { result.admin ≡ keys.admin }
@@ -49,7 +49,7 @@ pub fn keys_of_run(keys: Keys, run: u64) -> Keys
     }
 }
 
-/// Why standard input gave no keys. The lines are 1 and 2.
+/// The reason why standard input gave no keys. The lines are 1 and 2.
 #[derive(Clone, Copy, Debug, PartialEq, Eq, Error)]
 pub enum KeyFault {
     /// A read failed.
@@ -64,7 +64,7 @@ pub enum KeyFault {
     /// The line has more characters than 64. One of more than 66 bytes is not read to its end.
     #[error("line {line} has more than 64 characters")]
     Long { line: u8 },
-    /// The character at this place of the line, which has 64, is no hexadecimal digit. The first place is 1.
+    /// The character at this place of the line, which has 64 characters, is no hexadecimal digit. The first place is 1.
     #[error("character {place} of line {line} is no hexadecimal digit")]
     Digit { line: u8, place: u8 },
 }
@@ -91,7 +91,7 @@ pub fn characters(line: &[u8]) -> &[u8]
     &line[..count - 1]
 }
 
-// The place of the first byte that is no hexadecimal digit.
+// Returns the index of the first byte that is no hexadecimal digit. `None` if there is none.
 fn bad_place(digits: &[u8]) -> Option<usize>
     ensures place { IfSome result (λ place. (place < length digits.now) × (is_ascii_hexdigit (slice_index digits.now place) ≡ false)) }
     ensures none { IfNone result (All (λ digit. is_ascii_hexdigit digit ≡ true) digits.now) }
@@ -99,7 +99,7 @@ fn bad_place(digits: &[u8]) -> Option<usize>
     digits.iter().position(|digit| !digit.is_ascii_hexdigit())
 }
 
-// The key that a line of this number spells.
+// Returns the key that a line of this number spells. `Err` with the line's fault.
 fn key_of(bytes: &[u8], line: u8) -> Result<[u8; 32], KeyFault>
     requires { length bytes.now ≤ 66 }
     ensures key { IfOk result (λ key. token_of (characters_of bytes.now) ≡ Some key) }
@@ -123,8 +123,8 @@ fn key_of(bytes: &[u8], line: u8) -> Result<[u8; 32], KeyFault>
     Ok(read_token(digits).unwrap())
 }
 
-/// Reads one byte from `reader` into `space`, behind its first `filled` bytes. Returns the number of bytes that are filled then, and
-/// true if the input has ended. A read that was interrupted fills nothing. `None` if the read failed.
+/// Reads one byte from `reader` into `space`, behind its first `filled` bytes. Returns the number of bytes that are filled then, and true
+/// if the input has ended. A read that was interrupted fills nothing. `None` if the read failed.
 pub fn read_more<R: Read>(reader: &mut R, space: &mut [u8], filled: usize) -> Option<(usize, bool)>
     requires { filled < length space.old }
     ensures within { IfSome result (λ more. more.0 ≤ length space.new) }
@@ -141,7 +141,7 @@ pub fn read_more<R: Read>(reader: &mut R, space: &mut [u8], filled: usize) -> Op
     }
 }
 
-// Whether a line is whole: it has its line feed, or fills its space.
+// Returns true if a line is whole: it has its line feed, or fills its space.
 fn is_whole(space: &[u8], filled: usize) -> bool
     requires { filled ≤ length space.now }
     ensures { result ≡ false → filled < length space.now }
@@ -149,7 +149,7 @@ fn is_whole(space: &[u8], filled: usize) -> bool
     filled == space.len() || has_feed(&space[..filled])
 }
 
-// Reads a line: until it is whole or the input ends. How much is filled then. None: a read failed, or there were too many.
+// Reads a line until it is whole or the input ends. Returns the number of filled bytes. `None` if a read failed, or if there were too many reads.
 fn read_line<R: Read>(reader: &mut R, space: &mut [u8]) -> Option<usize>
     ensures within { IfSome result (λ count. count ≤ length space.new) }
     ensures bytes { IfSome result (λ count. Consumes (R.remaining reader.old) (R.remaining reader.new) (take count space.new)) }
@@ -169,8 +169,8 @@ fn read_line<R: Read>(reader: &mut R, space: &mut [u8]) -> Option<usize>
 }
 
 /// Reads two lines of 64 hexadecimal digits from `reader`, and returns the keys that they spell: that of the cluster, and that of the
-/// administrator. The second line may lack its line feed. No byte behind these lines is read. `Err` with the first fault: `Read` if a
-/// read failed or a line was not whole after 499 reads, else what is wrong with line 1 or 2.
+/// administrator. The second line may lack its line feed. No byte behind these lines is read. `Err` with the first fault: `Read` if a read
+/// failed or a line was not whole after 499 reads, otherwise the fault of line 1 or 2.
 pub fn read_keys<R: Read>(reader: &mut R) -> Result<Keys, KeyFault>
     ensures keys { IfOk result (λ keys. (text : List ℕ) × Consumes (R.remaining reader.old) (R.remaining reader.new) text × AreKeys text keys) }
     ensures fault { IfErr result (λ why. why ≢ KeyFault.Read → (text : List ℕ) × Consumes (R.remaining reader.old) (R.remaining reader.new) text × IsKeyFault text why) }

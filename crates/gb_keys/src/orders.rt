@@ -6,12 +6,12 @@ ghost use Rattle.gb_keys.specs.Keys.{is_stop};
 use crate::keys::{characters, has_feed, read_more};
 use std::io::Read;
 
-/// How many bytes of a line are kept: more than those of `stop` with its end.
+/// The number of bytes of a line that are kept: more than those of `stop` with its end.
 pub const KEPT: usize = 8;
 
 const _: () = prove!(KEPT == 8);
 
-/// What came of standard input.
+/// The result of a read of standard input.
 #[derive(Clone, Copy, Debug, PartialEq, Eq)]
 pub enum Heard {
     /// Nothing, part of a line, or a line that is no order.
@@ -22,17 +22,17 @@ pub enum Heard {
     End,
 }
 
-// Whether a line says `stop`.
+// Returns true if a line is `stop`.
 fn is_stop(line: &[u8]) -> bool
     ensures { result ≡ is_stop line.now }
 {
     characters(line) == b"stop".as_slice()
 }
 
-/// Reads one byte of a line of standard input into `space`, behind its first `filled` bytes. Returns the number of bytes of the line
-/// that are filled then, and what came: `Stop` if it ends a line `stop`, `End` if the input has ended or could not be read, else
-/// `Nothing`. After the end of a line 0 bytes are filled. A line that is too long for `space` is no order: its last byte is replaced by
-/// the next.
+/// Reads one byte of a line of standard input into `space`, behind its first `filled` bytes. Returns the number of bytes of the line that
+/// are filled then, and the result: `Stop` if the byte ends a line `stop`, `End` if the input has ended or could not be read, otherwise
+/// `Nothing`. After the end of a line 0 bytes are filled. A line that is too long for `space` is no order: its last byte is replaced by the
+/// next.
 pub fn hear<R: Read>(reader: &mut R, space: &mut [u8], filled: usize) -> (usize, Heard)
     requires { filled < length space.old }
     ensures within { result.0 < length space.new }

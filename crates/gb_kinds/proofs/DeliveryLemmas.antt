@@ -60,7 +60,7 @@ filter-one q m (x ∷ xs) = go (q x) refl (same x m) refl (filter-one q m xs)
         rest ∙ (ap (λ b. cond b (filter (λ y. same y m) xs) []) lost ∙ sym (ap (λ b. cond b (x ∷ filter (λ y. same y m) xs) []) lost))
     go false k false e rest = rest
 
--- a message passes a test newly at one call
+-- a message passes a test newly at one call only
 newly_once : (test : List Call → MsgId → Bool) (c : Call) (past : List Call) (m : MsgId) → (test (c ∷ past) m ≡ true → mentions (c ∷ past) m ≡ true) → filter (λ x. same x m) (newly test c past) ≡ cond (test (c ∷ past) m && not (test past m)) (m ∷ []) []
 newly_once test c past m within =
     filter-one (λ x. test (c ∷ past) x && not (test past x)) m (first_mentions (c ∷ past))
@@ -71,7 +71,7 @@ newly_once test c past m within =
     both true false d f = refl
     both false b d f = refl
 
--- a message stands in the log once, if it is delivered
+-- a delivered message is in the log once
 pub log_once : (base : Module) (me : ℕ) (members : List ℕ) (past : List Call) (m : MsgId) → filter (λ x. same x m) (log base me members past) ≡ cond (now_delivered base me members past m) (m ∷ []) []
 log_once base me members [] m = refl
 log_once base me members (c ∷ past) m =
@@ -86,7 +86,7 @@ log_once base me members (c ∷ past) m =
     joined false true f = refl
     joined false false f = refl
 
--- What is delivered or broadcast was mentioned.
+-- Each message that is delivered or broadcast was mentioned.
 
 all_filter : (P : MsgId → Type 0) (q : MsgId → Bool) (xs : List MsgId) → AllByRecursion P xs → AllByRecursion P (filter q xs)
 all_filter P q [] a = tt
@@ -105,9 +105,9 @@ log_mentioned base me members (c ∷ past) =
     (all_weaker (λ m. mentions past m ≡ true) (λ m. mentions (c ∷ past) m ≡ true) (λ m. mentions_stays c past m) (log base me members past) (log_mentioned base me members past))
     (newly_mentioned (now_delivered base me members) c past)
 
--- The kinds: the log of the module, or this in the order of each origin.
+-- The kinds: the log of the module, or that log in the order of each origin.
 
--- what holds of each message of a list holds of one that stands in it
+-- a property of each message of a list is a property of one message in it
 pub holds_of : (P : MsgId → Type 0) (xs : List MsgId) → AllByRecursion P xs → (m : MsgId) → is_in xs m ≡ true → P m
 holds_of P [] all m h = cc
 holds_of P (x ∷ xs) all m h = go (same x m) refl h (holds_of P xs all.1 m)
@@ -116,7 +116,7 @@ holds_of P (x ∷ xs) all m h = go (same x m) refl h (holds_of P xs all.1 m)
     go true e k later = subst P (same-true x m e) all.0
     go false e k later = later k
 
--- and of each message of a list whose messages all stand in it
+-- and of each message of another list whose messages are all in it
 all_in : (P : MsgId → Type 0) (xs ys : List MsgId) → AllByRecursion P xs → AllIn xs ys → AllByRecursion P ys
 all_in P xs ys all = all_weaker (λ m. is_in xs m ≡ true) P (holds_of P xs all) ys
 
@@ -130,7 +130,7 @@ kind_log_mentioned kind me members past = all_released kind.order (log kind.modu
 pub kind_broadcasts_mentioned : (kind : Kind) (me : ℕ) (c : Call) (past : List Call) → AllByRecursion (λ m. mentions (c ∷ past) m ≡ true) (kind_broadcasts kind me c past)
 kind_broadcasts_mentioned kind = broadcasts_mentioned kind.module
 
--- no message stands in the log twice
+-- no message is in the log twice
 pub kind_log_once : (kind : Kind) (me : ℕ) (members : List ℕ) (past : List Call) (m : MsgId) → length (filter (λ x. same x m) (kind_log kind me members past)) ≤ 1
 kind_log_once kind me members past m = go kind.order
   where
@@ -145,15 +145,15 @@ kind_log_once kind me members past m = go kind.order
     go Any = at_most (now_delivered kind.module me members past m) (filter (λ x. same x m) plain) (log_once kind.module me members past m)
     go Fifo = order_once plain m
 
--- where the kind keeps an order each origin's messages stand in the log as 1, 2, 3, ..
+-- if the kind keeps an order, the log has each origin's messages as 1, 2, 3, ..
 pub kind_log_in_order : (kind : Kind) (me : ℕ) (members : List ℕ) (past : List Call) → kind.order ≡ Fifo → RunsFromOne (kind_log kind me members past)
 kind_log_in_order kind me members past fifo =
     let plain = log kind.module me members past in
     subst (λ order. RunsFromOne (released order [] plain)) (sym fifo) (order_runs plain)
 
--- The members are read through tests on all of them alone.
+-- The members are read only through tests on all of them.
 
--- one element passes where not all fail
+-- an element passes if and only if not all fail
 any_not_all : (p : ℕ → Bool) (xs : List ℕ) → list_any p xs ≡ not (list_all (λ x. not (p x)) xs)
 any_not_all p [] = refl
 any_not_all p (x ∷ xs) = ap (λ b. p x || b) (any_not_all p xs) ∙ turned (p x) (list_all (λ y. not (p y)) xs)

@@ -1,11 +1,11 @@
--- What a kind of broadcast delivers and broadcasts at a node, over a history of calls, the newest first. `me` is this node, `members` are the group's nodes.
+-- The messages that a kind of broadcast delivers and broadcasts at a node `me` of a group with these members, over a history, the newest call first.
 use Rattle.std.specs.Prelude.{ℕ, List, []}
 use Rattle.gb_types.specs.declared.{kind.Kind.Kind, kind.Order.Order, kind.Order.TheVariants.Any, kind.Order.TheVariants.Fifo, message.MsgId.MsgId}
 use Rattle.gb_layer.specs.declared.call.Call.{Call}
 use Rattle.gb_layer.specs.Common.{delivers, broadcasts, log}
 use Rattle.gb_fifo.specs.Order.{ordered_after}
 
--- the messages that come up in an order when a module delivers some after earlier ones: these themselves, or those that they release in the order of each origin: first in, first out (Cachin, Guerraoui, Rodrigues 2011, section 3.9; Hadzilacos, Toueg 1994)
+-- the delivered messages that an order hands up: all, or each origin's in its order (Cachin, Guerraoui, Rodrigues 2011, 3.9; Hadzilacos, Toueg 1994)
 abbrev pub released : Order → List MsgId → List MsgId → List MsgId
 released Any earlier delivered = delivered
 released Fifo earlier delivered = ordered_after earlier delivered
@@ -14,10 +14,10 @@ released Fifo earlier delivered = ordered_after earlier delivered
 abbrev pub kind_delivers : Kind → ℕ → List ℕ → Call → List Call → List MsgId
 kind_delivers kind me members c past = released kind.order (log kind.module me members past) (delivers kind.module me members c past)
 
--- the messages that the call c broadcasts from here: an order changes nothing of them
+-- the messages that the call c broadcasts from here; an order does not change them
 abbrev pub kind_broadcasts : Kind → ℕ → Call → List Call → List MsgId
 kind_broadcasts kind me c past = broadcasts kind.module me c past
 
--- the log: what came up of the messages that the module delivered, the oldest first
+-- the log: the messages that came up of those that the module delivered, the oldest first
 abbrev pub kind_log : Kind → ℕ → List ℕ → List Call → List MsgId
 kind_log kind me members past = released kind.order [] (log kind.module me members past)

@@ -16,7 +16,7 @@ FifoLogRuns = (kind : Kind) (me : ℕ) (members : List ℕ) (past : List Call) �
 abbrev pub KindLogOnce : Type 0
 KindLogOnce = (kind : Kind) (me : ℕ) (members : List ℕ) (past : List Call) (m : MsgId) → length (filter (λ x. same x m) (kind_log kind me members past)) ≤ 1
 
--- each message in a log was said or came
+-- each message in a log was broadcast here or arrived
 abbrev pub KindLogMentioned : Type 0
 KindLogMentioned = (kind : Kind) (me : ℕ) (members : List ℕ) (past : List Call) → AllByRecursion (λ m. mentions past m ≡ true) (kind_log kind me members past)
 

@@ -1,5 +1,5 @@
-//! What a kind broadcasts, and its log, computed straight from their definition: slow, for short histories, to compare stacks with.
-//! A history has the newest call first.
+//! The messages that a kind broadcasts, and its log, computed straight from their definition: slow, for short histories, to compare stacks
+//! with. A history has the newest call first.
 ghost use Rattle.std.specs.Prelude.{◌≡◌, IfOk};
 ghost use Rattle.gb_layer.specs.Common.{numbers, newest};
 ghost use Rattle.gb_kinds.specs.Kinds.{kind_broadcasts, kind_log};
@@ -9,8 +9,8 @@ use gb_layer::{Call, plain};
 use gb_types::{Kind, MsgId, NodeId, Order, OutOfMemory};
 use std::alloc::Global;
 
-/// Returns the messages that the newest call of a history makes node `me` send, in order, by the definition of the kind of broadcast.
-/// They are none for an empty history. The newest call is first in `history`. `Err` if there is no memory. Slow: for tests.
+/// Returns the messages that the newest call of a history makes node `me` send, in order, by the definition of the kind of broadcast. The
+/// list is empty if the history is empty. The newest call is first in `history`. `Err` if there is no memory. Slow: for tests.
 pub fn broadcasts(
     alloc: Global,
     kind: Kind,

@@ -11,7 +11,7 @@ use Rattle.gb_layer.specs.BebMachine.{beb_gives}
 use Rattle.gb_layer.specs.BebLemmas.{stays}
 use Rattle.gb_layer.specs.Modules.{first_mentions, now_delivered, now_broadcast, delivers, broadcasts, log, IsLawful}
 
--- best-effort broadcast by calls: what it sends, and the messages that come up
+-- the effects of a call of best-effort broadcast: the messages that it sends, and the pairs that come up
 abbrev pub direct_beb : NodeId → Call → Gives
 direct_beb me c = own_gives (beb_gives me c)
 
@@ -46,7 +46,7 @@ other_pair true true c h = cc
 other_pair true false c h = refl
 other_pair false b c h = refl
 
--- a pair that is new
+-- the pair is new
 pair_new : (s b a c : Bool) → s ≡ true → (c ≡ true → b ≡ true) → (a ≡ true → c ≡ false) → (((s || b) && ((a && s) || c)) && not (b && c)) ≡ a
 pair_new false b a c h f g = cc
 pair_new true b true true h f g = let e : true ≡ false = g refl in cc
@@ -116,7 +116,7 @@ module _ (node : NodeId) (members : List ℕ) where
       (λ e _. other_pair (nat_eq p.number x.origin.number) _ _ e)))
   best_effort_up past (Notice q) l = sym (same_filter _ (λ x. false) (λ x. and-not_self (mentions past x && came_from me past x.origin.number x)) (first_mentions past) ∙ filter-never (first_mentions past))
 
--- the log, from what comes up in a whole history
+-- the log is the messages that come up in a whole history
 pub best_effort_log : (k : NodeId) (members : List ℕ) (past : List Call) → IsLawful k.number past → messages (all_ups (λ s _. s) direct_beb k past) ≡ log BestEffort k.number members past
 best_effort_log k members [] l = refl
 best_effort_log k members (c ∷ past) l =

@@ -7,7 +7,7 @@ use Rattle.gb_layer.specs.Rule.{Rules}
 use Rattle.gb_layer.specs.Relay.{State, is_for, new_entry, noted, held, marked_sent, taken_in, is_sent, is_repeat, up_of, noting, relay, relay_sends, begun, begun_sends, wants_delivery, given_ups, due_message, relay_any, relay_any_sends, relay_if, relay_from, relay_from_sends, relayed, relayed_sends, relay_gives}
 use Rattle.gb_layer.specs.Single.{SendsAtMostOne}
 
--- a filter keeps no more than there is
+-- a filtered list is no longer than the list
 fewer : {X : Type 0} (p : X → Bool) (xs : List X) → length (filter p xs) ≤ length xs
 fewer p [] = omega arith
 fewer p (x ∷ xs) =
@@ -18,7 +18,7 @@ length-taken_in : (me : NodeId) (us : List Up) (es : List Entry) → length (tak
 length-taken_in me [] es = refl
 length-taken_in me (u ∷ us) es = length-taken_in me us (map (held me u.via u.m) es) ∙ length-map es (held me u.via u.m)
 
--- one element more at the end, unless it is there
+-- a list with one element more at the end, unless it has that element
 pub length-added : {X : Type 0} (there : Bool) (xs : List X) (x : X) → length (cond there xs (xs ++ x ∷ [])) ≤ length xs + 1
 length-added there xs x =
     let e = length-append xs (x ∷ []) in
@@ -73,7 +73,7 @@ module _ {S : Type 0} (next : S → Call → S) (gives : S → Call → Gives) (
         let e = length-append here rest in
         omega (arith, a, b, e)
 
-    -- one send for the call itself, and one for each message
+    -- at most one send for the call itself, and one for each message
     pub relay_sends_few : (r : State S) (c : Call) → length (relay_gives next gives me rules r c).sends ≤ length r.entries + 2
     relay_sends_few r c =
         let s = begun next gives me r c in
@@ -88,7 +88,7 @@ module _ {S : Type 0} (next : S → Call → S) (gives : S → Call → Gives) (
           | false ↦ omega (arith, a, b, d, e)
         ]
 
-  -- one pair for each message
+  -- at most one pair for each message
   pub relay_ups_few : (r : State S) (c : Call) → length (relay_gives next gives me rules r c).ups ≤ length r.entries + 1
   relay_ups_few r c =
       let s = begun next gives me r c in

@@ -1,4 +1,4 @@
--- What a relay knows after each step.
+-- The places that a relay knows after each step.
 use Rattle.gb_types.specs.Common.{◌≡◌, ℕ, ◌+◌, ◌≤◌, ◌<◌, true, false, cond, nat_eq, nat_lt, List, length, vec_capacity, get_or, refl, sym, ◌∙◌, subst, arith, eqb-true, nat_tests, slice_get-get_or, get_or_from_slice_get}
 use Rattle.gb_types.specs.declared.message.MsgId.{MsgId}
 use Rattle.gb_layer.specs.Relay.{is_for, is_sent}
@@ -16,7 +16,7 @@ reached_most n p w lt le =
       | false ↦ λ _. le
     ] refl
 
--- a place that was told before
+-- a place that was named before
 pub reached_known : (n p : ℕ) → p < n → reached n p ≡ n
 reached_known n p lt =
     elim (nat_eq n p) as (λ b. nat_eq n p ≡ b → cond b (n + 1) n ≡ n) [
@@ -24,7 +24,7 @@ reached_known n p lt =
       | false ↦ λ _. refl
     ] refl
 
--- after the place is noted, it is one of those that are known
+-- after the place is noted, it is one of the known places
 pub reached_has : (n p : ℕ) → p ≤ n → p < reached n p
 reached_has n p le =
     elim (nat_eq n p) as (λ b. nat_eq n p ≡ b → p < cond b (n + 1) n) [
@@ -36,7 +36,7 @@ reached_has n p le =
 pub at_itself : {X : Type 0} (xs : List X) (i : ℕ) (d : X) → i < length xs → get_or xs i d ≡ get_or xs i (get_or xs i d)
 at_itself xs i d lt = sym (get_or_from_slice_get xs i (get_or xs i d) (get_or xs i d) (slice_get-get_or xs i d lt))
 
--- what was sent is in the column
+-- a message that was sent has a place in the column
 pub sent_within : (ms : List MsgId) (hs : List Held) (p : ℕ) → all_differ ms ≡ true → p < length ms → is_sent (zipped ms hs) (message_at ms p) ≡ true → p < length hs
 sent_within ms hs p differ lt h =
     elim (nat_lt p (length hs)) as (λ b. nat_lt p (length hs) ≡ b → p < length hs) [
@@ -49,14 +49,14 @@ sent_within ms hs p differ lt h =
           absurd (cc)
     ] refl
 
--- a weaker fact of the place that a call names
+-- a weaker fact about the place that a call names
 pub names_more : (P Q : ℕ → Type 0) → ((p : ℕ) → P p → Q p) → (call : PlacedCall) → Names P call → Names Q call
 names_more P Q f (Say p) h = f p h
 names_more P Q f (Came q p) h = f p h
 names_more P Q f (Notice q) h = tt
 
 module _ {L R : Type 0} (below : List MsgId → L → ℕ → ℕ → Type 0) (ms : List MsgId) (r r' : Relay L R) where
-  -- a step that tells no new place
+  -- a step that names no new place
   pub knows_kept : (w : ℕ) → Knows below ms r w → length r'.column.items ≡ length r.column.items → vec_capacity r'.column ≡ vec_capacity r.column → below ms r'.lower (length r.column.items) w → Knows below ms r' w
   knows_kept w k len cap low =
       let within = k.within in
@@ -69,7 +69,7 @@ module _ {L R : Type 0} (below : List MsgId → L → ℕ → ℕ → Type 0) (m
         lower = subst (λ (n : ℕ). below ms r'.lower n w) (sym len) low;
       }
 
-  -- a step that tells a place
+  -- a step that names a place
   pub knows_told : (w p : ℕ) → Knows below ms r w → p < length ms → p < w → length r'.column.items ≡ reached (length r.column.items) p → vec_capacity r'.column ≡ vec_capacity r.column
       → below ms r'.lower (reached (length r.column.items) p) w → Knows below ms r' w
   knows_told w p k lt next len cap low =

@@ -14,7 +14,7 @@ first : (c : Bool) (s : ℕ) → cond c (max s 0) 0 ≡ cond c (max 0 s) 0
 first true s = omega arith
 first false s = refl
 
--- one more message
+-- the greatest number in a list with one more message
 last_push : (o : ℕ) (ms : List MsgId) (m : MsgId) → last_of o (ms ++ m ∷ []) ≡ cond (nat_eq m.origin.number o) (max (last_of o ms) m.seq) (last_of o ms)
 last_push o [] m = first (nat_eq m.origin.number o) m.seq
 last_push o (x ∷ ms) m =
@@ -38,7 +38,7 @@ last_more last at v o ms m within e is h =
 below : (a b : ℕ) → a < b → nat_eq a b ≡ false
 below a b lt = elim (nat_eq a b) as (λ v. nat_eq a b ≡ v → v ≡ false) [ true ↦ λ e. absurd (let z = eqb-true a b e in omega (arith, z, lt)) | false ↦ λ _. refl ] refl
 
--- a message of a greater number than all of its origin is nowhere
+-- a message with a greater number than all messages of its origin is nowhere
 pub none_above : (m : MsgId) (ms : List MsgId) → last_of m.origin.number ms < m.seq → list_any (λ x. same x m) ms ≡ false
 none_above m [] lt = refl
 none_above m (x ∷ ms) lt =

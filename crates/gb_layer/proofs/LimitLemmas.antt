@@ -19,7 +19,7 @@ distinct_pushed [] x d h = (tt, tt)
 distinct_pushed (m ∷ ms) x d h = (apart m x ms d.0 (or_left _ _ h), distinct_pushed ms x d.1 (or_right (same m x) _ h))
 
 module _ {E : Type 0} (message : E → MsgId) where
-  -- one more message within the limit
+  -- a list with one more message within the limit
   pub counted_grown : (l : Limit) (es : List E) (e : E) → is_counted l (message e) ≡ true → list_all (is_counted l) (map message es) ≡ true
       → list_all (is_counted l) (map message (cond (list_any (λ x. same (message x) (message e)) es) es (es ++ e ∷ []))) ≡ true
   counted_grown l es e k h =

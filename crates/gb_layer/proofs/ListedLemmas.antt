@@ -1,9 +1,9 @@
--- The numbers that a list has, and those that pass a test.
+-- The numbers of a list, and those that pass a test.
 use Rattle.gb_types.specs.Common.{◌≡◌, ℕ, ◌*◌, Bool, true, false, cond, ◌&&◌, ◌||◌, nat_eq, nat_lt, List, [], ◌∷◌, refl, sym, ap, ◌∙◌, count_by, filter, list_any, nat_cmp, eqb-true, below, has_majority}
 use Rattle.std.specs.FinSet as set
 use Rattle.gb_types.specs.declared.limits.TheConstants.{NODES}
 
--- a number of the list passes the test where it stands among those that pass
+-- a number is among those that pass the test if and only if it is in the list and passes
 listed_kept : (t : ℕ → Bool) (p : ℕ) (ks : List ℕ) → list_any (λ q. nat_eq q p) (filter t ks) ≡ (list_any (λ q. nat_eq q p) ks && t p)
 listed_kept t p [] = refl
 listed_kept t p (k ∷ ks) = go (t k) refl (nat_eq k p) refl (listed_kept t p ks)
@@ -23,7 +23,7 @@ both_listed : (a b : Bool) → (a && (a && b)) ≡ (a && b)
 both_listed true b = refl
 both_listed false b = refl
 
--- a majority of the numbers of a list, by the set of these and the set of those that pass
+-- a majority of the numbers of a list, by the set of the numbers and the set of those that pass
 pub majority_listed : (t : ℕ → Bool) (ks : List ℕ) → has_majority (set.contains (set.from_list {R = nat_cmp} ks)) (set.contains (set.from_list {R = nat_cmp} (filter t ks))) ≡ has_majority (λ p. list_any (λ q. nat_eq q p) ks) t
 majority_listed t ks = λ i. nat_lt (count_by (λ p. set.contains-from_list_nat ks p i) (below NODES)) (2 * count_by (λ p. both p i) (below NODES))
   where

@@ -12,7 +12,7 @@ use Rattle.gb_layer.specs.Pending.{is_pending}
 use Rattle.gb_layer.proofs.TableLemmas.{not_held}
 use Rattle.gb_layer.proofs.PlacesLemmas.{get_map, pushed, among_weaker, among_map, fails_elsewhere}
 
--- one entry more, which does not pass
+-- one entry more, which does not pass the test
 among_noted : (p : Entry → Bool) (m : MsgId) → p (new_entry m) ≡ false → (from to : ℕ) (es : List Entry) → StandsAmong p from to es → StandsAmong p from to (noted es m)
 among_noted p m n from to es s =
     elim (list_any (is_for m) es) as (λ b. StandsAmong p from to (cond b es (es ++ new_entry m ∷ []))) [
@@ -57,15 +57,15 @@ module _ (rules : Rules) (me : NodeId) (members noticed : Nodes) where
   pub pending_marked : (m : MsgId) (from to : ℕ) (es : List Entry) → StandsAmong pending from to es → StandsAmong pending from to (map (marked_sent m) es)
   pending_marked m = among_map pending (marked_sent m) (marked_back m)
 
-  -- what is not to be handed up stays
+  -- an entry that is not to be handed up does not change
   pub handed_stays : (e : Entry) → delivers e ≡ false → handed delivers e ≡ e
   handed_stays e h = ap (λ b. cond b (given_entry e) e) h
 
-  -- what is to be handed up stands there too
+  -- the entries that are to be handed up are at these places too
   pub delivers_among : (from to : ℕ) (es : List Entry) → StandsAmong pending from to es → StandsAmong delivers from to es
   delivers_among = among_weaker pending delivers (λ e h. or_second (relays e) (delivers e) h)
 
-  -- elsewhere nothing is to be relayed
+  -- at the other places nothing is to be relayed
   pub none_elsewhere : (from to : ℕ) (es : List Entry) → StandsAmong pending from to es → (k : ℕ) (e : Entry) → (IsAmong from to k → ⊥) → slice_get es k ≡ Some e → relays e ≡ false
   none_elsewhere from to es s = fails_elsewhere relays from to es (among_weaker pending relays (λ e h. or_first (relays e) (delivers e) h) from to es s)
 
@@ -103,7 +103,7 @@ module _ {S : Type 0} (next : S → Call → S) (gives : S → Call → Gives) (
             ((λ x. from (n' x) (same x) r), (λ x. from_sends (n' x) (same x) r))
       ] refl
 
-  -- a pass may begin where the first is due
+  -- a pass may begin at the first entry that is due
   pub begins_at : (count i : ℕ) (r : State S) → ((k : ℕ) (e : Entry) → k < i → slice_get r.entries k ≡ Some e → wants_relay me rules r e ≡ false)
       → (from (count - i) i r ≡ from count 0 r) × (from_sends (count - i) i r ≡ from_sends count 0 r)
   begins_at count i r f =
@@ -119,7 +119,7 @@ module _ {S : Type 0} (next : S → Call → S) (gives : S → Call → Gives) (
             (ap (λ k. from k i r) z ∙ sym s.0, ap (λ k. from_sends k i r) z ∙ sym s.1)
       ] refl
 
-  -- and end after the last
+  -- a pass may end after the last entry that is due
   pub ends_at : (n i : ℕ) (r : State S) → ((k : ℕ) (e : Entry) → i ≤ k → slice_get r.entries k ≡ Some e → wants_relay me rules r e ≡ false)
       → (from n i r ≡ r) × (from_sends n i r ≡ [])
   ends_at n i r f = skipped n i 0 (n + i) r (omega arith) (omega arith) (λ k x a b at. f k x a at)

@@ -28,7 +28,7 @@ not_itself : (a : Bool) → (not a && a) ≡ false
 not_itself true = refl
 not_itself false = refl
 
--- a mark that is set where it is due says what it stands for
+-- a mark that is set when it is due is true if and only if its meaning holds
 marked : (d s n : Bool) → d ≡ (not s && n) → (s ≡ true → n ≡ true) → cond d true s ≡ n
 marked true true n h f = cc
 marked false true n h f = sym (f refl)
@@ -71,7 +71,7 @@ holders_more me (Came p x) past m q h =
     ]
 holders_more me (Notice k) past m q h = h
 
--- this node holds what was mentioned
+-- this node holds each message that was mentioned
 here_in : (me : ℕ) (past : List Call) (m : MsgId) → set.contains (holders_in me past m) me ≡ mentions past m
 here_in me [] m = set.contains-empty nat_cmp me
 here_in me (Say x ∷ past) m =
@@ -98,7 +98,7 @@ no_holders me (Came p x ∷ past) m h =
     ∙ no_holders me past m (or_right (same x m) _ h)
 no_holders me (Notice q ∷ past) m h = no_holders me past m h
 
--- what the call itself sends
+-- the call itself broadcasts the message
 abbrev says : Call → MsgId → Bool
 says (Say m) x = same x m
 says (Came p m) x = false
@@ -117,7 +117,7 @@ module _ (rules : Rules) (broadcasts_more : BroadcastsMore rules) (delivers_more
   abbrev up : List Call → MsgId → Bool
   up = now_delivered_by rules me.number members
 
-  -- what a relay remembers of x
+  -- what a relay remembers about x
   abbrev entry_at : List Call → MsgId → Entry
   entry_at past x = record { m = x; holders = holders_in me.number past x; sent = out past x; given = up past x }
 
@@ -129,7 +129,7 @@ module _ (rules : Rules) (broadcasts_more : BroadcastsMore rules) (delivers_more
   up_more c past x = and_more (mentions past x) (rules.delivers members (noticed_in past) (holders_in me.number past x)) (mentions (c ∷ past) x) (rules.delivers members (noticed_in (c ∷ past)) (holders_in me.number (c ∷ past) x))
       (mentions_stays c past x) (delivers_more members (noticed_in past) (noticed_in (c ∷ past)) (holders_in me.number past x) (holders_in me.number (c ∷ past) x) (noticed_more c past) (holders_more me.number c past x))
 
-  -- the entry of m after the call itself, and after the messages that are due were sent on
+  -- the entry of m after the call itself, and after the messages that are due were sent
   abbrev begun_entry : Call → List Call → MsgId → Entry
   begun_entry c past x = record { m = x; holders = holders_in me.number (c ∷ past) x; sent = says c x || out past x; given = up past x }
 
@@ -190,11 +190,11 @@ module _ (rules : Rules) (broadcasts_more : BroadcastsMore rules) (delivers_more
         | false ↦ λ _. refl
       ] refl
 
-  -- what a relay remembers
+  -- the state of a relay after a history
   abbrev state_at : List Call → State NodeId
   state_at past = record { lower = me; members = members; noticed = noticed_in past; entries = map (entry_at past) (first_mentions past) }
 
-  -- the call itself, by the case
+  -- the state after the call itself
   abbrev Begun : Call → List Call → Type 0
   Begun c past = begun (λ s _. s) beb_gives (λ s. s) (state_at past) c ≡ with_entries (c ∷ past) (map (begun_entry c past) (first_mentions (c ∷ past)))
 
@@ -213,7 +213,7 @@ module _ (rules : Rules) (broadcasts_more : BroadcastsMore rules) (delivers_more
       (ap (map (held me p m)) (noted_at past m)
       ∙ map_same (held me p m) (entry_at past) (begun_entry (Came p m) past) (came_at past p m) (first_mentions (Came p m ∷ past)))
 
-  -- the marks
+  -- the marks of an entry
   due_at : (c : Call) (past : List Call) (x : MsgId) → due_to_relay rules me (noticed_in (c ∷ past)) (begun_entry c past x) ≡ (not (says c x || out past x) && out (c ∷ past) x)
   due_at c past x = ap (λ b. not (says c x || out past x) && (b && rules.broadcasts me.number (noticed_in (c ∷ past)) x)) (here_in me.number (c ∷ past) x)
 
@@ -247,7 +247,7 @@ module _ (rules : Rules) (broadcasts_more : BroadcastsMore rules) (delivers_more
       ≡ record { m = x; holders = holders_in me.number (c ∷ past) x; sent = out (c ∷ past) x; given = cond b true (up past x) }) [ true ↦ refl | false ↦ refl ]
       ∙ (λ i. record { m = x; holders = holders_in me.number (c ∷ past) x; sent = out (c ∷ past) x; given = marked d (up past x) (up (c ∷ past) x) (ready_at c past x) (up_more c past x) i })
 
-  -- after everything was sent on
+  -- the state after everything was sent
   relayed_at : (c : Call) (past : List Call) → MayCome me.number past c → Begun c past
       → relayed (λ s _. s) beb_gives (λ s. s) rules (begun (λ s _. s) beb_gives (λ s. s) (state_at past) c) ≡ with_entries (c ∷ past) (map (relayed_entry c past) (first_mentions (c ∷ past)))
   relayed_at c past l b =
@@ -305,7 +305,7 @@ module _ (rules : Rules) (broadcasts_more : BroadcastsMore rules) (delivers_more
       none_of (λ x. out (Notice q ∷ past) x && not (out past x))
       (λ x. ap (λ n. (mentions past x && rules.broadcasts me.number n x) && not (out past x)) (same_noticed past q h) ∙ and-not_self (out past x)) (first_mentions past)
 
-  -- what is said
+  -- the messages that are broadcast now
   abbrev new_out : Call → List Call → MsgId → Bool
   new_out c past x = out (c ∷ past) x && not (out past x)
 
@@ -338,7 +338,7 @@ module _ (rules : Rules) (broadcasts_more : BroadcastsMore rules) (delivers_more
       same_filter (λ x. not (says c x || out past x) && out (c ∷ past) x) (λ x. out (c ∷ past) x && not (out past x))
       (λ x. ap (λ b. not (b || out past x) && out (c ∷ past) x) (none x) ∙ and_swap (out past x) (out (c ∷ past) x)) (first_mentions (c ∷ past))
 
-  -- one call
+  -- the state after one call
   rule_next : (c : Call) (past : List Call) → IsLawful me.number (c ∷ past) → N (state_at past) c ≡ state_at (c ∷ past)
   rule_next (Say m) past l = full_next (Say m) past l.0 (begun_said past m (not_mentioned me [] past m l.1 l.0.0 l.0.1))
   rule_next (Came p m) past l = full_next (Came p m) past l.0 (begun_came past p m)
@@ -376,7 +376,7 @@ module _ (rules : Rules) (broadcasts_more : BroadcastsMore rules) (delivers_more
         | false ↦ λ _. full_sends (Notice q) past refl ∙ other_sends (Notice q) past (λ x. refl)
       ] refl
 
-  -- after a history
+  -- the state before the first call
   abbrev start : State NodeId
   start = at_start me members
 

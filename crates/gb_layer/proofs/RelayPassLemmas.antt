@@ -93,7 +93,7 @@ module _ (rules : Rules) (me : NodeId) (members noticed : Nodes) where
   step_sends : (es : List Entry) (e : Entry) → any_sends (F es) (cond (due e) (Some e.m) None) ≡ cond (due e) (e.m ∷ []) []
   step_sends es e = elim (due e) as (λ b. any_sends (F es) (cond b (Some e.m) None) ≡ cond b (e.m ∷ []) []) [ true ↦ refl | false ↦ refl ]
 
-  -- those done are of other messages than those to come
+  -- the messages of the finished entries differ from those of the remaining entries
   abbrev Apart : List Entry → List Entry → Type 0
   Apart todo = AllByRecursion (λ d. AllByRecursion (λ e. same d.m e.m ≡ false) todo)
 
@@ -131,7 +131,7 @@ module _ (rules : Rules) (me : NodeId) (members noticed : Nodes) where
       ∙ ((λ i. cond (due e) (e.m ∷ []) [] ++ pass_sends rest (done ++ fixed e ∷ []) d.1 (apart_more rest done e d.0 a) i)
       ∙ picked_one (due e) e (filter due rest))))
 
-  -- everything that is due is marked, and sent on in order
+  -- everything that is due is marked, and sent in order
   pub relayed_all : (es : List Entry) → Distinct es → relayed (λ s _. s) beb_gives (λ s. s) rules (F es) ≡ F (map fixed es)
   relayed_all es d = pass es [] d tt
 

@@ -7,7 +7,7 @@ use Rattle.gb_layer.specs.Relay.{up_of}
 use Rattle.gb_layer.specs.Sinks.{ups_alone, SplitsRoom}
 
 module _ {S : Type 0} (sent : S → MsgId → S) (risen : S → Up → S) (takes : S → Gives → Type 0) (law : SplitsRoom sent risen takes) where
-  -- the first entry, and then the others
+  -- the first entry, then the others
   pub one_step : (b : Bool) (s : S) (x : Entry) (es : List Entry) → fold risen (fold risen s (map up_of (cond b (x ∷ []) []))) (map up_of es) ≡ fold risen s (map up_of (cond b (x ∷ es) es))
   one_step true s x es = refl
   one_step false s x es = refl

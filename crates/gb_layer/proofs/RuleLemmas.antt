@@ -9,18 +9,18 @@ use Rattle.gb_layer.specs.Machine.{mentions, was_noticed, came_from}
 use Rattle.gb_layer.specs.Modules.{holds}
 use Rattle.gb_layer.specs.Rule.{Nodes, noticed_in, holders_in}
 
--- one more node is in a set
+-- a set with one more node
 more : (h : Nodes) (k p : ℕ) → set.contains (set.insert h k) p ≡ (nat_eq k p || set.contains h p)
 more h k p = set.contains-insert nat_cmp_total h k p ∙ ap (λ b. b || set.contains h p) (unsigned_tied p k ∙ nat_eq_equiv.symm p k)
 
--- the nodes noticed are those that the test says
+-- the set of noticed nodes has the nodes that the test accepts
 pub noticed_is : (past : List Call) (q : ℕ) → set.contains (noticed_in past) q ≡ was_noticed past q
 noticed_is [] q = set.contains-empty nat_cmp q
 noticed_is (Say x ∷ past) q = noticed_is past q
 noticed_is (Came p x ∷ past) q = noticed_is past q
 noticed_is (Notice p ∷ past) q = more (noticed_in past) p.number q ∙ ap (λ b. nat_eq p.number q || b) (noticed_is past q)
 
--- one who holds it: the node from which it came, this node, or an earlier one
+-- a holder is the node from which the message came, this node, or an earlier holder
 one_more : (f e s c mn : Bool) → cond s (f || (e || (c || (e && mn)))) (c || (e && mn)) ≡ (((f && s) || c) || (e && (s || mn)))
 one_more true true true c mn = refl
 one_more true false true c mn = refl
@@ -45,7 +45,7 @@ came : (s : Bool) (h : Nodes) (a b p : ℕ) → set.contains (cond s (set.insert
 came true h a b p = more (set.insert h a) b p ∙ ap (λ v. nat_eq b p || v) (more h a p)
 came false h a b p = refl
 
--- the holders are those that the test says
+-- the set of holders has the nodes that the test accepts
 pub holders_is : (me : ℕ) (past : List Call) (p : ℕ) (m : MsgId) → set.contains (holders_in me past m) p ≡ holds me past p m
 holders_is me [] p m = set.contains-empty nat_cmp p ∙ sym (and-false (nat_eq me p))
 holders_is me (Say x ∷ past) p m =

@@ -43,7 +43,7 @@ zipped_message (m ∷ ms) [] k e h = cc
 zipped_message (m ∷ ms) (x ∷ hs) zero e h = let same : e ≡ entry_of m x = cc in (omega arith, ap (λ (y : Entry). y.m) same)
 zipped_message (m ∷ ms) (x ∷ hs) (suc k) e h = let rest = zipped_message ms hs k e h in let less = rest.0 in (omega (arith, less), rest.1)
 
--- the entries stand where their messages do, each message at one place
+-- the entries have the places of their messages, each message one place
 abbrev pub InOrder : List MsgId → List Entry → Type 0
 InOrder ms es = (k : ℕ) (e : Entry) → slice_get es k ≡ Some e → (e.m ≡ message_at ms k) × (place_of ms e.m ≡ k)
 
@@ -64,12 +64,12 @@ taken_in_order : (ms : List MsgId) (me : NodeId) (us : List Up) (es : List Entry
 taken_in_order ms me [] es o = o
 taken_in_order ms me (u ∷ us) es o = taken_in_order ms me us (map (held me u.via u.m) es) (map_in_order ms (held me u.via u.m) (held_message me u.via u.m) es o)
 
--- the entries of the message at a place stand there
+-- the entries of a message are only at the message's place
 for_there : (ms : List MsgId) (m : MsgId) (i : ℕ) (es : List Entry) → InOrder ms es → place_of ms m ≡ i → StandsAmong (is_for m) i (i + 1) es
 for_there ms m i es o at k e here is =
     let q : i ≡ k = sym at ∙ (ap (place_of ms) (sym (same-true e.m m is)) ∙ (o k e here).1) in (omega (arith, q), omega (arith, q))
 
--- after pairs of the message at place i came up, what passes a test is where it was, or at i
+-- after pairs of the message at place i came up, the elements that pass a test are at the places from before, or at i
 taken_among : (p : Entry → Bool) (me : NodeId) (m : MsgId) (i from to : ℕ) → IsAmong from to i → (us : List Up) → AreOf m us → (es : List Entry) → StandsAmong (is_for m) i (i + 1) es → StandsAmong p from to es
     → StandsAmong p from to (taken_in me us es)
 taken_among p me m i from to among [] own es there s = s
@@ -98,7 +98,7 @@ taken_none me m (u ∷ us) es s =
     taken_none me m us (map (held me u.via u.m) es)
     (among_map (unsent_for m) (held me u.via u.m) (λ e h. sym (held_same (unsent_for m) me u.via u.m (λ x. refl) e) ∙ h) 0 0 es s)
 
--- where nothing passes a test, what passes it is anywhere
+-- if no element passes a test, the ones that pass are at any places
 anywhere : (p : Entry → Bool) (from to : ℕ) (es : List Entry) → ((k : ℕ) (e : Entry) → slice_get es k ≡ Some e → p e ≡ false) → StandsAmong p from to es
 anywhere p from to es none k e at h = absurd (let z : true ≡ false = sym h ∙ none k e at in cc)
 
@@ -106,7 +106,7 @@ anywhere p from to es none k e at h = absurd (let z : true ≡ false = sym h ∙
 pub none_there : (p : Entry → Bool) (es : List Entry) → length es ≡ 0 → (k : ℕ) (e : Entry) → slice_get es k ≡ Some e → p e ≡ false
 none_there p es none k e at = absurd (let lt = get_within es k e at in omega (arith, lt, none))
 
--- where only the entry at i is due, handing up is handing it up
+-- if only the entry at i is due, handing up all entries is handing up that entry
 module _ (rules : Rules) (me : NodeId) (members noticed : Nodes) (i : ℕ) (x : Entry) (es : List Entry) (lt : i < length es) (is : x ≡ get_or es i x) (due : StandsAmong (is_pending rules me members noticed) i (i + 1) es) where
   abbrev ready : Entry → Bool
   ready = due_to_deliver rules me members noticed
@@ -140,7 +140,7 @@ module _ {S : Type 0} (next : S → Call → S) (gives : S → Call → Gives) (
       let after = taken_among pending (me r.lower) m i i (i + 1) (omega arith, omega arith) us (own.came r.lower p m) (noted r.entries m) (for_there ms m i (noted r.entries m) o at) before in
       subst (λ (n : NodeId). StandsAmong (is_pending rules n r.members r.noticed) i (i + 1) (taken_in (me r.lower) us (noted r.entries m))) (sym (stays r.lower (Came p m))) after
 
-  -- and so after it is said below
+  -- after the message is broadcast in the layer below, only it is due
   pub relay_due : (r : State S) (m : MsgId) (i : ℕ) → InOrder ms r.entries → place_of ms m ≡ i → OnlyDueAt me rules i r → OnlyDueAt me rules i (relay next gives me r m)
   relay_due r m i o at due =
       let pending = is_pending rules (me r.lower) r.members r.noticed in
@@ -159,13 +159,13 @@ module _ {S : Type 0} (next : S → Call → S) (gives : S → Call → Gives) (
   pub quiet_due : (r : State S) (i : ℕ) → NothingIsDue me rules r → OnlyDueAt me rules i r
   quiet_due r i quiet = anywhere (is_pending rules (me r.lower) r.members r.noticed) i (i + 1) r.entries quiet
 
-  -- a place was passed: its message is not to be relayed
+  -- a pass went over a place: its message is not to be relayed
   pub record HasPassed (i : ℕ) (r r' : State S) : Type 0 where
     pub order : InOrder ms r'.entries
     pub relays : (to : ℕ) → StandsAmong (wants_relay me rules r) i to r.entries → StandsAmong (wants_relay me rules r') (i + 1) to r'.entries
     pub pending : OnlyDueAt me rules i r → OnlyDueAt me rules i r'
 
-  -- the message at i is not to be relayed
+  -- a pass over a place whose message is not to be relayed
   passed_by : (r : State S) (i : ℕ) → InOrder ms r.entries → ((e : Entry) → slice_get r.entries i ≡ Some e → wants_relay me rules r e ≡ false) → HasPassed i r r
   passed_by r i o none = record {
     order = o;
@@ -183,7 +183,7 @@ module _ {S : Type 0} (next : S → Call → S) (gives : S → Call → Gives) (
     pending = λ s. s;
   }
 
-  -- the message at i is relayed
+  -- a pass over a place whose message is relayed
   passed_on : (r : State S) (i : ℕ) (e : Entry) → InOrder ms r.entries → slice_get r.entries i ≡ Some e → wants_relay me rules r e ≡ true → HasPassed i r (relay next gives me r e.m)
   passed_on r i e o at wants =
       let n = me r.lower in
@@ -245,7 +245,7 @@ module _ {S : Type 0} (next : S → Call → S) (gives : S → Call → Gives) (
       let end : suc n + i ≡ n + (i + 1) = omega arith in
       from_quiet n (i + 1) (relay_if next gives me rules r (slice_get r.entries i)) step.order (step.relays (n + (i + 1)) (subst (λ (to : ℕ). StandsAmong (wants_relay me rules r) i to r.entries) end s))
 
-  -- what was handed up is not due to be handed up again
+  -- an entry that was handed up is not due to be handed up again
   given_none : (r : State S) (e : Entry) → wants_delivery me rules r (handed (wants_delivery me rules r) e) ≡ false
   given_none r e =
       let due = wants_delivery me rules r in
@@ -254,7 +254,7 @@ module _ {S : Type 0} (next : S → Call → S) (gives : S → Call → Gives) (
         | false ↦ λ h. h
       ] refl
 
-  -- after all that is due was relayed and handed up, nothing is due
+  -- after everything that is due was relayed and handed up, nothing is due
   pub settled_quiet : (r : State S) → InOrder ms r.entries → NothingIsDue me rules (given me rules (relayed next gives me rules r))
   settled_quiet r o k e at =
       let q = relayed next gives me rules r in
@@ -266,7 +266,7 @@ module _ {S : Type 0} (next : S → Call → S) (gives : S → Call → Gives) (
       let second : ready e ≡ false = ap ready g.2 ∙ given_none q g.0 in
       λ j. first j || second j
 
-  -- where only one place is due, relaying is relaying there
+  -- if only one place is due, relaying all places is relaying that place
   module _ (r : State S) (i : ℕ) (o : InOrder ms r.entries) (lt : i < length r.entries) (due : OnlyDueAt me rules i r) where
     abbrev there : State S
     there = relay_if next gives me rules r (slice_get r.entries i)
@@ -291,7 +291,7 @@ module _ {S : Type 0} (next : S → Call → S) (gives : S → Call → Gives) (
     pub one_sends : relayed_sends next gives me rules r ≡ relay_if_sends next gives me rules r (slice_get r.entries i)
     one_sends = one_pass.1
 
-    -- and then handing up is handing up there
+    -- then handing up all entries is handing up the entry at that place
     module _ (q : State S) (is : q ≡ there) (lt' : i < length q.entries) (n : NodeId) (at : n ≡ me q.lower) where
       pub one_state : q ≡ relayed next gives me rules r
       one_state = is ∙ sym one_pass.0

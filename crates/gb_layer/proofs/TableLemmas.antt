@@ -9,14 +9,14 @@ use Rattle.gb_layer.specs.Relay.{is_for, held, held_entry, marked_sent, sent_ent
 use Rattle.gb_layer.specs.Table.{covers, spot, told, says, leads}
 
 module _ (width : ℕ) (table : List ℕ) (m : MsgId) (v : ℕ) (is : told width table m ≡ Some v) where
-  -- m at a place is where the table says
+  -- if m is at a place, the table's number means that place
   here : (x : MsgId) (i : ℕ) → same x m ≡ true → says (told width table x) (i + 1) ≡ true → v ≡ i + 1
   here x i f h =
       let k : says (told width table m) (i + 1) ≡ true = ap (λ y. says (told width table y) (i + 1)) (sym (same-true x m f)) ∙ h in
       let n : nat_eq v (i + 1) ≡ true = ap (λ o. says o (i + 1)) (sym is) ∙ k in
       eqb-true v (i + 1) n
 
-  -- m stands where the table leads
+  -- m is at the place that the table's number means
   pub stands_there : (ms : List MsgId) (i j : ℕ) (x : MsgId) → slice_get ms j ≡ Some x → same x m ≡ true → leads width table i ms ≡ true → v ≡ i + j + 1
   stands_there [] i j x at t h = cc
   stands_there (y ∷ ms) i zero x at t h =
@@ -48,7 +48,7 @@ slice_get_set_same [] i y h = absurd (omega arith)
 slice_get_set_same (x ∷ xs) zero y h = refl
 slice_get_set_same (x ∷ xs) (suc i) y h = let lt : i < length xs = omega (arith, h) in slice_get_set_same xs i y lt
 
--- different messages stand at different places of the table
+-- different messages have different indices in the table
 spot_other : (width : ℕ) (x m : MsgId) → covers width x ≡ true → covers width m ≡ true → spot width x ≡ spot width m → same x m ≡ true
 spot_other width x m h k e =
     let hx : 1 ≤ x.seq = let a = and_left (nat_le 1 x.seq) (nat_le x.seq width) h in grind (arith, nat_tests) in
@@ -63,7 +63,7 @@ spot_other width x m h k e =
     let o : x.origin.number ≡ m.origin.number = (let w : 0 < width = omega (arith, hx, wx) in sym (mul-div_cancel x.origin.number w) ∙ (ap (λ n. n / width) p ∙ mul-div_cancel m.origin.number w)) in
     grind (arith, nat_tests)
 
--- what the table says of another message stays
+-- the table's number for another message does not change
 told_other : (width : ℕ) (table : List ℕ) (x m : MsgId) (u : ℕ) → covers width m ≡ true → same x m ≡ false → told width (set table (spot width m) u) x ≡ told width table x
 told_other width table x m u k n =
     elim (covers width x) as (λ b. covers width x ≡ b → cond b (slice_get (set table (spot width m) u) (spot width x)) None ≡ cond b (slice_get table (spot width x)) None) [
@@ -87,18 +87,18 @@ leads_pushed width table m i (x ∷ ms) s h =
     and_more (says (told width table x) (i + 1)) _ (says (told width table x) (i + 1)) _ (λ w. w)
     (λ w. leads_pushed width table m (i + 1) ms (ap (λ v. says (told width table m) v) (sym n) ∙ s) w) h
 
--- a message of which the table does not speak is added
+-- a message that the table does not cover is added
 pub leads_unsaid : (width : ℕ) (table : List ℕ) (m : MsgId) (ms : List MsgId) → told width table m ≡ None → leads width table 0 ms ≡ true → leads width table 0 (ms ++ m ∷ []) ≡ true
 leads_unsaid width table m ms n h = leads_pushed width table m 0 ms (ap (λ o. says o (0 + length ms + 1)) n) h
 
--- a table without width speaks of no message
+-- a table without width covers no message
 pub leads_nothing : (table : List ℕ) (i : ℕ) (ms : List MsgId) → leads 0 table i ms ≡ true
 leads_nothing table i [] = refl
 leads_nothing table i (m ∷ ms) =
     let none : covers 0 m ≡ false = grind (arith, nat_tests) in
     ap (λ b. says (cond b (slice_get table (spot 0 m)) None) (i + 1) && leads 0 table (i + 1) ms) none ∙ leads_nothing table (i + 1) ms
 
--- a new message is added, and the table says its place
+-- a new message is added, and the table has its number
 pub leads_said : (width : ℕ) (table : List ℕ) (m : MsgId) (ms : List MsgId) (at v : ℕ) → covers width m ≡ true → at ≡ spot width m → at < length table → v ≡ length ms + 1 → list_any (λ x. same x m) ms ≡ false
     → leads width table 0 ms ≡ true → leads width (set table at v) 0 (ms ++ m ∷ []) ≡ true
 leads_said width table m ms at v k e lt new n h =

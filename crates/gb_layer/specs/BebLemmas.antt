@@ -43,7 +43,7 @@ beb_ups me (Came p x ∷ past) via m h =
     refl h.0 (alike me.number p.number via x m past) (beb_ups me past via m h.1)
 beb_ups me (Notice q ∷ past) via m h = count_by-append_nil (is_up via m) (ups me past) ∙ beb_ups me past via m h
 
--- a message that did not come from here was not said
+-- a message that did not come from here was not broadcast here
 pub not_said : (me : ℕ) (past : List Call) (m : MsgId) → came_from me past me m ≡ false → was_said past m ≡ false
 not_said me [] m h = refl
 not_said me (Say x ∷ past) m h =
@@ -56,7 +56,7 @@ not_said me (Notice q ∷ past) m h = not_said me past m h
 said_alike : (x m : MsgId) (past : List Call) → same x m ≡ true → was_said past x ≡ was_said past m
 said_alike x m past h = ap (was_said past) (same-true x m h)
 
--- the number of times that a message is sent is the number of times that it was said
+-- a message is sent as often as it was broadcast here
 pub beb_sends : (me : NodeId) (past : List Call) (m : MsgId) → IsOnce me.number past → count_sends m (sends me past) ≡ cond (was_said past m) 1 0
 beb_sends me [] m h = refl
 beb_sends me (Say x ∷ past) m h =
@@ -85,7 +85,7 @@ beb_sends_handed_in me (Notice q ∷ past) m h = count_by-append_nil (λ y. same
 pub beb_noticed_once : (me : NodeId) (past : List Call) (q : NodeId) → (after (λ s _. s) me past ≡ after (λ s _. s) me past) × (beb_gives (after (λ s _. s) me past) (Notice q) ≡ nothing)
 beb_noticed_once me past q = (refl, refl)
 
--- each message that came from here was said
+-- each message that came from here was broadcast here
 pub came_here : (me : ℕ) (past : List Call) (m : MsgId) → IsFair me past → was_said past m ≡ false → came_from me past me m ≡ false
 came_here me [] m f h = refl
 came_here me (Say x ∷ past) m f h =

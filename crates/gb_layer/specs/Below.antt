@@ -6,7 +6,7 @@ use Rattle.gb_layer.specs.Machine.{Gives}
 use Rattle.gb_layer.specs.Relay.{held, taken_in}
 use Rattle.gb_layer.specs.Sinks.{folded, sends_alone, SplitsRoom}
 
--- which column and sink are borrowed, the node, the column's length, memory and entries, and the sink's state
+-- names of the borrowed column and sink, the node, the column's length, memory and entries, and the sink's state
 pub record BelowState (S : Type 0) : Type 0 where
   pub column_name : ℕ
   pub out_name : ℕ
@@ -21,15 +21,15 @@ module _ {S : Type 0} where
   abbrev pub below_with : BelowState S → List Entry → S → BelowState S
   below_with s es t = record { column_name = s.column_name; out_name = s.out_name; me = s.me; len = s.len; capacity = s.capacity; entries = es; inner = t }
 
-  -- what is sent goes on
+  -- a message to send is passed on
   abbrev pub below_sent : (S → MsgId → S) → BelowState S → MsgId → BelowState S
   below_sent sent s m = below_with s s.entries (sent s.inner m)
 
-  -- of what comes up it is noted who holds it
+  -- the holders of a message that comes up are recorded
   abbrev pub below_risen : BelowState S → Up → BelowState S
   below_risen s u = below_with s (map (held s.me u.via u.m) s.entries) s.inner
 
-  -- there is room for what goes on
+  -- the borrowed sink has room for the messages that are passed on
   abbrev pub below_takes : (S → Gives → Type 0) → BelowState S → Gives → Type 0
   below_takes takes s g = takes s.inner (sends_alone g.sends)
 
@@ -42,7 +42,7 @@ module _ {S : Type 0} (sent : S → MsgId → S) where
   below_sends s [] = refl
   below_sends s (m ∷ ms) = below_sends (below_sent sent s m) ms
 
-  -- what it makes of the effects of a call
+  -- the state after the effects of a call
   pub below_folded : (s : BelowState S) (g : Gives) → folded (below_sent sent) below_risen s g ≡ below_with s (taken_in s.me g.ups s.entries) (fold sent s.inner g.sends)
   below_folded s g = ap (λ t. fold below_risen t g.ups) (below_sends s g.sends) ∙ below_ups (below_with s s.entries (fold sent s.inner g.sends)) g.ups
 
@@ -50,14 +50,14 @@ module _ {S : Type 0} (sent : S → MsgId → S) where
     same_as : t ≡ below_with s (taken_in s.me g.ups s.entries) (fold sent s.inner g.sends)
     same_as = h ∙ below_folded s g
 
-    -- what is borrowed is the same after the call
+    -- the borrowed column and sink are the same after the call
     pub below_column_name : t.column_name ≡ s.column_name
     below_column_name = ap (λ x. x.column_name) same_as
 
     pub below_out_name : t.out_name ≡ s.out_name
     below_out_name = ap (λ x. x.out_name) same_as
 
-    -- and so are the column's length and memory
+    -- the column's length and memory are the same after the call
     pub below_len : t.len ≡ s.len
     below_len = ap (λ x. x.len) same_as
 

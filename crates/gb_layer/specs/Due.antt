@@ -1,4 +1,4 @@
--- Where a relay has something due.
+-- The places at which a relay has something due.
 use Rattle.std.specs.Prelude.{◌≡◌, ℕ, ◌+◌, false, slice_get}
 use Rattle.std.specs.declared.option.Option.TheVariants.{Some}
 use Rattle.gb_types.specs.declared.node.NodeId.{NodeId}

@@ -1,4 +1,4 @@
--- The entries of a relay: what each change leaves of them.
+-- The entries of a relay, after each change.
 use Rattle.std.proofs.Common.{◌≡◌, ℕ, ◌+◌, Bool, true, false, cond, ◌&&◌, ◌||◌, List, [], ◌∷◌, ◌++◌, map, filter, slice_get, count_by, refl, ap, ◌∙◌, sym, arith, zero, suc}
 use Rattle.std.specs.declared.option.Option.TheVariants.{Some}
 use Rattle.std.specs.List.{list_any}
@@ -17,7 +17,7 @@ use Rattle.gb_layer.specs.Relay.{is_for, new_entry, noted, held_entry, sent_entr
 abbrev pub keys : List Entry → List MsgId
 keys = map (λ e. e.m)
 
--- a fact that a change in place leaves as it was
+-- a fact about an entry that a change in place keeps
 pub held_same : {A : Type 0} (p : Entry → A) (me via : NodeId) (x : MsgId) → ((e : Entry) → p (held_entry me via e) ≡ p e) → (e : Entry) → p (held me via x e) ≡ p e
 held_same p me via x k e = elim (is_for x e) as (λ b. p (cond b (held_entry me via e) e) ≡ p e) [ true ↦ k e | false ↦ refl ]
 
@@ -27,7 +27,7 @@ marked_same p x k e = elim (is_for x e) as (λ b. p (cond b (sent_entry e) e) �
 pub handed_same : {A : Type 0} (p : Entry → A) (due : Entry → Bool) → ((e : Entry) → p (given_entry e) ≡ p e) → (e : Entry) → p (handed due e) ≡ p e
 handed_same p due k e = elim (due e) as (λ b. p (cond b (given_entry e) e) ≡ p e) [ true ↦ k e | false ↦ refl ]
 
--- keys
+-- the messages of the entries
 pub keys_taken_in : (me : NodeId) (us : List Up) (es : List Entry) → keys (taken_in me us es) ≡ keys es
 keys_taken_in me [] es = refl
 keys_taken_in me (u ∷ us) es = keys_taken_in me us (map (held me u.via u.m) es) ∙ map_same (λ e. e.m) (held me u.via u.m) (λ e. e.m) (held_same (λ e. e.m) me u.via u.m (λ e. refl)) es
@@ -38,7 +38,7 @@ keys_marked x es = map_same (λ e. e.m) (marked_sent x) (λ e. e.m) (marked_same
 pub keys_handed : (due : Entry → Bool) (es : List Entry) → keys (map (handed due) es) ≡ keys es
 keys_handed due es = map_same (λ e. e.m) (handed due) (λ e. e.m) (handed_same (λ e. e.m) due (λ e. refl)) es
 
--- the entries stay those of the first mentions
+-- the entries are still those of the first mentions
 pub keys_noted : (past : List Call) (es : List Entry) (m : MsgId) → keys es ≡ first_mentions past → keys (noted es m) ≡ cond (mentions past m) (first_mentions past) (first_mentions past ++ m ∷ [])
 keys_noted past es m k = lists.keys_noted (λ e. e.m) past es (new_entry m) k
 
@@ -133,7 +133,7 @@ given_handed due new (e ∷ es) m =
       | false ↦ λ _. let c = count_by-cons (given_for m) e (map (handed due) es) in omega (arith, h, a, c)
     ] refl
 
--- an entry is there
+-- an entry of a message is in the list
 pub any_at : (es : List Entry) (i : ℕ) (e : Entry) → slice_get es i ≡ Some e → list_any (is_for e.m) es ≡ true
 any_at [] i e is = cc
 any_at (x ∷ es) zero e is =

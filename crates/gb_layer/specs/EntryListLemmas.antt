@@ -1,4 +1,4 @@
--- Entries of messages, whatever else an entry holds: which messages have one, and which of them are marked.
+-- Entries of messages, whatever other fields an entry has: which messages have an entry, and which of them are marked.
 use Rattle.std.proofs.Common.{◌≡◌, ℕ, ◌≤◌, Bool, true, false, cond, ◌&&◌, ◌||◌, List, [], ◌∷◌, ◌++◌, map, count_by, refl, ap, ◌∙◌, sym, subst}
 use Rattle.std.specs.List.{list_any}
 use Rattle.std.proofs.{Math.Bool.and-true, lemmas.List.map-append}
@@ -29,7 +29,7 @@ module _ {E : Type 0} (message : E → MsgId) where
   keys_grown true es e = refl
   keys_grown false es e = map-append message es (e ∷ [])
 
-  -- one more entry, if there is none of its message
+  -- the list with one more entry, if its message had none
   pub keys_noted : (past : List Call) (es : List E) (e : E) → map message es ≡ first_mentions past
       → map message (cond (list_any (is_for (message e)) es) es (es ++ e ∷ [])) ≡ cond (mentions past (message e)) (first_mentions past) (first_mentions past ++ message e ∷ [])
   keys_noted past es e k = keys_grown _ es e ∙ (λ i. cond (has_mentioned past es (message e) k i) (k i) (k i ++ message e ∷ []))

@@ -10,7 +10,7 @@ pub record Limit : Type 0 where
   pub members : Nodes
   pub msgs : ℕ
 
--- m is within the limit: it is a member's, and its number is from 1 to `msgs`
+-- m is within the limit: its origin is a member, and its number is from 1 to `msgs`
 abbrev pub is_counted : Limit → MsgId → Bool
 is_counted l m = set.contains l.members m.origin.number && (nat_le 1 m.seq && nat_le m.seq l.msgs)
 

@@ -12,14 +12,14 @@ use Rattle.gb_layer.specs.Sinks.{folded, SplitsRoom}
 abbrev pub messages_at : List MsgId → List ℕ → List MsgId
 messages_at ms = map (message_at ms)
 
--- pairs, in messages
+-- a pair, with the message instead of its place
 abbrev pub up_at : List MsgId → PlacedUp → Up
 up_at ms u = record { via = u.via; m = message_at ms u.place }
 
 abbrev pub ups_at : List MsgId → List PlacedUp → List Up
 ups_at ms = map (up_at ms)
 
--- what two lists hold, in messages, and how many more items they have room for
+-- the contents of the two lists, in messages, and the number of further items for which each has room
 pub record ListsState : Type 0 where
   pub sends : List MsgId
   pub ups : List Up
@@ -39,14 +39,14 @@ lists_risen s u = record { sends = s.sends; ups = s.ups ++ u ∷ []; free_sends 
 abbrev pub lists_takes : ListsState → Gives → Type 0
 lists_takes s g = (length g.sends ≤ s.free_sends) × (length g.ups ≤ s.free_ups)
 
--- many messages to send
+-- the state after many messages to send
 pub lists_sends : (s : ListsState) (ms : List MsgId) → fold lists_sent s ms ≡ record { sends = s.sends ++ ms; ups = s.ups; free_sends = s.free_sends - length ms; free_ups = s.free_ups }
 lists_sends s [] = let z : s.free_sends ≡ s.free_sends - 0 = omega arith in let e = sym (append-nil s.sends) in λ i. record { sends = e i; ups = s.ups; free_sends = z i; free_ups = s.free_ups }
 lists_sends s (m ∷ ms) =
     let z : s.free_sends - 1 - length ms ≡ s.free_sends - suc (length ms) = omega arith in
     lists_sends (lists_sent s m) ms ∙ (λ i. record { sends = append_assoc s.sends (m ∷ []) ms i; ups = s.ups; free_sends = z i; free_ups = s.free_ups })
 
--- many pairs
+-- the state after many pairs
 pub lists_ups : (s : ListsState) (us : List Up) → fold lists_risen s us ≡ record { sends = s.sends; ups = s.ups ++ us; free_sends = s.free_sends; free_ups = s.free_ups - length us }
 lists_ups s [] = let z : s.free_ups ≡ s.free_ups - 0 = omega arith in let e = sym (append-nil s.ups) in λ i. record { sends = s.sends; ups = e i; free_sends = s.free_sends; free_ups = z i }
 lists_ups s (u ∷ us) =

@@ -1,4 +1,4 @@
--- Messages by origin and number, and whether a list has one.
+-- Messages by origin and number, and whether a list contains one.
 use Rattle.std.specs.{Prelude.ℕ, Prelude.Bool, Prelude.List, List.list_any}
 use Rattle.gb_types.specs.declared.{node.NodeId.NodeId, message.MsgId.MsgId}
 use Rattle.gb_types.specs.Common.{same}

@@ -1,4 +1,4 @@
--- What a change at one place of a column makes of what is paired with the messages of an index.
+-- The pairs of messages and column elements after a change at one place of the column.
 use Rattle.std.proofs.Common.{◌≡◌, ℕ, ◌≤◌, ◌<◌, Bool, true, false, ◌||◌, List, [], ◌∷◌, ◌++◌, length, map, take, set, get_or, slice_get, refl, ap, sym, ◌∙◌, arith, zero, suc}
 use Rattle.std.specs.declared.option.Option.TheVariants.{Some}
 use Rattle.std.specs.List.{list_any}
@@ -41,14 +41,14 @@ module _ {H E : Type 0} (f : MsgId → H → E) where
   paired_grows (m ∷ ms) more [] le = refl
   paired_grows (m ∷ ms) more (h ∷ hs) le = let less : length hs ≤ length ms = omega (arith, le) in ap (λ es. f m h ∷ es) (paired_grows ms more hs less)
 
-  -- one more place
+  -- the column with one more place
   pub paired_push : (ms : List MsgId) (hs : List H) (h : H) → length hs < length ms → paired f ms (hs ++ h ∷ []) ≡ paired f ms hs ++ f (message_at ms (length hs)) h ∷ []
   paired_push [] hs h lt = absurd (omega arith)
   paired_push (m ∷ []) [] h lt = refl
   paired_push (m ∷ x ∷ ms) [] h lt = refl
   paired_push (m ∷ ms) (k ∷ hs) h lt = let less : length hs < length ms = omega (arith, lt) in ap (λ es. f m k ∷ es) (paired_push ms hs h less)
 
-  -- the places that are paired are those of both
+  -- a place of both the index and the column is a place of the pairs
   pub paired_within : (ms : List MsgId) (hs : List H) (i : ℕ) → i < length ms → i < length hs → i < length (paired f ms hs)
   paired_within [] hs i lt lt' = absurd (omega arith)
   paired_within (m ∷ ms) [] i lt lt' = absurd (omega arith)
@@ -58,7 +58,7 @@ module _ {H E : Type 0} (f : MsgId → H → E) where
       let b : i < length hs = omega (arith, lt') in
       let h = paired_within ms hs i a b in omega (arith, h)
 
-  -- what stands at a place
+  -- the pair at a place
   pub paired_get : (ms : List MsgId) (hs : List H) (i : ℕ) (d : H) → i < length ms → i < length hs → slice_get (paired f ms hs) i ≡ Some (f (message_at ms i) (get_or hs i d))
   paired_get [] hs i d lt lt' = absurd (omega arith)
   paired_get (m ∷ ms) [] i d lt lt' = absurd (omega arith)
@@ -67,7 +67,7 @@ module _ {H E : Type 0} (f : MsgId → H → E) where
       let a : i < length ms = omega (arith, lt) in
       let b : i < length hs = omega (arith, lt') in paired_get ms hs i d a b
 
-  -- one place is changed
+  -- the pairs after a change at one place
   pub paired_set : (ms : List MsgId) (hs : List H) (i : ℕ) (h : H) → i < length ms → i < length hs → paired f ms (set hs i h) ≡ set (paired f ms hs) i (f (message_at ms i) h)
   paired_set [] hs i h lt lt' = absurd (omega arith)
   paired_set (m ∷ ms) [] i h lt lt' = absurd (omega arith)
@@ -76,7 +76,7 @@ module _ {H E : Type 0} (f : MsgId → H → E) where
       let a : i < length ms = omega (arith, lt) in
       let b : i < length hs = omega (arith, lt') in ap (λ es. f m k ∷ es) (paired_set ms hs i h a b)
 
-  -- a change of what is paired with m, where m has no place
+  -- a change of the pairs of m changes nothing if m has no place
   pub changed_nowhere : (m : MsgId) (g : E → E) → ((x : MsgId) (h : H) → same x m ≡ false → g (f x h) ≡ f x h) → (ms : List MsgId) (hs : List H) → list_any (λ x. same x m) ms ≡ false → map g (paired f ms hs) ≡ paired f ms hs
   changed_nowhere m g leaves [] hs n = refl
   changed_nowhere m g leaves (x ∷ ms) [] n = refl
@@ -85,7 +85,7 @@ module _ {H E : Type 0} (f : MsgId → H → E) where
       let rest = changed_nowhere m g leaves ms hs (or_right (same x m) _ n) in
       λ i. first i ∷ rest i
 
-  -- a change of what is paired with the message at a place changes that place
+  -- a change of the pairs of the message at a place changes only that place
   pub changed_there : (ms : List MsgId) (hs : List H) (p : ℕ) (g : E → E) (d h : H) → ((x : MsgId) (k : H) → same x (message_at ms p) ≡ false → g (f x k) ≡ f x k) → g (f (message_at ms p) (get_or hs p d)) ≡ f (message_at ms p) h
       → all_differ ms ≡ true → p < length ms → p < length hs → paired f ms (set hs p h) ≡ map g (paired f ms hs)
   changed_there [] hs p g d h leaves is differ lt lt' = absurd (omega arith)
@@ -100,7 +100,7 @@ module _ {H E : Type 0} (f : MsgId → H → E) where
       let rest = changed_there ms hs p g d h leaves is (and_right _ _ differ) a b in
       λ i. sym first i ∷ rest i
 
-  -- a change of what is paired with a message whose place is not in the column changes nothing
+  -- a change of the pairs of a message whose place is not in the column changes nothing
   pub changed_beyond : (ms : List MsgId) (hs : List H) (p : ℕ) (g : E → E) → ((x : MsgId) (k : H) → same x (message_at ms p) ≡ false → g (f x k) ≡ f x k) → all_differ ms ≡ true → p < length ms → length hs ≤ p → paired f ms hs ≡ map g (paired f ms hs)
   changed_beyond [] hs p g leaves differ lt le = absurd (omega arith)
   changed_beyond (x ∷ ms) [] p g leaves differ lt le = refl
@@ -112,13 +112,13 @@ module _ {H E : Type 0} (f : MsgId → H → E) where
       let rest = changed_beyond ms hs p g leaves (and_right _ _ differ) a b in
       λ i. sym first i ∷ rest i
 
-  -- a test of what is paired with m, where m has no place
+  -- a test of the pairs of m fails everywhere if m has no place
   pub found_nowhere : (m : MsgId) (q : E → Bool) → ((x : MsgId) (h : H) → same x m ≡ false → q (f x h) ≡ false) → (ms : List MsgId) (hs : List H) → list_any (λ x. same x m) ms ≡ false → list_any q (paired f ms hs) ≡ false
   found_nowhere m q only [] hs n = refl
   found_nowhere m q only (x ∷ ms) [] n = refl
   found_nowhere m q only (x ∷ ms) (h ∷ hs) n = ap (λ b. b || list_any q (paired f ms hs)) (only x h (or_left _ _ n)) ∙ found_nowhere m q only ms hs (or_right (same x m) _ n)
 
-  -- a test of what is paired with the message at a place is a test of that place
+  -- a test of the pairs of the message at a place is a test at that place
   pub found_there : (ms : List MsgId) (hs : List H) (p : ℕ) (q : E → Bool) (d : H) → ((x : MsgId) (k : H) → same x (message_at ms p) ≡ false → q (f x k) ≡ false) → all_differ ms ≡ true → p < length ms → p < length hs
       → list_any q (paired f ms hs) ≡ q (f (message_at ms p) (get_or hs p d))
   found_there [] hs p q d only differ lt lt' = absurd (omega arith)
@@ -129,7 +129,7 @@ module _ {H E : Type 0} (f : MsgId → H → E) where
       let b : p < length hs = omega (arith, lt') in
       ap (λ b. b || list_any q (paired f ms hs)) (only x k (apart x ms p a (alone x ms differ))) ∙ found_there ms hs p q d only (and_right _ _ differ) a b
 
-  -- a test of what is paired with a message whose place is not in the column
+  -- a test of the pairs of a message whose place is not in the column fails everywhere
   pub found_beyond : (ms : List MsgId) (hs : List H) (p : ℕ) (q : E → Bool) → ((x : MsgId) (k : H) → same x (message_at ms p) ≡ false → q (f x k) ≡ false) → all_differ ms ≡ true → p < length ms → length hs ≤ p → list_any q (paired f ms hs) ≡ false
   found_beyond [] hs p q only differ lt le = absurd (omega arith)
   found_beyond (x ∷ ms) [] p q only differ lt le = refl
@@ -139,7 +139,7 @@ module _ {H E : Type 0} (f : MsgId → H → E) where
       let b : length hs ≤ p = omega (arith, le) in
       ap (λ b. b || list_any q (paired f ms hs)) (only x k (apart x ms p a (alone x ms differ))) ∙ found_beyond ms hs p q only (and_right _ _ differ) a b
 
-  -- before that place the test fails
+  -- the test fails at each place before that one
   pub first_there : (ms : List MsgId) (hs : List H) (p : ℕ) (q : E → Bool) → ((x : MsgId) (k : H) → same x (message_at ms p) ≡ false → q (f x k) ≡ false) → all_differ ms ≡ true → p < length ms → list_any q (take p (paired f ms hs)) ≡ false
   first_there [] hs p q only differ lt = absurd (omega arith)
   first_there (x ∷ ms) [] zero q only differ lt = refl

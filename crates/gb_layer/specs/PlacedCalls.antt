@@ -7,7 +7,7 @@ use Rattle.gb_types.specs.Common.{same}
 use Rattle.gb_layer.specs.declared.{call.Call.Call, placed_call.PlacedCall.PlacedCall, placed_call.PlacedCall.TheVariants.Say, placed_call.PlacedCall.TheVariants.Came, placed_call.PlacedCall.TheVariants.Notice}
 use Rattle.gb_layer.specs.declared.call.Call.TheVariants as call
 
--- what is read at a place where no message is
+-- the default message for a place without a message
 abbrev pub no_message : MsgId
 no_message = record { origin = record { number = 0; below = lit< tt }; seq = 0 }
 
@@ -20,7 +20,7 @@ abbrev pub all_differ : List MsgId → Bool
 all_differ [] = true
 all_differ (m ∷ ms) = not (list_any (λ x. same x m) ms) && all_differ ms
 
--- what a call says, in messages
+-- a call with its message instead of the message's place
 abbrev pub told : List MsgId → PlacedCall → Call
 told ms (Say p) = call.Say (message_at ms p)
 told ms (Came q p) = call.Came q (message_at ms p)
@@ -32,21 +32,21 @@ Names P (Say p) = P p
 Names P (Came q p) = P p
 Names P (Notice q) = Unit {0}
 
--- the place is one of the first n, or the next one
+-- the place p is one of the first n, or the next one, and is below w
 abbrev pub IsNext : ℕ → ℕ → ℕ → Type 0
 IsNext n w p = (p ≤ n) × (p < w)
 
--- the number of places that are told once p was told, after the first n
+-- the number of places that calls have named after one that names p, if they named the first n before
 abbrev pub reached : ℕ → ℕ → ℕ
 reached n p = cond (nat_eq n p) (n + 1) n
 
--- the number of places that are told after a call, if n were told before
+-- the number of places that calls have named after this call, if they named n before
 abbrev pub told_after : ℕ → PlacedCall → ℕ
 told_after n (Say p) = reached n p
 told_after n (Came q p) = reached n p
 told_after n (Notice q) = n
 
--- A layer was told of the first `count` places, and has memory for `memory` places. The place that the call names is the next one, or an earlier one.
+-- Earlier calls named the first `count` places, and the layer has memory for `memory` places. The call names the next place, an earlier one, or none.
 pub record MayTake (known : ℕ → ℕ → Type 0) (call : PlacedCall) : Type 0 where
   pub count : ℕ
   pub memory : ℕ

@@ -1,4 +1,4 @@
--- Layers of which each call sends at most one message.
+-- Layers in which each call sends at most one message.
 use Rattle.std.proofs.Common.{◌≤◌, length, arith}
 use Rattle.gb_layer.specs.declared.{call.Call.Call, call.Call.TheVariants.Say, call.Call.TheVariants.Came, call.Call.TheVariants.Notice}
 use Rattle.gb_layer.specs.BebMachine.{beb_gives}

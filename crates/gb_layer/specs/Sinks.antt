@@ -1,26 +1,26 @@
--- What a sink takes: the effects of a layer, one by one.
+-- The effects of a layer as a sink takes them, one by one.
 use Rattle.std.specs.Prelude.{List, [], ◌∷◌, ◌++◌, fold}
 use Rattle.gb_types.specs.declared.message.MsgId.{MsgId}
 use Rattle.gb_layer.specs.declared.effects.Up.{Up}
 use Rattle.gb_layer.specs.Machine.{Gives}
 
--- one message to send
+-- the effect that sends one message
 abbrev pub one_send : MsgId → Gives
 one_send m = record { sends = m ∷ []; ups = [] }
 
--- one pair that comes up
+-- the effect that brings up one pair
 abbrev pub one_up : Up → Gives
 one_up u = record { sends = []; ups = u ∷ [] }
 
--- messages to send alone
+-- the effects that send these messages and bring nothing up
 abbrev pub sends_alone : List MsgId → Gives
 sends_alone ms = record { sends = ms; ups = [] }
 
--- pairs that come up alone
+-- the effects that bring up these pairs and send nothing
 abbrev pub ups_alone : List Up → Gives
 ups_alone us = record { sends = []; ups = us }
 
--- the state of a sink that took the effects of a call: first what is sent, then what comes up
+-- the state of a sink that took the effects of a call: first the sends, then the pairs
 abbrev pub folded : {S : Type 0} → (S → MsgId → S) → (S → Up → S) → S → Gives → S
 folded sent risen s g = fold risen (fold sent s g.sends) g.ups
 

@@ -41,7 +41,7 @@ module _ {S : Type 0} (next : S → Call → S) (gives : S → Call → Gives) (
         | false ↦ λ _ l. f l
       ] refl k
 
-  -- m, which was mentioned and not sent, is relayed
+  -- a mentioned message that was not sent is relayed
   trace_relay : (past : List Call) (r : State S) (xs : List MsgId) (m : MsgId) → mentions past m ≡ true → is_sent r.entries m ≡ false → T past r xs → T past (relay next gives me r m) (xs ++ relay_sends next gives me r m)
   trace_relay past r xs m here fresh t =
       let us = (gives r.lower (Say m)).ups in
@@ -105,7 +105,7 @@ module _ {S : Type 0} (next : S → Call → S) (gives : S → Call → Gives) (
   said_pair : (past : List Call) (m : MsgId) (p : ℕ) (x : MsgId) → p ≢ node → came_from node (Say m ∷ past) p x ≡ came_from node past p x
   said_pair past m p x ne = or_off _ _ (and_left (nat_eq node p) (same m x) (ne_eqb node p (λ e. ne (sym e))))
 
-  -- the call itself
+  -- the run after the call itself
   trace_begun : (past : List Call) (r : State S) (xs : List MsgId) (c : Call) → T past r xs → T (c ∷ past) (begun next gives me r c) (xs ++ begun_sends next gives me r c)
   trace_begun past r xs (Say m) t =
       elim (is_sent r.entries m) as (λ b. is_sent r.entries m ≡ b → T (Say m ∷ past) (cond b r (relay next gives me (noting r m) m)) (xs ++ cond b [] (relay_sends next gives me r m))) [
@@ -162,7 +162,7 @@ module _ {S : Type 0} (next : S → Call → S) (gives : S → Call → Gives) (
         fair = λ f. (f.0, t.fair f.1);
       }
 
-  -- a repeated notice
+  -- the run after a repeated notice
   trace_repeat : (past : List Call) (r : State S) (xs : List MsgId) (c : Call) → is_repeat r c ≡ true → T past r xs → T (c ∷ past) r (xs ++ [])
   trace_repeat past r xs (Say m) h t = cc
   trace_repeat past r xs (Came p m) h t = cc
@@ -186,7 +186,7 @@ module _ {S : Type 0} (next : S → Call → S) (gives : S → Call → Gives) (
         | false ↦ λ _. trace_full past r xs c t
       ] refl
 
-  -- each history of the relay has one of the layer below
+  -- each history of the relay has a history of the layer below
   pub trace : (s : State S) → s.lower ≡ s0 → s.entries ≡ [] → (past : List Call) → T past (after (relay_next next gives me rules) s past) (all_sends (relay_next next gives me rules) (relay_gives next gives me rules) s past)
   trace s low es [] =
       record {

@@ -15,8 +15,8 @@ use crate::placed_call::PlacedCall;
 use crate::sink::Sink;
 use gb_types::{NodeId, OutOfMemory};
 
-/// Sends each message that is said. Hands up each message that is said and each that comes, from any node (Cachin, Guerraoui,
-/// Rodrigues 2011, Algorithm 3.1, Basic Broadcast). It keeps nothing of a message.
+/// Sends each message that this node broadcasts. Hands up each message that this node broadcasts and each message that arrives, from any
+/// node (Cachin, Guerraoui, Rodrigues 2011, Algorithm 3.1, Basic Broadcast). It stores nothing about a message.
 #[derive(Drop)]
 pub struct Beb {
     pub me: NodeId,

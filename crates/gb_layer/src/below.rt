@@ -13,7 +13,7 @@ use crate::placed_call::PlacedCall;
 use crate::sink::Sink;
 use gb_types::NodeId;
 
-/// Passes on each send. Records who holds what comes up.
+/// Passes each send on to the relay's own sink. For each message that comes up, records in the column that this node and the sender hold it.
 #[derive(Drop)]
 struct Below<'a, O> {
     me: NodeId,
@@ -46,7 +46,7 @@ impl<'a, O: Sink> Sink for Below<'a, O> {
     ghost splits = { below_splits O.sent O.risen O.takes O.splits };
 }
 
-/// Makes a call of the layer below, and records in the column who holds what comes up.
+/// Makes a call of the layer below. For each message that comes up, records in the column that this node and the sender hold it.
 #[inline(always)]
 pub(crate) fn call_lower<L: Layer, O: Sink>(
     lower: &mut L,

@@ -1,4 +1,4 @@
-//! The column of a relay: what it remembers of the message at each place.
+//! The column of a relay: what the relay remembers about the message at each place.
 ghost use Rattle.std.specs.Prelude.{◌≡◌, ◌≤◌, ◌<◌, ◌∷◌, [], length, map, filter, fold, set, get_or, vec_len, vec_capacity};
 ghost use Rattle.gb_types.specs.declared.message.MsgId.{MsgId};
 ghost use Rattle.gb_layer.specs.Relay.{noted, held, is_sent, marked_sent, handed, up_of, due_to_relay, due_to_deliver};
@@ -19,8 +19,8 @@ pub struct Held {
     pub given: bool,
 }
 
-/// What a relay decides by which messages it hands up: its rule, its node, the members of the group, and the nodes that are held for
-/// crashed.
+/// The values by which a relay decides which messages it hands up: its rule, its node, the members of the group, and the nodes that are
+/// noticed to have crashed.
 #[derive_where(Clone, Copy)]
 pub(crate) struct Basis<'a, R> {
     pub rule: &'a R,
@@ -29,7 +29,7 @@ pub(crate) struct Basis<'a, R> {
     pub noticed: &'a NodeSet,
 }
 
-/// Returns what is remembered of a message that was not mentioned before.
+/// Returns the state of a message that was not mentioned before: no holders, not sent, not handed up.
 #[inline(always)]
 fn nothing_held() -> Held
     ensures { result ≡ nothing_held }
@@ -63,7 +63,7 @@ fn give_one(one: &mut Held)
     one.given = true;
 }
 
-/// Returns true if `m`, of which this is remembered, is here and is to be relayed.
+/// Returns true if `m` is here and is to be relayed. `one` is what the relay remembers about `m`.
 #[inline(always)]
 pub(crate) fn is_due<R: Rule>(one: &Held, m: MsgId, rule: &R, me: NodeId, noticed: &NodeSet) -> bool
     ensures { result ≡ due_to_relay R.rules me noticed.now (entry_of m one.now) }
@@ -71,7 +71,7 @@ pub(crate) fn is_due<R: Rule>(one: &Held, m: MsgId, rule: &R, me: NodeId, notice
     !one.sent && (one.holders.contains(me) && rule.broadcasts(me, noticed, m))
 }
 
-/// Returns true if the message `m`, of which this is remembered, is here and is to be handed up.
+/// Returns true if the message is here and is to be handed up. `one` is what the relay remembers about the message.
 #[inline(always)]
 pub(crate) fn is_ready<R: Rule>(one: &Held, basis: Basis<'_, R>) -> bool
     ensures { (m : MsgId) → result ≡ due_to_deliver R.rules basis.entry.me basis.entry.members.now basis.entry.noticed.now (entry_of m one.now) }
@@ -85,7 +85,7 @@ pub(crate) fn is_ready<R: Rule>(one: &Held, basis: Basis<'_, R>) -> bool
     !one.given && (one.holders.contains(me) && rule.delivers(members, noticed, &one.holders))
 }
 
-/// Adds the message at `place` to the column, unless it is there.
+/// Adds an element for the message at `place` to the column, unless there is one.
 #[inline(always)]
 pub(crate) fn note(column: &mut Vec<Held>, index: &Index, place: u16)
     requires there { place < length index.now.list.items }

@@ -1,4 +1,4 @@
-//! A layer that hands up only what came from its origin.
+//! A layer that hands up only messages that came from their origin.
 ghost use Rattle.std.specs.Prelude.{◌≡◌, ℕ, ◌<◌, List, length};
 ghost use Rattle.gb_types.specs.declared.message.MsgId.{MsgId};
 ghost use Rattle.gb_layer.specs.DirectLemmas.{own_pairs, direct_sends_handed_in, direct_ups_handed_in, direct_up_once, direct_sent_once, direct_noticed_once};
@@ -15,8 +15,8 @@ use crate::placed_call::PlacedCall;
 use crate::sink::Sink;
 use gb_types::{NodeId, OutOfMemory};
 
-/// Hands up only what came from its origin. A copy that another node relayed is not handed up. Everything else is done by the lower
-/// layer. `Direct<Beb>` is best-effort broadcast (Cachin, Guerraoui, Rodrigues 2011, Module 3.1).
+/// Hands up only messages that came from their origin. A copy that another node relayed is not handed up. The lower layer does everything
+/// else. `Direct<Beb>` is best-effort broadcast (Cachin, Guerraoui, Rodrigues 2011, Module 3.1).
 #[derive(Drop)]
 pub struct Direct<L> {
     pub lower: L,
@@ -54,7 +54,7 @@ impl<'a, O: Sink> Sink for Own<'a, O> {
     ghost splits = { own_splits O.sent O.risen O.takes O.splits };
 }
 
-/// Makes a call of the lower layer. Hands up what came from its origin.
+/// Makes a call of the lower layer. Hands up the messages that came from their origin.
 #[inline(always)]
 fn take_own<L: Layer, O: Sink>(lower: &mut L, index: &Index, call: PlacedCall, out: &mut O)
     requires there { Names (λ p. p < length index.now.list.items) call }
@@ -69,7 +69,7 @@ fn take_own<L: Layer, O: Sink>(lower: &mut L, index: &Index, call: PlacedCall, o
 }
 
 impl<L: Layer> Direct<L> {
-    /// Returns a layer over `lower`. It remembers nothing besides what `lower` remembers.
+    /// Returns a layer over `lower`. It stores nothing besides what `lower` stores.
     pub fn new(lower: L) -> Direct<L>
         ensures meaning { (ms : List MsgId) → ⟦<Direct<L> as Layer>⟧.meaning ms result ≡ L.meaning ms lower }
         ensures fresh { (ms : List MsgId) → L.is_fresh (L.meaning ms lower) → ⟦<Direct<L> as Layer>⟧.is_fresh (⟦<Direct<L> as Layer>⟧.meaning ms result) }

@@ -17,8 +17,7 @@ use std::alloc::Global;
 /// The number of messages that an index can hold: one for each `u16`.
 pub const PLACES: usize = 65_536;
 
-/// The messages of a group, each at a place of its own, in the order in which they were added. A place stands for the same message
-/// for good.
+/// The messages of a group, each at a place of its own, in the order in which they were added. The message at a place never changes.
 #[derive(Drop)]
 pub struct Index {
     pub list: Vec<MsgId>,
@@ -43,8 +42,8 @@ impl Index {
         }
     }
 
-    /// Makes the index find the members' messages numbered from 1 to `width` without a search. It has no messages before. It takes two
-    /// bytes for each number of each node up to the last member.
+    /// Makes the index find the members' messages numbered from 1 to `width` without a search. The index has no messages before. It takes
+    /// two bytes for each number of each node up to the last member.
     pub fn cover(&mut self, members: &NodeSet, width: u16) -> Result<(), OutOfMemory>
         requires { self.old.list.items ≡ [] }
         ensures { self.new.list.items ≡ self.old.list.items }
@@ -98,8 +97,8 @@ impl Index {
         None
     }
 
-    /// Returns the place of `m`. `None` if `m` is not in the index. If its origin has no message of a number as great, nothing is looked
-    /// up.
+    /// Returns the place of `m`. `None` if `m` is not in the index. If the index has no message of this origin with a number as great,
+    /// nothing is looked up.
     pub fn find(&self, m: MsgId) -> Option<u16>
         ensures { MatchOption result (list_any (λ x. same x m) self.now.list.items ≡ false)
             (λ p. (p < length self.now.list.items) × (message_at self.now.list.items p ≡ m)) }
@@ -117,8 +116,8 @@ impl Index {
         self.last[origin.index()]
     }
 
-    /// Returns the place of the origin's message number `count + 1`. `None` if it is not in the index. If the origin has no message of a
-    /// greater number than `count`, nothing is looked up.
+    /// Returns the place of the origin's message number `count + 1`. `None` if it is not in the index. If the index has no message of the
+    /// origin with a number above `count`, nothing is looked up.
     pub fn find_next(&self, origin: NodeId, count: u16) -> Option<u16>
         ensures { MatchOption result (is_in self.now.list.items (numbered origin (count + 1)) ≡ false)
             (λ p. (p < length self.now.list.items) × (message_at self.now.list.items p ≡ numbered origin (count + 1))) }
@@ -130,7 +129,7 @@ impl Index {
         self.look_up(MsgId { origin, seq })
     }
 
-    /// Adds `m`, which is not in the index, at its end. There is memory for it, and a place. Returns its place.
+    /// Adds `m`, which is not in the index, at its end. There is memory for it, and a free place. Returns its place.
     pub fn push(&mut self, m: MsgId) -> u16
         requires new { list_any (λ x. same x m) self.old.list.items ≡ false }
         requires memory { vec_len self.old.list < vec_capacity self.old.list }

@@ -3,15 +3,15 @@ ghost use Rattle.gb_layer.specs.Laws.{ComesFromItsOrigin, SendsWhatWasHandedIn, 
 
 use crate::layer::Layer;
 
-/// A layer that makes nothing up and repeats nothing.
+/// A layer that sends and hands up only messages that it received in calls, each once.
 ///
-/// The caller's conditions: each message is said at most once; no pair of a sender and a message comes twice; who sends and who is
-/// noticed are other nodes. If the caller breaks them, only the two laws `up_once` and `sent_once` are lost.
+/// The caller's conditions: each message is broadcast here at most once; no pair of a sender and a message arrives twice; each sender and
+/// each noticed node is another node. If the caller breaks them, only the two laws `up_once` and `sent_once` are lost.
 pub trait Lawful: Layer {
-    /// Each message that is sent was handed in.
+    /// The layer sends only messages that it received in a call.
     ghost sends_handed_in: { SendsWhatWasHandedIn Self.next Self.gives Self.is_fresh };
 
-    /// Each message that comes up was handed in.
+    /// Each message that comes up was received in a call.
     ghost ups_handed_in: { HandsUpWhatWasHandedIn Self.next Self.gives Self.is_fresh };
 
     /// No pair comes up twice, if the caller keeps its conditions.
@@ -31,9 +31,8 @@ pub trait Broadcast: Lawful {
     ghost own_via: { ComesFromItsOrigin Self.gives };
 }
 
-/// A law of every broadcast: no message comes up twice, whichever way it comes, if the caller says each message at most once, hands
-/// in no pair of a sender and a message twice, and names only other nodes. The function does nothing when it runs; its contract is
-/// the law.
+/// A law of every broadcast: no message comes up twice, whichever way it comes, if the caller broadcasts each message at most once, passes
+/// in no pair of a sender and a message twice, and names only other nodes. The function does nothing when it runs; its contract is the law.
 pub fn each_once<L: Broadcast>()
     ensures { HandsUpEachOnce L.next L.gives L.is_fresh L.me }
 {}

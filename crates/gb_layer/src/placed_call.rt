@@ -1,4 +1,4 @@
-//! The calls of a layer that is told places.
+//! The calls of a layer, with messages named by places.
 use gb_types::NodeId;
 
 /// A call of a layer. Messages are named by their places in the index.

@@ -24,14 +24,14 @@ use crate::sink::Sink;
 use gb_types::{NodeId, NodeSet, OutOfMemory};
 use std::alloc::Global;
 
-/// Says below, once, each message that the rule broadcasts. Hands up, once, each message that the rule delivers, as received from
-/// its origin. A message is here once the layer below has brought it up; then this node holds it too. What one call releases is in
-/// the order of the places.
+/// Broadcasts in the layer below, once, each message that the rule broadcasts. Hands up, once, each message that the rule delivers, as
+/// received from its origin. A message is here once the layer below has brought it up; from then on this node holds it too. The messages
+/// that one call releases are in the order of the places.
 ///
-/// It keeps a column: who holds the message at each place, and whether it was sent and handed up. Between calls nothing is due at any
-/// place. So a call about a message looks at the place of that message alone: it relays the message and then hands it up, if that is
-/// due. A new notice first relays all that is due, and then hands up all that is due. The layer below owes that a call about a message
-/// brings up that message alone.
+/// It keeps a column: for the message at each place the nodes that hold it, and whether it was sent and handed up. Between calls nothing is
+/// due at any place. So a call about a message checks the place of that message alone: it relays the message and then hands it up, if that
+/// is due. A new notice first relays all that is due, and then hands up all that is due. The layer below has to bring up, in a call about a
+/// message, only that message.
 #[derive(Drop)]
 pub struct Relay<L, R> {
     lower: L,
@@ -44,7 +44,7 @@ pub struct Relay<L, R> {
 impl<L: Focused, R: Rule> Relay<L, R> {
     ghost use Rattle.gb_layer.specs.RelayColumn.{state_of, Knows, RelayKnows};
 
-    /// Returns a relay over the layer `lower`, by a rule, in a group with these members. It was told no place and has noticed nobody.
+    /// Returns a relay over the layer `lower`, by a rule, in a group with these members. No call has named a place yet, and no node is noticed.
     pub fn new(alloc: Global, lower: L, rule: R, members: NodeSet) -> Relay<L, R>
         ensures meaning { (ms : List MsgId) → ⟦<Relay<L, R> as Layer>⟧.meaning ms result ≡ at_start (L.meaning ms lower) members }
         ensures fresh { (ms : List MsgId) → L.is_fresh (L.meaning ms lower) → ⟦<Relay<L, R> as Layer>⟧.is_fresh (⟦<Relay<L, R> as Layer>⟧.meaning ms result) }
@@ -168,7 +168,7 @@ impl<L: Focused, R: Rule> Relay<L, R> {
         deliver_all(&mut self.column, index, basis, out);
     }
 
-    /// Says the message at `place` below, unless it was sent from here.
+    /// Broadcasts the message at `place` in the layer below, unless it was sent from here.
     #[inline(always)]
     fn begin_say<O: Sink>(&mut self, index: &Index, place: u16, out: &mut O)
         requires there { place < length index.now.list.items }
@@ -194,7 +194,7 @@ impl<L: Focused, R: Rule> Relay<L, R> {
         }
     }
 
-    /// Hands the message at `place` to the layer below.
+    /// Passes the message at `place`, which came from the node `from`, to the layer below.
     #[inline(always)]
     fn begin_came<O: Sink>(&mut self, index: &Index, from: NodeId, place: u16, out: &mut O)
         requires there { place < length index.now.list.items }
@@ -217,7 +217,7 @@ impl<L: Focused, R: Rule> Relay<L, R> {
         );
     }
 
-    /// Takes the message at `place`, which is said here.
+    /// Takes the message at `place`, which this node broadcasts.
     fn take_say<O: Sink>(&mut self, index: &Index, place: u16, out: &mut O)
         requires there { place < length index.now.list.items }
         requires known { MayTake (RelayKnows L.meaning L.me R.rules L.knows index.now.list.items self.old) (Say place) }
@@ -243,7 +243,7 @@ impl<L: Focused, R: Rule> Relay<L, R> {
         self.settle(index, usize::from(place), out);
     }
 
-    /// Records that `who` is noticed, and hands the notice to the layer below.
+    /// Records that `who` is noticed, and passes the notice to the layer below.
     fn begin_notice<O: Sink>(&mut self, index: &Index, who: NodeId, out: &mut O)
         requires known { MayTake (RelayKnows L.meaning L.me R.rules L.knows index.now.list.items self.old) (Notice who) }
         requires room { O.takes (O.state index.now.list.items out.old) (sends_alone (begun_sends L.next L.gives L.me (state_of L.meaning index.now.list.items self.old) (call.Notice who))) }
@@ -263,7 +263,7 @@ impl<L: Focused, R: Rule> Relay<L, R> {
         );
     }
 
-    /// Takes a notice. The notice of a node that was noticed before does nothing.
+    /// Takes a notice. A second notice of a node does nothing.
     fn take_notice<O: Sink>(&mut self, index: &Index, who: NodeId, out: &mut O)
         requires known { MayTake (RelayKnows L.meaning L.me R.rules L.knows index.now.list.items self.old) (Notice who) }
         requires room { O.takes (O.state index.now.list.items out.old) (relay_gives L.next L.gives L.me R.rules (state_of L.meaning index.now.list.items self.old) (told index.now.list.items (Notice who))) }

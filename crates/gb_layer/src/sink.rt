@@ -9,10 +9,10 @@ ghost use Rattle.gb_layer.specs.Sinks.{one_send, one_up, SplitsRoom};
 use crate::index::Index;
 use gb_types::NodeId;
 
-/// What takes the effects of a layer, one by one: messages to send to each other member, and pairs that come up.
+/// Takes the effects of a layer, one by one: messages to send to each other member, and pairs that come up.
 ///
-/// The state of a sink is a function of what it holds and of the messages of the index: contracts speak of messages, not of places.
-/// The state of a sink that borrows also tells one borrow from another, so that the lender knows that it gets its own back.
+/// The state of a sink is a function of its contents and of the messages of the index: contracts name messages, not places. The state of a
+/// sink that borrows also identifies the borrow, so that the lender knows that it gets its own value back.
 pub trait Sink {
     /// The state of the sink.
     ghost State: { Type 0 };

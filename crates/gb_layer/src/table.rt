@@ -17,7 +17,7 @@ use std::alloc::Global;
 pub struct Table {
     /// 0, or one more than the place.
     pub told: Vec<u16>,
-    /// 0 once a message came after more messages than a `u16` counts. Then the table covers no message.
+    /// 0 once a covered message was added at place 65,535 or above. Then the table covers no message.
     pub width: u16,
 }
 
@@ -70,8 +70,8 @@ impl Table {
         Ok(())
     }
 
-    /// Returns what the table says of the place of the message `m` in a list: 0 if `m` has none, else one more than the
-    /// place. `None` if the table does not cover `m`.
+    /// Returns the table's number for the message `m` of a list: 0 if `m` has no place there, else one more than its place. `None` if the
+    /// table does not cover `m`.
     pub fn told(&self, m: MsgId) -> Option<usize>
         ensures { result ≡ told self.now.width self.now.told.items m }
     {
@@ -81,7 +81,7 @@ impl Table {
         }
     }
 
-    /// Returns the index at which the table speaks of `m`, if it covers `m`.
+    /// Returns the index of the table's number for `m`. `None` if the table does not cover `m`.
     fn spot(&self, m: MsgId) -> Option<usize>
         ensures { MatchOption result (told self.now.width self.now.told.items m ≡ None)
             (λ at. (covers self.now.width m ≡ true) × (at ≡ spot self.now.width m) × (at < length self.now.told.items)) }
@@ -93,8 +93,8 @@ impl Table {
         if at < self.told.len() { Some(at) } else { None }
     }
 
-    /// Records that the message `m` stands at place `count` of a list, behind the others. If `count` is 65,535 or more, the
-    /// table covers no message from then on. Nothing changes if the table does not cover `m`. Takes no memory.
+    /// Records that the message `m` is at place `count` of a list, the last one. If `count` is 65,535 or more, the table covers no message
+    /// from then on. Nothing changes if the table does not cover `m`. Takes no memory.
     pub fn note(&mut self, m: MsgId, count: usize)
         ensures { (ms : List MsgId) → length ms ≡ count → list_any (λ x. same x m) ms ≡ false
             → leads self.old.width self.old.told.items 0 ms ≡ true → leads self.new.width self.new.told.items 0 (ms ++ m ∷ []) ≡ true }
@@ -111,8 +111,8 @@ impl Table {
         }
     }
 
-    /// Returns the range of places where `m` may stand in a list of `count` messages. If the table covers `m`, it is the place of
-    /// `m`, or no place. Else it is all places.
+    /// Returns the range of places where `m` can be in a list of `count` messages. If the table covers `m`, the range has the place of `m`
+    /// alone, or is empty. Otherwise it is all places.
     pub fn places(&self, m: MsgId, count: usize) -> Places
         ensures stands { (ms : List MsgId) → length ms ≡ count → leads self.now.width self.now.told.items 0 ms ≡ true
             → StandsAmong (λ x. same x m) result.from result.to ms }

@@ -1,4 +1,4 @@
--- A cut of bytes by places, as a cut of a list.
+-- A cut of bytes by indices, as a cut of a list.
 use Rattle.gb_types.specs.Common.{◌≡◌, ◌≢◌, ℕ, suc, ◌+◌, ◌-◌, ◌<◌, ◌≤◌, Bool, true, List, [], ◌∷◌, ◌++◌, length, take, drop, get_or, Some, None, refl, sym, ap, ◌∙◌, inl, inr, arith, between, cases_lt, eqb-true, eq-eqb, take-append-drop, take-take, drop-take, drop-drop, drop_more, take_at, take-append-le, length-append, length-drop, length-take-le, take-append-add, All-from_get_or, All-get_or, copy_within}
 use Rattle.std.proofs.{lemmas.List.Edits.length-between, lemmas.List.Edits.get_or-between, lemmas.Slice.between_from_start}
 use borrow.Rule.Slice.PartMut.{put_mid, post_of}
@@ -6,7 +6,7 @@ use Rattle.memchr.specs.Find.{IsFirst, Passes, is_byte}
 use Rattle.gb_lines.specs.Lines.{IsLine}
 use Rattle.gb_lines.specs.Buffered.{NoLineFeed, CutsLine, IsTooLong}
 
--- a part of a list, cut at a place in it
+-- a part of a list, cut at an index in it
 pub between-join : (xs : List ℕ) (i m j : ℕ) → i ≤ m → m ≤ j → between i j xs ≡ between i m xs ++ between m j xs
 between-join xs i m j low high =
     let n : ℕ = m - i in
@@ -31,7 +31,7 @@ IsLine-between xs i j high none =
     let count : length (between i j xs) ≡ j - i = length-between xs i j high in
     All-from_get_or (λ b. b ≢ 10) (between i j xs) 0 (λ k low. rw (get_or-between xs i j k 0 (omega arith)) (none (i + k) (omega arith) (omega arith)))
 
--- a line has no line feed, so none stands at a place in it
+-- a line has no line feed, so no index in it has one
 pub no_place_within : (xs : List ℕ) (i place j : ℕ) → i ≤ place → place < j → j ≤ length xs → get_or xs place 0 ≡ 10 → IsLine (between i j xs) → ⊥
 no_place_within xs i place j low high within feed line =
     let count : length (between i j xs) ≡ j - i = length-between xs i j within in
@@ -39,7 +39,7 @@ no_place_within xs i place j low high within feed line =
     let here : i + (place - i) ≡ place = omega arith in
     All-get_or (λ b. b ≢ 10) (between i j xs) (place - i) 0 (omega arith) line (at ∙ ap (λ q. get_or xs q 0) here ∙ feed)
 
--- the line before a line feed
+-- a cut at the first line feed yields the line before it
 pub cuts_here : (xs : List ℕ) (i place j : ℕ) (has_ended : Bool) → i ≤ place → place < j → j ≤ length xs → get_or xs place 0 ≡ 10 → NoLineFeed xs i place → place ≤ i + 65536 → CutsLine (between i place xs) (between i j xs) (between (place + 1) j xs) has_ended
 cuts_here xs i place j has_ended low high within feed none short =
     let count : length (between i place xs) ≡ place - i = length-between xs i place (omega arith) in
@@ -47,7 +47,7 @@ cuts_here xs i place j has_ended low high within feed none short =
     between-join xs i place j low (omega arith) ∙ ap (λ ys. between i place xs ++ ys) (between-first xs place j high within ∙ ap (λ b. b ∷ between (place + 1) j xs) feed) in
     record { whole = IsLine-between xs i place (omega arith) none; short = omega arith; consumed = inl split }
 
--- the last line, without a line feed
+-- a cut at the end yields the last line, without a line feed
 pub cuts_last : (xs : List ℕ) (i j : ℕ) → i < j → j ≤ length xs → NoLineFeed xs i j → j ≤ i + 65536 → CutsLine (between i j xs) (between i j xs) [] true
 cuts_last xs i j some within none short =
     let count : length (between i j xs) ≡ j - i = length-between xs i j within in
@@ -62,7 +62,7 @@ too_long_here xs i place j low high within none long =
     let count : length (between i place xs) ≡ place - i = length-between xs i place (omega arith) in
     (between i place xs, between place j xs, IsLine-between xs i place (omega arith) none, omega arith, between-join xs i place j low high)
 
--- what a search of a part says of the whole
+-- a search of a part finds the line feed in the whole list
 pub feed_found : (xs : List ℕ) (i j n : ℕ) → j ≤ length xs → IsFirst (Passes (is_byte 10) (between i j xs)) 0 (length (between i j xs)) (Some n)
     → (i ≤ i + n) × (i + n < j) × (get_or xs (i + n) 0 ≡ 10) × NoLineFeed xs i (i + n)
 feed_found xs i j n within found =
@@ -83,7 +83,7 @@ feed_none xs i j within none k a b is =
     let shifted : get_or xs (i + (k - i)) 0 ≡ get_or xs k 0 = ap (λ q. get_or xs q 0) (omega arith) in
     none (k - i) (omega arith) (omega arith) (eq-eqb (get_or (between i j xs) (k - i) 0) 10 (get_or-between xs i j (k - i) 0 (omega arith) ∙ shifted ∙ is))
 
--- the front of two lists, past the first
+-- a prefix of two lists that is longer than the first
 take-past : (xs ys : List ℕ) (n k : ℕ) → length xs ≡ n → take (n + k) (xs ++ ys) ≡ xs ++ take k ys
 take-past xs ys n k count = ap (λ m. take m (xs ++ ys)) (omega arith) ∙ take-append-add xs ys k
 
@@ -93,7 +93,7 @@ length-behind xs buf n k whole part =
     let front : length (take n xs) ≡ n = length-take-le n xs (omega arith) in
     length-append (take n xs) (buf ++ post_of n k xs) ∙ ap (λ q. q + length (buf ++ post_of n k xs)) front ∙ ap (λ q. n + q) (length-append buf (post_of n k xs)) ∙ omega arith
 
--- after a part was moved to the front and bytes were read behind it
+-- the bytes after a part was moved to the front and bytes were read behind it
 pub read_behind : (xs moved buf : List ℕ) (i j k count : ℕ) → i ≤ j → j ≤ length xs → moved ≡ copy_within xs i j 0 → count ≤ length buf
     → between 0 (j - i + count) (put_mid (j - i) k moved buf) ≡ between i j xs ++ take count buf
 read_behind xs moved buf i j k count low high is short =
@@ -104,7 +104,7 @@ read_behind xs moved buf i j k count low high is short =
     between_from_start (put_mid n k moved buf) (n + count) ∙ ap (λ ys. take (n + count) (ys ++ (buf ++ post_of n k moved))) front
     ∙ take-past (between i j xs) (buf ++ post_of n k moved) n count part ∙ ap (λ ys. between i j xs ++ ys) back
 
--- the same, as the bytes of a vector of that length
+-- the same for the bytes of a vector of that length
 pub read_behind_in : (xs moved buf old : List ℕ) (i j k count len : ℕ) → i ≤ j → j ≤ length xs → moved ≡ copy_within xs i j 0 → count ≤ length buf
     → length moved ≡ len → (j - i) + k ≡ len → length buf ≡ k
     → between 0 (j - i + count) (take len (put_mid (j - i) k moved buf ++ old)) ≡ between i j xs ++ take count buf

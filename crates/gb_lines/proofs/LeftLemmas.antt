@@ -1,11 +1,11 @@
--- What is left of a text, from what a cut of the unread bytes says.
+-- The bytes of a text that are still to be returned, after a cut of the unread bytes.
 use Rattle.gb_types.specs.Common.{◌≡◌, ℕ, Bool, true, false, List, ◌++◌, Option, Some, None, if◌then◌else◌, sym, ap, ◌∙◌, inl, inr, IfSome, false≢true, append_assoc}
 use Rattle.std.specs.Io.KnownBytes.{Keeps, Consumes, prepend_known}
 use Rattle.gb_lines.specs.Lines.{GivesLine, BeginsLonger}
 use Rattle.gb_lines.specs.Buffered.{Buffered, left, WhereKnown, CutsLine, IsTooLong}
 use Rattle.gb_lines.proofs.LineLemmas.{gives_ended, gives_last, begins_longer}
 
--- a cut takes the first line of all that is left
+-- a cut takes the first line of all bytes that are still to be returned
 cut_line : (line old new more : List ℕ) → CutsLine line old new false → GivesLine line (old ++ more) (new ++ more)
 cut_line line old new more cut = elim cut.consumed [
   | inl here ↦ rw (here, append_assoc) (gives_ended line (new ++ more) cut.whole)
@@ -50,7 +50,7 @@ left_too_long_at (Some text) (Some more) unread false reads m keeps long = rw (�
 pub left_too_long : (before known : Option (List ℕ)) (old : Buffered) → Keeps before (left old known) → IsTooLong old.unread → IfSome before (BeginsLonger 65536)
 left_too_long before known old keeps long = left_too_long_at before known old.unread old.has_ended old.reads old.line keeps long
 
--- a read moves bytes from the reader to the unread ones, and nothing is lost
+-- a read moves bytes from the reader to the unread bytes, and loses none
 read_kept : (unread piece : List ℕ) (known after : Option (List ℕ)) → Consumes known after piece → Keeps (prepend_known unread known) (prepend_known (unread ++ piece) after)
 read_kept unread piece None after moved = tt
 read_kept unread piece (Some bytes) None moved = absurd moved

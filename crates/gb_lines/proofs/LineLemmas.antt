@@ -9,12 +9,12 @@ lines_of-ended (b ∷ bs) more is_line =
     let here : b ≢ 10 = All-head (λ x. x ≢ 10) b bs is_line in
     rw (ne_eqb b 10 here, lines_of-ended bs more (All-tail (λ x. x ≢ 10) b bs is_line))
 
--- a byte that ends no line stands in front of the first line
+-- a byte that ends no line is put in front of the first line
 onto_first-front : (b : ℕ) (lines : List (List ℕ)) → (tail : List ℕ) × (more : List (List ℕ)) × (onto_first b lines ≡ (b ∷ tail) ∷ more)
 onto_first-front b [] = ([], [], refl)
 onto_first-front b (line ∷ lines) = (line, lines, refl)
 
--- bytes without a line feed begin the first line
+-- bytes without a line feed are a prefix of the first line
 pub lines_of-begun : (b : ℕ) (bs more : List ℕ) → IsLine (b ∷ bs) → (tail : List ℕ) × (lines : List (List ℕ)) × (lines_of (b ∷ bs ++ more) ≡ (b ∷ bs ++ tail) ∷ lines)
 lines_of-begun b [] more is_line =
     let here : b ≢ 10 = All-head (λ x. x ≢ 10) b [] is_line in
@@ -39,7 +39,7 @@ pub gives_last : (line : List ℕ) → IsLine line → line ≢ [] → GivesLine
 gives_last [] is_line some = absurd (some refl)
 gives_last (b ∷ bs) is_line some = record { first = lines_of-last b bs is_line; consumed = inr (refl, refl) }
 
--- bytes without a line feed make the first line at least as long
+-- if a text begins with bytes without a line feed, its first line has at least their length
 pub begins_longer : (most : ℕ) (line more : List ℕ) → IsLine line → most < length line → BeginsLonger most (line ++ more)
 begins_longer most [] more is_line long = absurd (omega arith)
 begins_longer most (b ∷ bs) more is_line long =

@@ -1,4 +1,4 @@
--- What the lines of a text are, by induction on the lines and on the text.
+-- The lines of a text, by induction on the lines and on the text.
 use Rattle.gb_types.specs.Common.{◌≡◌, ◌≢◌, ℕ, ◌⊎◌, List, [], ◌∷◌, ◌++◌, length, refl, ap, ◌∙◌, inl, inr, arith, onto_first, flat_map, All, cases_eq, eq-eqb, ne_eqb, append_assoc, length-append, All-nil, All-cons, All-head, All-tail}
 use Rattle.gb_lines.specs.Lines.{lines_of, IsLine, ended}
 use Rattle.gb_lines.specs.LineLaws.{WrittenLinesAreRead, LastMayLackItsLineFeed, EachTextIsItsLines}

@@ -1,4 +1,4 @@
--- What stands in a line buffer, and what is left of a text that is read through one.
+-- The content of a line buffer, and the bytes of a text that are still to be returned through it.
 use Rattle.std.specs.Prelude.{◌≡◌, ◌≢◌, ℕ, ◌<◌, ◌≤◌, ◌⊎◌, Bool, true, false, List, [], ◌∷◌, ◌++◌, length, Option, None, Some, ⊤, if◌then◌else◌, slice_index}
 use Rattle.std.specs.Io.KnownBytes.{prepend_known}
 use Rattle.gb_lines.specs.declared.lines.TheConstants.{LINE}
@@ -11,17 +11,17 @@ pub record Buffered : Type 0 where
   pub has_ended : Bool
   pub reads : ℕ
 
--- what is left of the text: the bytes that were read and not returned, and then those that the reader will return
+-- the bytes of the text that are still to be returned: those that were read and not returned, and then those that the reader will return
 abbrev pub left : Buffered → Option (List ℕ) → Option (List ℕ)
 left buffered remaining = if buffered.has_ended then Some buffered.unread else prepend_known buffered.unread remaining
 
--- P holds of the bytes left before and after, if they are known
+-- P holds of the bytes that were to be returned before and after, if they are known
 abbrev pub WhereKnown : (List ℕ → List ℕ → Type 0) → Option (List ℕ) → Option (List ℕ) → Type 0
 WhereKnown P None new = ⊤
 WhereKnown P (Some old) None = ⊥
 WhereKnown P (Some old) (Some new) = P old new
 
--- no byte from place i up to place j is a line feed
+-- no byte from index i up to index j is a line feed
 abbrev pub NoLineFeed : List ℕ → ℕ → ℕ → Type 0
 NoLineFeed bytes i j = (k : ℕ) → i ≤ k → k < j → slice_index bytes k ≢ 10
 

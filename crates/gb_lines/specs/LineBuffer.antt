@@ -1,4 +1,4 @@
--- How a line buffer keeps what stands in it.
+-- How a line buffer stores its content.
 use Rattle.std.specs.Prelude.{◌≡◌, ◌≤◌, slice_range, vec_len}
 use Rattle.gb_lines.specs.declared.{lines.TheConstants.SPACE, lines.TheConstants.READS, lines.LineBuffer.TheInside.Inside}
 use Rattle.gb_lines.specs.Buffered.{Buffered, NoLineFeed}
@@ -11,7 +11,7 @@ buffered b = record {
   reads = b.reads;
 }
 
--- The line stands in front of the unread bytes, and those before `searched` hold no line feed.
+-- The line is in front of the unread bytes, and the bytes before `searched` have no line feed.
 pub record IsKept (b : Inside) : Type 0 where
   pub space : vec_len b.bytes ≡ SPACE
   pub line : b.line_start ≤ b.line_end

@@ -1,4 +1,4 @@
--- The laws that say what the lines of a text are.
+-- The laws that define the lines of a text.
 use Rattle.std.specs.Prelude.{◌≡◌, ◌≢◌, ℕ, ◌⊎◌, List, [], ◌∷◌, ◌++◌, All}
 use Rattle.std.specs.List.{flat_map}
 use Rattle.gb_lines.specs.Lines.{lines_of, IsLine, ended}

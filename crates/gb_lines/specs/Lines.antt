@@ -1,21 +1,21 @@
--- Lines as POSIX has them: a line ends at a line feed, and the last one may lack it.
+-- Lines as in POSIX: a line ends at a line feed, and the last one may lack it.
 use Rattle.std.specs.Prelude.{◌≡◌, ◌≢◌, ℕ, ◌<◌, ◌⊎◌, List, [], ◌∷◌, ◌++◌, length, if◌then◌else◌, ◌==◌, All}
 use Rattle.std.specs.List.{onto_first}
 
--- the pieces of a text between its line feeds; an empty rest after the last line feed is no line
+-- the pieces of a text between its line feeds; if no byte follows the last line feed, no line does
 abbrev pub lines_of : List ℕ → List (List ℕ)
 lines_of [] = []
 lines_of (byte ∷ bytes) = if byte == 10 then [] ∷ lines_of bytes else onto_first byte (lines_of bytes)
 
--- each byte of a line is other than a line feed
+-- no byte of a line is a line feed
 abbrev pub IsLine : List ℕ → Type 0
 IsLine line = All (λ byte. byte ≢ 10) line
 
--- a line as it stands in a text
+-- a line with its line feed
 abbrev pub ended : List ℕ → List ℕ
 ended line = line ++ 10 ∷ []
 
--- this is the first line of the text, and behind it and its line feed comes the rest
+-- this is the first line of the text, and the rest follows its line feed
 pub record GivesLine (line text rest : List ℕ) : Type 0 where
   pub first : lines_of text ≡ line ∷ lines_of rest
   pub consumed : (text ≡ line ++ 10 ∷ rest) ⊎ ((text ≡ line) × (rest ≡ []))

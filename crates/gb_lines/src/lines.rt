@@ -11,33 +11,33 @@ use std::alloc::Global;
 use std::io::{Error, ErrorKind, Read};
 use std::marker::Model;
 
-/// The bytes of the longest line, its line feed not counted.
+/// The number of bytes of the longest line, without its line feed.
 pub const LINE: usize = 65_536;
 
 const _: () = prove!(LINE == 65_536);
 
-/// The most reads that are made.
+/// The greatest number of reads that are made.
 pub const READS: u64 = 64_000_000;
 
 const _: () = prove!(READS == 64_000_000);
 
-/// The size of the buffer in bytes: a line that is not whole yet, and as much again for a read.
+/// The size of the buffer in bytes: a line that is not whole yet, and the same number of bytes for a read.
 const SPACE: usize = 131_072;
 
 const _: () = prove!(SPACE == 131_072 && SPACE == 2 * LINE);
 
-/// What comes next in a text.
+/// The next item of a text: a line or its end.
 #[derive(Clone, Copy, PartialEq, Eq)]
 pub enum NextLine {
     /// A line, which `LineBuffer::line` shows.
     Given,
-    /// A line of more than `LINE` bytes. Neither it nor a line behind it can be returned.
+    /// A line of more than `LINE` bytes. Neither it nor any line behind it can be returned.
     TooLong,
     /// No line: the text is at its end.
     End,
 }
 
-/// Why no line came.
+/// Why no line was found.
 #[derive(Clone, Copy, Debug, PartialEq, Eq, thiserror::Error)]
 pub enum LinesFault {
     /// A read failed.
@@ -48,16 +48,16 @@ pub enum LinesFault {
     TooManyReads,
 }
 
-/// A law of `LineBuffer`: lines that were written, each with its line feed, are the lines that are read, even if the last one lacks
-/// its line feed; and each text is its lines. The function does nothing when it runs; its contract is the law.
+/// A law of `LineBuffer`, with nothing to run: lines that were written, each with its line feed, are the lines that are read, even if the
+/// last one lacks its line feed; and each text consists of its lines.
 pub fn lines_are_the_pieces_of_a_text()
     ensures written { WrittenLinesAreRead }
     ensures last { LastMayLackItsLineFeed }
     ensures each { EachTextIsItsLines }
 {}
 
-/// Reads a text in large pieces and returns its lines, one at a time. A read of 0 bytes is the end of
-/// the text, and no read is made after it. A read that a signal interrupted is made again.
+/// Reads a text in large pieces and returns its lines, one at a time. A read of 0 bytes is the end of the text, and no read is made after
+/// it. A read that a signal interrupted is made again.
 pub struct LineBuffer {
     bytes: Vec<u8>,
     line_start: usize,
@@ -85,7 +85,7 @@ impl Drop for LineBuffer {
     }
 }
 
-// Returns the index of the first line feed from `from` up to `to`. `None` if there is none.
+// Returns the index of the first line feed from `from` up to `to`, or `None` if there is none.
 #[inline(always)]
 fn line_feed_within(bytes: &[u8], from: usize, to: usize) -> Option<usize>
     requires ordered { from ≤ to }
@@ -94,7 +94,7 @@ fn line_feed_within(bytes: &[u8], from: usize, to: usize) -> Option<usize>
         × (slice_index bytes.now place ≡ 10) × NoLineFeed bytes.now from place) }
     ensures none { IfNone result (NoLineFeed bytes.now from to) }
 {
-    // An earlier search may have ended at a line feed, which then stands at `from`.
+    // An earlier search may have ended at a line feed, which is then at `from`.
     if from < to && bytes[from] == b'\n' {
         return Some(from);
     }
@@ -118,8 +118,8 @@ fn search_line_feed(bytes: &[u8], from: usize, to: usize) -> usize
     }
 }
 
-// Returns the fault for the error of a read. `Ok` if a signal interrupted it: the next read is then made as after a read
-// that returned nothing.
+// Returns the fault for the error of a read. Returns `Ok` if a signal interrupted the read; the next read is then made as after a read that
+// returned nothing.
 fn judge_error(error: &Error) -> Result<(), LinesFault>
     ensures interrupted { error_kind error.now ≡ ErrorKind.Interrupted → result ≡ Ok tt }
     ensures failed { error_kind error.now ≢ ErrorKind.Interrupted → result ≡ Err LinesFault.Read }
@@ -130,8 +130,8 @@ fn judge_error(error: &Error) -> Result<(), LinesFault>
     }
 }
 
-// Moves a part of the bytes to the front. It is not copied if it stands there already. So an unfinished
-// line is copied at most once while more bytes come behind it.
+// Moves a part of the bytes to the front. If it is there already, nothing is copied. So an unfinished line is copied at most once while
+// more bytes are read behind it.
 fn move_to_front(bytes: &mut Vec<u8>, start: usize, end: usize)
     requires ordered { start ≤ end }
     requires within { end ≤ vec_len bytes.old }
@@ -143,7 +143,7 @@ fn move_to_front(bytes: &mut Vec<u8>, start: usize, end: usize)
     }
 }
 
-// Returns the space, filled with zeros.
+// Returns the space of a buffer, filled with zeros.
 fn make_space(alloc: Global) -> Result<Vec<u8>, OutOfMemory>
     ensures { IfOk result (λ bytes. vec_len bytes ≡ SPACE) }
 {
@@ -164,8 +164,8 @@ impl Model for LineBuffer {
 }
 
 impl LineBuffer {
-    /// Returns a buffer that reads a text line by line, before its first read. It takes 131,072 bytes, and no more later. `Err` if
-    /// memory is refused.
+    /// Returns a buffer that reads a text line by line, and that has made no read. It takes 131,072 bytes, and no more later. Returns `Err`
+    /// if memory is refused.
     pub fn new(alloc: Global) -> Result<LineBuffer, OutOfMemory>
         ensures { IfOk result
             (λ lines. lines ≡ record { line = []; unread = []; has_ended = false; reads = 0 }) }
@@ -182,15 +182,15 @@ impl LineBuffer {
         })
     }
 
-    /// Returns the line that the last call of `next` found, without its line feed. It is empty if that call found none, or if there
-    /// was no call.
+    /// Returns the line that the last call of `next` found, without its line feed. It is empty if that call found none, or if there was no
+    /// call.
     pub fn line(&self) -> &[u8]
         ensures { result.now ≡ self.now.line }
     {
         &self.bytes[self.line_start..self.line_end]
     }
 
-    /// Returns true if `next` cannot find the next line, its excess length or the end of the text without a read.
+    /// Returns true if `next` needs a read to find the next line, that it is too long, or the end of the text. Returns false otherwise.
     pub fn wants_read(&self) -> bool
         ensures { IsTrue result ↔ WantsRead self.now }
     {
@@ -203,7 +203,7 @@ impl LineBuffer {
         }
     }
 
-    // Finds the next line, if the unread bytes tell it. `None`: a read is needed.
+    // Finds the next line in the unread bytes, or that it is too long, or the end of the text. Returns `None` if that needs a read.
     fn cut(&mut self) -> Option<NextLine>
         ensures given { result ≡ Some NextLine.Given
             → CutsLine self.new.line self.old.unread self.new.unread self.old.has_ended }
@@ -281,10 +281,10 @@ impl LineBuffer {
         }
     }
 
-    /// Finds the next line of the text, and reads from `reader` if that is needed. Returns `Given` if there is one, which `line`
-    /// then returns; `TooLong` if it has more than 65,536 bytes; `End` if the text is at its end. `Err` with `Read` if a read
-    /// failed, and with `TooManyReads` if 64,000,000 reads were made and one more is needed. If no line is found, nothing of the
-    /// text is lost. Takes no memory.
+    /// Finds the next line of the text, and reads from `reader` if that is needed. Returns `Given` if there is one, which `line` then
+    /// returns; `TooLong` if it has more than 65,536 bytes; `End` if the text is at its end. Returns `Err` with `Read` if a read failed,
+    /// and with `TooManyReads` if 64,000,000 reads were made and one more is needed. If no line is found, no byte of the text is lost.
+    /// Takes no memory.
     pub fn next<R: Read>(&mut self, reader: &mut R) -> Result<NextLine, LinesFault>
         ensures given { result ≡ Ok NextLine.Given
             → WhereKnown (GivesLine self.new.line) (left self.old (R.remaining reader.old))

@@ -9,11 +9,11 @@ at_most_one : (b : Bool) → 0 + cond {A = ℕ} b 1 0 ≤ 1
 at_most_one true = omega arith
 at_most_one false = omega arith
 
--- an arrival that changes nothing
+-- an arrival that changes nothing keeps the bound on how often a number is First
 unchanged : (s : Received) (n m : ℕ) (ms : List ℕ) → firsts s n ms + cond (set.contains s n) 1 0 ≤ 1 → cond {A = ℕ} (nat_eq m n && false) 1 0 + firsts s n ms + cond (set.contains s n) 1 0 ≤ 1
 unchanged s n m ms rest = let none = ap (λ b. cond {A = ℕ} b 1 0) (and-false (nat_eq m n)) in omega (arith, rest, none)
 
--- a first arrival
+-- an arrival that is First keeps that bound
 inserted : (s : Received) (n m : ℕ) (ms : List ℕ) → firsts (set.insert s m) n ms + cond (set.contains (set.insert s m) n) 1 0 ≤ 1 → set.contains s m ≡ false
     → cond {A = ℕ} (nat_eq m n && true) 1 0 + firsts (set.insert s m) n ms + cond (set.contains s n) 1 0 ≤ 1
 inserted s n m ms rest lacks =
@@ -26,7 +26,7 @@ inserted s n m ms rest lacks =
       | false ↦ λ _ one. omega (arith, rest, one)
     ] refl after
 
--- a number is First once at most, and not at all where it was received before
+-- a number is First at most once, and never if it was received before
 pub firsts_most : (s : Received) (n : ℕ) (ms : List ℕ) → firsts s n ms + cond (set.contains s n) 1 0 ≤ 1
 firsts_most s n [] = at_most_one (set.contains s n)
 firsts_most s n (m ∷ ms) =

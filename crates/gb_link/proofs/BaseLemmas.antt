@@ -6,11 +6,11 @@ use Rattle.std.proofs.lemmas.Nat.Bits.{bit_at_lowest, bit_at-suc, bit_at-zero}
 use Rattle.gb_link.specs.Received.{Received, first_missing, base_of, word_of}
 use Rattle.gb_link.proofs.TestLemmas.{lt_true, lt_false, eq_true, eq_false}
 
--- a count, with one more element
+-- a count over a list with one more element
 pub count-cons : {X : Type 0} (p : X → Bool) (x : X) (xs : List X) → count_by p (x ∷ xs) ≡ cond (p x) 1 0 + count_by p xs
 count-cons p x xs = let e = sum_by-append (λ y. cond {A = ℕ} (p y) 1 0) (x ∷ []) xs in omega (arith, e)
 
--- how many of the numbers are n or above
+-- the number of elements that are n or above
 pub from : ℕ → List ℕ → ℕ
 from n xs = count_by (λ x. nat_le n x) xs
 
@@ -24,7 +24,7 @@ from_less n (x ∷ xs) =
     let fewer : cond {A = ℕ} (nat_le (n + 1) x) 1 0 ≤ cond {A = ℕ} (nat_le n x) 1 0 = grind (arith, nat_tests) in
     omega (arith, low, high, rest, fewer)
 
--- a number in the list is one of those from it on
+-- a number in the list is counted among those from it on, but not among those above it
 from_more : (n : ℕ) (xs : List ℕ) → list_any (eq_by_cmp nat_cmp n) xs ≡ true → from (n + 1) xs + 1 ≤ from n xs
 unfolding from
 from_more n [] h = absurd cc
@@ -112,7 +112,7 @@ bit_small : (b : Bool) → cond {A = ℕ} b 1 0 ≤ 1
 bit_small true = omega arith
 bit_small false = omega arith
 
--- a set bit of the word is a received number
+-- if a bit of the word is 1, its number was received
 pub word_of_bit : (s : Received) (n k i : ℕ) → bit_at (word_of s n k) i ≡ 1 → set.contains s (n + i) ≡ true
 word_of_bit s n zero i one = let clear = bit_at-zero i in absurd (omega (arith, clear, one))
 word_of_bit s n (suc k) zero one =
@@ -128,7 +128,7 @@ word_of_bit s n (suc k) (suc i) one =
     let there : n + suc i ≡ n + 1 + i = omega arith in
     ap (λ m. set.contains s m) there ∙ rest
 
--- a word is the set's where its bits are
+-- a word is that of the set if its bits are those of the set's numbers
 pub word_of_is : (s : Received) (n k mask : ℕ) → mask < 2 ^ k → ((i : ℕ) → i < k → set.contains s (n + i) ≡ nat_eq (bit_at mask i) 1) → word_of s n k ≡ mask
 word_of_is s n zero mask word bits = omega (arith, word)
 word_of_is s n (suc k) mask word bits =

@@ -1,4 +1,4 @@
--- The first element that passes a test: its place, and the list without it.
+-- The first element that passes a test: its index, and the list without it.
 use Rattle.gb_types.specs.Common.{◌≡◌, ℕ, ◌+◌, ◌<◌, ◌≤◌, nat_lt, not, true, false, cond, Bool, List, [], ◌∷◌, length, refl, ap, sym, ◌∙◌, arith, position, suc, Option, Some, None, OnSome, slice_index_or, subst, inl, inr, slice_get_cases, find, position_or_len, remove, slice_get, find_at, nat_tests}
 use Rattle.gb_link.specs.SendWindow.{without_first}
 
@@ -38,7 +38,7 @@ module _ {F : Type 0} (test : ℕ × F → Bool) where
       let same = (at_position us i e).0 in
       (find_at test us ∙ ap (λ k. slice_get us k) (sym same), without_first_at us ∙ ap (λ k. remove us k) (sym same))
 
-  -- what `remove` at the place of the first one hands out and leaves
+  -- `remove` at the index of the first element that passes returns that element, and leaves the list without it
   pub removed_first : (us after : List (ℕ × F)) (len i : ℕ) (out : Option (ℕ × F)) → len ≡ length us → Some i ≡ position test us → ((d : ℕ × F) → i < len → out ≡ Some (slice_index_or us i d)) → OnSome out (after ≡ remove us i)
       → (out ≡ find test us) × (after ≡ without_first test us)
   removed_first us after len i out size e gives left =

@@ -1,4 +1,4 @@
--- The invariant of a link, through every event.
+-- The invariant of a link holds after every event.
 use Rattle.gb_types.specs.Common.{◌≡◌, ℕ, ◌+◌, ◌-◌, ◌<◌, ◌≤◌, Bool, true, false, not, ◌&&◌, ◌||◌, cond, nat_eq, nat_lt, nat_le, List, [], ◌∷◌, ◌++◌, count_by, refl, ap, ap₂, sym, ◌∙◌, arith, Option, Some, None, subst, bit_at, list_any, find, nat_cmp, nat_tests, list_any-append, and-true, or-false, or-true}
 use Rattle.std.specs.FinSet as set
 use Rattle.gb_types.specs.declared.limits.TheConstants.{LAST_FRAME}
@@ -29,9 +29,9 @@ covered_received s n from is =
           ap (λ m. set.contains s m) (sym there) ∙ mask_of_bit s (n - base_of s) one
     ] refl is
 
--- ---- what becomes of an arriving frame
+-- ---- the result of an arriving frame
 
--- a number in the window is First or Seen
+-- a number in the window, or below it, is First or Seen
 admission_near : (s : Received) (n : ℕ) → 1 ≤ n → n < base_of s + 64 → n ≤ LAST_FRAME → admission s n ≡ cond (set.contains s n) Seen First
 admission_near s n from near last =
     elim (set.contains s n) as (λ b. set.contains s n ≡ b → cond b Seen (cond (nat_le (base_of s) n && nat_lt n (base_of s + 64) && nat_le n LAST_FRAME) First Outside) ≡ cond b Seen First) [
@@ -71,7 +71,7 @@ module _ {F : Type 0} where
         | false ↦ λ _ later. let rest = undone_above (u.0 + 1) us n h.1 later in omega (arith, rest, h.0)
       ] refl is
 
-  -- what the test finds is one of them, and passes
+  -- the element that `find` returns is undone, and passes the test
   found_undone : (test : ℕ × F → Bool) (us : List (ℕ × F)) (u : ℕ × F) → find test us ≡ Some u → (is_undone us u.0 ≡ true) × (test u ≡ true)
   found_undone test [] u e = absurd cc
   found_undone test (v ∷ us) u e =
@@ -90,7 +90,7 @@ module _ {F : Type 0} where
         | false ↦ λ _. refl
       ] refl
 
-  -- it alone is gone then
+  -- after that, all others are undone as before, and it is not
   undone-without : (test : ℕ × F → Bool) (low : ℕ) (us : List (ℕ × F)) (u : ℕ × F) (n : ℕ) → AreAscending low us → find test us ≡ Some u
       → is_undone (without_first test us) n ≡ (is_undone us n && not (nat_eq u.0 n))
   undone-without test low [] u n h e = absurd cc
@@ -210,7 +210,7 @@ module _ {F : Type 0} where
           ] refl in
           kept.accounted (base_of l.receiver) here ∙ not_done
 
-  -- so a frame that arrives is received then, and is First where it was not before
+  -- so a frame that arrives is received then, and its result is First if it was not received before
   IsSound-arrive : (l : Link F) (n : ℕ) → IsSound l → was_pushed l n ≡ true
       → IsSound (record l { receiver = admitted l.receiver n; arrivals = (n, admission l.receiver n) ∷ l.arrivals })
   IsSound-arrive l n kept was = record {
@@ -331,7 +331,7 @@ module _ {F : Type 0} where
           is_pushed l u.0 (undone_above 1 l.sender.undone u.0 kept.window.ascending (is_held u e))
           (undone_recent l.sender.next l.sender.undone u.0 kept.window.recent (is_held u e)).0
 
-      -- a fact of the number handed out and of each that was done is one of each that is done now
+      -- a property of the number returned now, and of each that was done before, is one of each that is done now
       each : (P : ℕ → Type 0) (u : ℕ × F) (n : ℕ) → P u.0 → (is_number n l.done ≡ true → P n) → (nat_eq u.0 n || is_number n l.done) ≡ true → P n
       each P u n here before is =
           elim (nat_eq u.0 n) as (λ b. nat_eq u.0 n ≡ b → (b || is_number n l.done) ≡ true → P n) [
@@ -384,6 +384,6 @@ module _ {F : Type 0} where
   IsSound-run_from l [] kept = kept
   IsSound-run_from l (e ∷ events) kept = IsSound-run_from (step l e) events (IsSound-step l e kept)
 
-  -- after any events
+  -- the invariant holds after any events
   pub IsSound-run : (events : List (LinkEvent F)) → IsSound (run events)
   IsSound-run events = IsSound-run_from new_link events IsSound-new

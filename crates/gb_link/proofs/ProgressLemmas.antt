@@ -1,4 +1,4 @@
--- A round of a link, in which what was not acknowledged arrives and is acknowledged, frees the window.
+-- A round of a link, in which all undone frames arrive and are acknowledged, frees the window.
 use Rattle.gb_types.specs.Common.{◌≡◌, ℕ, ◌+◌, ◌<◌, ◌≤◌, Bool, true, false, not, ◌||◌, cond, nat_eq, nat_lt, nat_le, List, [], ◌∷◌, ◌++◌, refl, ap, sym, ◌∙◌, arith, filter, cases_lt, inl, inr, ◌⊎◌, lt-ltb, le-leb, ltb-true, eqb-true, if◌then◌else◌}
 use Rattle.std.specs.FinSet as set
 use Rattle.gb_types.specs.declared.limits.TheConstants.{LAST_FRAME}
@@ -46,7 +46,7 @@ module _ {F : Type 0} where
   run_more l [] n h = h
   run_more l (e ∷ events) n h = run_more (step l e) events n (step_more l e n h)
 
-  -- of what is undone where nothing is left to free, nothing is covered
+  -- if no undone frame passes a test, no number that passes it is undone
   none_covered : (test : ℕ → Bool) (us : List (ℕ × F)) → filter (λ u. test u.0) us ≡ [] → (n : ℕ) → test n ≡ true → is_undone us n ≡ false
   none_covered test [] none n is = refl
   none_covered test (u ∷ us) none n is = by (test u.0) refl none (λ h. none_covered test us h n is)

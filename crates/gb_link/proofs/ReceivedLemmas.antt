@@ -21,7 +21,7 @@ in_covered base mask n =
     set.contains-retain _ p n (λ x e. ap p (sym (nat_cmp-IsAntisymmetric n x e)))
     ∙ ap (λ b. b && p n) (set.contains-from_list_nat (below (base + 64)) n ∙ any-below (base + 64) n)
 
--- a number from 1 on is in the set where it is covered
+-- a number from 1 on is in the set if and only if it is covered
 pub contains-covered : (base mask n : ℕ) → mask < 2 ^ 64 → 1 ≤ n → set.contains (covered base mask) n ≡ covers base mask n
 contains-covered base mask n word from =
     in_covered base mask n
@@ -33,7 +33,7 @@ contains-covered base mask n word from =
 pub contains-zero : (base mask : ℕ) → set.contains (covered base mask) 0 ≡ false
 contains-zero base mask = in_covered base mask 0 ∙ and-false (nat_lt 0 (base + 64))
 
--- sets are equal that agree from 1 on and lack 0
+-- two sets are equal if they agree on 0 and on all numbers from 1 on
 pub same_received : (s t : Received) → set.contains s 0 ≡ set.contains t 0 → ((n : ℕ) → 1 ≤ n → set.contains s n ≡ set.contains t n) → s ≡ t
 same_received s t none some = set.same_set nat_cmp_total nat_cmp-IsAntisymmetric s t at
   where
@@ -65,7 +65,7 @@ slide_at base mask n odd =
           ] refl
     ] refl
 
--- a set lowest bit moves into the base
+-- if the lowest bit of the mask is 1, the base moves up by one and the mask shifts
 pub covered_slide : (base mask : ℕ) → mask < 2 ^ 64 → mask % 2 ≡ 1 → covered (base + 1) (mask / 2) ≡ covered base mask
 covered_slide base mask word odd =
     same_received _ _ (contains-zero (base + 1) (mask / 2) ∙ sym (contains-zero base mask))
@@ -91,7 +91,7 @@ set_at base mask ahead n within =
           ] refl
     ] refl
 
--- to set a bit is to receive its number
+-- setting a bit of the mask adds its number to the set
 pub covered_set : (base mask ahead : ℕ) → mask < 2 ^ 64 → bit_or mask (1 * 2 ^ ahead % 2 ^ 64) < 2 ^ 64 → 1 ≤ base → ahead < 64
     → covered base (bit_or mask (1 * 2 ^ ahead % 2 ^ 64)) ≡ set.insert (covered base mask) (base + ahead)
 covered_set base mask ahead word after started within =
@@ -123,7 +123,7 @@ above_base base mask i =
     let same : base + i - base ≡ i = omega arith in
     ap (λ b. b || nat_eq (bit_at mask (base + i - base)) 1) high ∙ ap (λ j. nat_eq (bit_at mask j) 1) same
 
--- the acknowledgement of the set is the base and the mask that it stands for
+-- the base of the acknowledgement of the set is the base that represents the set
 pub base_of_covered : (base mask : ℕ) → IsReceiver base mask → base_of (covered base mask) ≡ base
 base_of_covered base mask kept =
     base_of_is (covered base mask) base kept.started
@@ -143,13 +143,13 @@ mask_of_covered base mask kept =
     ∙ word_of_is (covered base mask) base 64 mask kept.word
     (λ i lt. contains-covered base mask (base + i) kept.word (omega (arith, kept.started)) ∙ above_base base mask i)
 
--- the base was received where its bit is set
+-- the base was received if the lowest bit of the mask is 1
 pub odd_base : (base mask : ℕ) → mask < 2 ^ 64 → 1 ≤ base → mask % 2 ≡ 1 → set.contains (covered base mask) base ≡ true
 odd_base base mask word started odd =
     let here : base ≡ base + 0 = omega arith in
     contains-covered base mask base word started ∙ (ap (λ n. covers base mask n) here ∙ (above_base base mask 0 ∙ ap (λ v. nat_eq v 1) (bit_at_lowest mask ∙ odd)))
 
--- what becomes of an arriving frame, by the acknowledgement
+-- the result of an arriving frame, computed from the acknowledgement
 pub admission-covered : (base mask n : ℕ) → IsReceiver base mask → 1 ≤ n
     → admission (covered base mask) n ≡ cond (covers base mask n) Seen (cond (nat_le base n && nat_lt n (base + 64) && nat_le n LAST_FRAME) First Outside)
 admission-covered base mask n kept from =
@@ -173,7 +173,7 @@ admission_first base mask n kept from is near last =
     let awaited : (nat_le base n && nat_lt n (base + 64) && nat_le n LAST_FRAME) ≡ true = grind (arith, nat_tests) in
     admission-covered base mask n kept from ∙ (λ i. cond (is i) Seen (cond (awaited i) First Outside))
 
--- the frame's bit is set, and nothing else
+-- setting the frame's bit adds the frame's number to the set, and nothing else
 pub covered_first : (base mask n : ℕ) → IsReceiver base mask → covers base mask n ≡ false → n - base < 64 → covered base (bit_or mask (1 * 2 ^ (n - base) % 2 ^ 64)) ≡ set.insert (covered base mask) n
 covered_first base mask n kept is near =
     let low = uncovered_from base mask n is in
@@ -191,7 +191,7 @@ first_in_range base mask n kept is near last m there =
       | false ↦ λ _ before. kept.last m before
     ] refl inserted
 
--- with a mask of zeros, what is received is what lies below the base
+-- if the mask is 0, the received numbers are those below the base
 pub IsReceiver-clear : (base : ℕ) → 1 ≤ base → base ≤ LAST_FRAME + 1 → IsReceiver base 0
 IsReceiver-clear base started end = record {
   started = started;

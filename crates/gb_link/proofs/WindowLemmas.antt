@@ -1,4 +1,4 @@
--- The invariant of a sender, through each of its calls.
+-- The invariant of a sender holds after each of its calls.
 use Rattle.gb_types.specs.Common.{◌≡◌, ℕ, zero, suc, ◌+◌, ◌-◌, ◌<◌, ◌≤◌, nat_eq, length, get_or, sym, ◌∙◌, true, false, cond, IsTrue, ◌&&◌, List, [], ◌∷◌, ◌++◌, arith, Bool, Option, None, Some, ap, refl, MatchOption, OnSome, IfNone, find, filter, nat_tests}
 use Rattle.gb_types.specs.declared.limits.TheConstants.{LAST_FRAME}
 use Rattle.gb_link.specs.SendWindow.{SendWindow, IsWindow, AreAscending, AreRecent, without_first, pushed, has_room, is_in_window, acknowledged}
@@ -9,13 +9,13 @@ and_second : (a b : Bool) → IsTrue (a && b) → b ≡ true
 and_second true b h = h
 and_second false b h = cc
 
--- an element that is taken out leaves no more
+-- removing an element leaves no more elements than before
 pub no_more : {T D : Type 0} (len : D → ℕ) (o : Option T) (new old : D) → OnSome o (len new + 1 ≡ len old) → IfNone o (new ≡ old) → len new ≤ len old
 no_more len None new old some none = omega (arith, ap len none)
 no_more len (Some x) new old some none = omega (arith, some)
 
 module _ {F : Type 0} where
-  -- ascending from a lower number on
+  -- a list that ascends from a number on ascends from each lower number on
   pub ascending_lower : (low high : ℕ) (us : List (ℕ × F)) → low ≤ high → AreAscending high us → AreAscending low us
   ascending_lower low high [] le h = tt
   ascending_lower low high (u ∷ us) le h = (omega (arith, h.0), h.1)
@@ -51,7 +51,7 @@ module _ {F : Type 0} where
       let within : next ≤ u.0 + 63 = grind (arith, nat_tests, room) in
       recent-pushed u.0 next frame (u ∷ us) within (omega arith, h.1) r
 
-  -- a push in the room keeps the window
+  -- a push while there is room keeps the invariant
   pub IsWindow-pushed : (w : SendWindow F) (frame : F) → IsTrue (has_room w) → IsWindow w → IsWindow (pushed w frame)
   IsWindow-pushed w frame room kept = record {
     started = omega (arith, kept.started);
@@ -60,7 +60,7 @@ module _ {F : Type 0} where
     recent = recent-room w.next frame w.undone (and_second _ _ room) kept.ascending kept.recent;
   }
 
-  -- so does an acknowledgement
+  -- an acknowledgement keeps the invariant
   pub IsWindow-acknowledged : (w : SendWindow F) (base mask : ℕ) → IsWindow w → IsWindow (acknowledged w base mask)
   IsWindow-acknowledged w base mask kept = record {
     started = kept.started;
@@ -69,7 +69,7 @@ module _ {F : Type 0} where
     recent = recent-without (λ u. covers base mask u.0) w.next w.undone kept.recent;
   }
 
-  -- what passes a test ascends too
+  -- the elements that pass a test ascend too
   pub ascending-filter : (test : ℕ × F → Bool) (low : ℕ) (us : List (ℕ × F)) → AreAscending low us → AreAscending low (filter test us)
   ascending-filter test low [] h = tt
   ascending-filter test low (u ∷ us) h =
@@ -79,7 +79,7 @@ module _ {F : Type 0} where
         | false ↦ ascending_lower low (u.0 + 1) (filter test us) (omega (arith, h.0)) rest
       ]
 
-  -- the first that passes, and the others that do
+  -- the elements that pass a test are the first that passes, followed by the others that pass
   pub filter_first : (test : ℕ × F → Bool) (us : List (ℕ × F)) → MatchOption (find test us) (filter test us ≡ []) (λ u. filter test us ≡ u ∷ filter test (without_first test us))
   filter_first test [] = refl
   filter_first test (v ∷ us) =
@@ -94,7 +94,7 @@ module _ {F : Type 0} where
   ascending_above low (u ∷ us) zero d h l = h.0
   ascending_above low (u ∷ us) (suc i) d h l = let above = ascending_above (u.0 + 1) us i d h.1 (omega arith) in omega (arith, h.0, above)
 
-  -- the last of a list is the one that has its number
+  -- the last element of a list is the one that is found by its number
   pub last_found : (low n : ℕ) (us : List (ℕ × F)) (i : ℕ) (d : ℕ × F) → AreAscending low us → length us ≡ suc i → (get_or us i d).0 ≡ n → find (λ u. nat_eq u.0 n) us ≡ Some (get_or us i d)
   last_found low n [] i d h l is = absurd (omega arith)
   last_found low n (u ∷ us) zero d h l is =

@@ -2,6 +2,6 @@
 use Rattle.std.specs.Prelude.{ℕ, ◌-◌, Bool, ◌||◌, nat_eq, nat_lt}
 use Rattle.std.specs.Int.{bit_at}
 
--- true if an acknowledgement covers a number: it is below the base, or base + i for a set bit i of the mask
+-- whether an acknowledgement covers a number: the number is below the base, or is base + i for a set bit i of the mask
 abbrev pub covers : ℕ → ℕ → ℕ → Bool
 covers base mask n = nat_lt n base || nat_eq (bit_at mask (n - base)) 1

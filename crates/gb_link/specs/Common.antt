@@ -1,4 +1,4 @@
--- The names that files of crates above cite, passed on from one place. Declares nothing.
+-- The names that files of crates above cite, gathered in one file. Declares nothing.
 pub use Rattle.gb_link.specs.Ack.{covers}
 pub use Rattle.gb_link.specs.Received.{Received, admission, is_awaited, taken}
 unfoldable pub use Rattle.gb_link.specs.Received.{base_of, mask_of}

@@ -3,16 +3,16 @@ ghost use Rattle.std.specs.Prelude.{List};
 ghost use Rattle.gb_link.specs.Link.{LinkEvent, run, IsSound};
 ghost use Rattle.gb_link.specs.Progress.{RoundsMoveOn};
 
-/// A law of every link whose network may lose, delay, repeat and reorder frames and acknowledgements. Each frame that arrives and
-/// was pushed is within the receiver's window. Each number is received for the first time once. Each frame that is acknowledged was
-/// received. The function does nothing when it runs; its contract is the law.
+/// A law of every link, with nothing to run. Its network may lose, delay, repeat and reorder frames and acknowledgements. Each frame that
+/// was pushed is within the receiver's window when it arrives. Each number is received for the first time once. Each frame that is
+/// acknowledged was received.
 pub fn soundness<F>()
     ensures { (events : List (LinkEvent F)) → IsSound (run events) }
 {}
 
-/// A law of every link, whatever else its network does. If in a round each frame arrives that was not acknowledged when the round
-/// began, and then an acknowledgement made after that comes back, then all frames that were pushed before the round are
-/// acknowledged, and there is room until 64 frames were pushed since. The function does nothing when it runs; its contract is the law.
+/// A law of every link, with nothing to run, whatever else its network does. If in a round each frame arrives that was undone when the
+/// round began, and then an acknowledgement made after that comes back, then all frames that were pushed before the round are acknowledged,
+/// and there is room until 64 frames were pushed since.
 pub fn progress<F>()
     ensures { RoundsMoveOn F }
 {}
@@ -24,7 +24,7 @@ mod tests {
     use crate::sender::Sender;
     use std::test::Fail;
 
-    // Returns true if the lowest undone frame has this number, and the number is its content.
+    // Returns true if the lowest undone frame has this number, and its content is the number.
     fn is_lowest(sender: &Sender<u64>, number: u64) -> bool {
         match sender.again(0) {
             Some((lowest, frame)) => lowest == number && *frame == number,
@@ -32,7 +32,7 @@ mod tests {
         }
     }
 
-    // A network that loses each odd frame once.
+    // The network loses the first copy of each frame with an odd number.
     #[test]
     fn lost_frames_are_given_again(rt: HostRuntime) -> Result<(), Fail> {
         soundness::<u64>();

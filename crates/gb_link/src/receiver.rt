@@ -1,4 +1,4 @@
-//! The receiving end of a link between two nodes: which frame numbers came.
+//! The receiving end of a link between two nodes: the numbers of the frames that arrived.
 ghost use Rattle.std.specs.Prelude.{◌≡◌, ℕ, ◌%◌, ◌≤◌, true, List};
 ghost use Rattle.std.specs.FinSet as set;
 ghost use Rattle.gb_types.specs.declared.limits.TheConstants.{LAST_FRAME};
@@ -13,16 +13,16 @@ use std::marker::Model;
 /// The result of an arriving frame.
 #[derive(Clone, Copy, PartialEq, Eq)]
 pub enum Admission {
-    /// Its number came for the first time, and is received.
+    /// The number came for the first time, and is received.
     First,
-    /// Its number was received before.
+    /// The number was received before.
     Seen,
-    /// Its number is beyond the window or above `LAST_FRAME`, and is not received.
+    /// The number is beyond the window or above `LAST_FRAME`, and is not received.
     Outside,
 }
 
-/// The set of the received frame numbers, in two words. Each number below the base is received, and `base + i` if bit `i` of the
-/// mask is set. The base itself is not received.
+/// The set of the received frame numbers, in two words. Each number below the base is received, and so is `base + i` if bit `i` of the mask
+/// is set. The base itself is not received.
 #[derive(Drop)]
 pub struct Receiver {
     base: u64,
@@ -44,7 +44,7 @@ impl Model for Receiver {
 }
 
 impl Receiver {
-    /// Returns the receiving end of a link, to which no frame came. Takes no memory.
+    /// Returns the receiving end of a link on which no frame has arrived. Takes no memory.
     pub fn new() -> Receiver
         ensures { result ≡ set.empty }
     {
@@ -52,7 +52,7 @@ impl Receiver {
     }
 
     /// Receives the number of an arriving frame. Returns `Seen` if the number was received before, and `Outside` if it is above
-    /// `LAST_FRAME` or outside the window; then nothing has changed. Else returns `First`, and the number is received. The window
+    /// `LAST_FRAME` or outside the window; in both cases nothing changes. Otherwise returns `First`, and the number is received. The window
     /// has the 64 numbers from the least one that is not received.
     pub fn admit(&mut self, number: u64) -> Admission
         requires { 1 ≤ number }
@@ -72,13 +72,13 @@ impl Receiver {
         Admission::First
     }
 
-    /// Returns the current acknowledgement: the base, which is the least number not received, and the mask, whose bit `i` is 1 if
-    /// `base + i` was received.
+    /// Returns the current acknowledgement: the base and the mask. The base is the least number from 1 on that was not received. Bit `i` of
+    /// the mask is 1 if `base + i` was received.
     pub fn ack(&self) -> (u64, u64)
         ensures base { result.0 ≡ base_of self.now }
         ensures mask { result.1 ≡ mask_of self.now }
 
-        // So the base is at least 1, its own bit is 0, and the covered numbers are the received ones.
+        // The base is at least 1, its own bit is 0, and the covered numbers are exactly the received ones.
         ensures started { 1 ≤ result.0 }
         ensures even { result.1 % 2 ≡ 0 }
         ensures exact { (n : ℕ) → 1 ≤ n → covers result.0 result.1 n ≡ set.contains self.now n }
@@ -87,14 +87,14 @@ impl Receiver {
     }
 }
 
-/// A law of every receiver, whatever it received before and whatever numbers arrive: each number is `First` at most once. The
-/// function does nothing when it runs; its contract is the law.
+/// A law of every receiver, with nothing to run: whatever it received before and whatever numbers arrive, each number is `First` at most
+/// once.
 pub fn first_once()
     ensures { (received : Received) (n : ℕ) (numbers : List ℕ) → firsts received n numbers ≤ 1 }
 {}
 
-/// Returns the base and the mask of the same set with the lowest bit of the mask clear: the base moves up to the least number that
-/// is not in the set.
+/// Returns the base and the mask of the same set, such that the lowest bit of the mask is 0: the base moves up to the least number that is
+/// not in the set.
 fn slid(mut base: u64, mut mask: u64) -> (u64, u64)
     requires started { 1 ≤ base }
     requires last { (n : ℕ) → set.contains (covered base mask) n ≡ true → n ≤ LAST_FRAME }

@@ -14,7 +14,7 @@ use std::marker::Model;
 // The values that the definitions of a window cite.
 const _: () = prove!(LINK_WINDOW == 64 && LAST_FRAME == 18_446_744_073_709_551_614);
 
-/// Frames that were pushed and not acknowledged yet, each under its number. Numbers rise from 1 to `LAST_FRAME` and are never used
+/// The frames that were pushed and are not acknowledged yet, each with its number. Numbers rise from 1 to `LAST_FRAME` and are never used
 /// again. At most `LINK_WINDOW` frames are undone, so a search among them takes bounded time, however many frames were pushed.
 #[derive(Drop)]
 pub struct Sender<F> {
@@ -35,7 +35,7 @@ impl<F> Model for Sender<F> {
 }
 
 impl<F: Drop> Sender<F> {
-    /// Returns the sending end of a link, to which no frame was pushed. Takes no memory.
+    /// Returns the sending end of a link to which no frame was pushed. Takes no memory.
     pub fn new(alloc: Global) -> Sender<F>
         ensures { result ≡ new_window }
     {
@@ -45,8 +45,8 @@ impl<F: Drop> Sender<F> {
         }
     }
 
-    /// Returns true if one more frame may be pushed: its number would be at most `LAST_FRAME`, and at most 63 above the lowest
-    /// undone one. An undone frame is one that is not acknowledged.
+    /// Returns true if one more frame may be pushed, and false otherwise. It may be if its number would be at most `LAST_FRAME`, and at
+    /// most 63 above that of the lowest undone frame. An undone frame is one that is not acknowledged.
     pub fn room(&self) -> bool
         ensures room { result ≡ has_room self.now }
         ensures window { IsWindow self.now }
@@ -54,8 +54,9 @@ impl<F: Drop> Sender<F> {
         is_open(self.next, &self.undone)
     }
 
-    /// Adds a frame to the undone ones, those that are not acknowledged. Returns its number, one above that of the frame before;
-    /// the first is 1. The sender must have room for it (`room`). `Err` if memory is refused; then nothing has changed.
+    /// Adds a frame to the undone ones, those that are not acknowledged, and returns its number. The first number is 1, and each number is
+    /// one above the one before. The sender must have room for the frame (`room`). Returns `Err` if memory is refused; then nothing has
+    /// changed.
     pub fn push(&mut self, frame: F) -> Result<u64, OutOfMemory>
         requires { IsTrue (has_room self.old) }
         ensures number { IfOk result (λ number. number ≡ self.old.next) }
@@ -69,8 +70,8 @@ impl<F: Drop> Sender<F> {
         Ok(number)
     }
 
-    /// Returns the frame with this number and the number, if it is not acknowledged. For 0, returns the lowest frame that is not
-    /// acknowledged. `None` if there is no such frame.
+    /// Returns the frame with this number, and the number, if the frame is not acknowledged. For 0, returns the lowest frame that is not
+    /// acknowledged. Returns `None` if there is no such frame.
     pub fn again(&self, number: u64) -> Option<(u64, &F)>
         ensures { option_map (λ found. (found.0, found.1.now)) result ≡ frame_again self.now number }
     {
@@ -80,13 +81,14 @@ impl<F: Drop> Sender<F> {
         parts(held_under(&self.undone, number))
     }
 
-    /// Removes the lowest undone frame that the acknowledgement covers, and returns its number and the frame. `None` if it covers
-    /// no undone frame; then nothing has changed. To take a whole acknowledgement, call until the result is `None`.
+    /// Removes the lowest undone frame that the acknowledgement covers, and returns its number and the frame. Returns `None` if the
+    /// acknowledgement covers no undone frame; then nothing has changed. To take a whole acknowledgement, call this until the result is
+    /// `None`.
     pub fn acked(&mut self, base: u64, mask: u64) -> Option<(u64, F)>
         ensures handed_out { result ≡ lowest_covered self.old base mask }
         ensures done { self.new ≡ acknowledged self.old base mask }
 
-        // The frames that an acknowledgement frees are one list, by rising number; each call takes the first.
+        // The frames that an acknowledgement covers form a list by rising number, and each call takes the first of it.
         ensures first { MatchOption result (freed self.old base mask ≡ []) (λ u. freed self.old base mask ≡ u ∷ freed self.new base mask) }
         ensures rising { AreAscending 1 (freed self.old base mask) }
     {
@@ -94,7 +96,7 @@ impl<F: Drop> Sender<F> {
     }
 }
 
-/// Returns true if one more frame may have the number `next`.
+/// Returns true if the window has room for a frame with the number `next`, and false otherwise.
 pub(crate) fn is_open<F>(next: u64, undone: &VecDeque<(u64, F)>) -> bool
     requires { IsWindow (record { next = next; undone = undone.now.items }) }
     ensures { result ≡ has_room (record { next = next; undone = undone.now.items }) }
@@ -122,14 +124,14 @@ pub(crate) fn take_covered<F>(
     }
 }
 
-/// Returns the place of the lowest frame that the acknowledgement covers.
+/// Returns the index of the lowest frame that the acknowledgement covers, or `None` if it covers none.
 fn first_covered<F>(undone: &VecDeque<(u64, F)>, base: u64, mask: u64) -> Option<usize>
     ensures { result ≡ position (λ held. covers base mask held.0) undone.now.items }
 {
     undone.iter().position(|held| covers(base, mask, held.0))
 }
 
-/// Returns the frame that was pushed last, if it has this number and is undone.
+/// Returns the frame that was pushed last, if it has this number and is undone. Returns `None` otherwise.
 fn newest_under<F>(undone: &VecDeque<(u64, F)>, number: u64) -> Option<&(u64, F)>
     requires { AreAscending 1 undone.now.items }
     ensures { IfSome (option_copied result) (λ held. find (λ h. nat_eq h.0 number) undone.now.items ≡ Some held) }
@@ -140,7 +142,7 @@ fn newest_under<F>(undone: &VecDeque<(u64, F)>, number: u64) -> Option<&(u64, F)
     }
 }
 
-/// Returns the undone frame of this number. The frame that was pushed last is found at once.
+/// Returns the undone frame of this number, or `None` if there is none. The frame that was pushed last is found at once.
 pub(crate) fn held_under<F>(undone: &VecDeque<(u64, F)>, number: u64) -> Option<&(u64, F)>
     requires { AreAscending 1 undone.now.items }
     ensures { option_copied result ≡ find (λ held. nat_eq held.0 number) undone.now.items }

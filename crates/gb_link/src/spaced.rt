@@ -1,4 +1,4 @@
-//! The sending end of a link between two nodes, whose frames are built where they stay, without a copy.
+//! The sending end of a link between two nodes, whose frames are built in the memory that they stay in, without a copy.
 ghost use Rattle.std.specs.Prelude.{◌≡◌, ◌≤◌, ◌<◌, true, false, [], ◌∷◌, length, IsTrue, OnOk, OnErr, IfOk, MatchOption, Some, vec_capacity};
 ghost use Rattle.std.specs.{Option.option_map, Borrow.Lends, Borrow.sem};
 ghost use Rattle.gb_link.specs.SendWindow.{IsWindow, AreAscending, new_window, has_room, pushed, frame_again, lowest_covered, acknowledged, freed};
@@ -10,9 +10,9 @@ use std::collections::VecDeque;
 use std::marker::Model;
 use std::mem;
 
-/// A `Sender` whose frames are written in its spare buffer, and stay there. `space` reserves memory, the caller writes in `spare`,
-/// and `commit` makes the spare the next frame, without a copy and without memory. The spare, and whether memory is reserved for
-/// it, are not part of the window.
+/// A `Sender` whose frames are written in its spare buffer, and stay there. `space` reserves memory, the caller writes in `spare`, and
+/// `commit` makes the spare the next frame. `commit` copies nothing and takes no memory. The spare, and whether memory is reserved for it,
+/// are not part of the window.
 #[derive(Drop)]
 pub struct SpacedSender<F> {
     next: u64,
@@ -39,8 +39,8 @@ impl<F> Model for SpacedSender<F> {
 impl<F: Drop> SpacedSender<F> {
     ghost use Rattle.gb_link.specs.contracts.spaced.SpacedSender.{the_row};
 
-    /// Returns true if one more frame may be pushed or committed: its number would be at most `LAST_FRAME`, and at most 63 above
-    /// the lowest undone one. An undone frame is one that is not acknowledged.
+    /// Returns true if one more frame may be pushed or committed, and false otherwise. It may be if its number would be at most
+    /// `LAST_FRAME`, and at most 63 above that of the lowest undone frame. An undone frame is one that is not acknowledged.
     pub fn room(&self) -> bool
         ensures room { result ≡ has_room self.now.window }
         ensures window { IsWindow self.now.window }
@@ -48,8 +48,8 @@ impl<F: Drop> SpacedSender<F> {
         is_open(self.next, &self.undone)
     }
 
-    /// Adds a frame to the undone ones, those that are not acknowledged. Returns its number. The sender must have room for it
-    /// (`room`). What `space` reserved is used up. `Err` if memory is refused; then nothing has changed.
+    /// Adds a frame to the undone ones, those that are not acknowledged, and returns its number. The sender must have room for the frame
+    /// (`room`). A reservation that `space` made is used up. Returns `Err` if memory is refused; then nothing has changed.
     pub fn push(&mut self, frame: F) -> Result<u64, OutOfMemory>
         requires { IsTrue (has_room self.old.window) }
         ensures number { IfOk result (λ number. number ≡ self.old.window.next) }
@@ -64,8 +64,8 @@ impl<F: Drop> SpacedSender<F> {
         Ok(number)
     }
 
-    /// Returns the frame with this number and the number, if it is not acknowledged. For 0, returns the lowest frame that is not
-    /// acknowledged. `None` if there is no such frame.
+    /// Returns the frame with this number, and the number, if the frame is not acknowledged. For 0, returns the lowest frame that is not
+    /// acknowledged. Returns `None` if there is no such frame.
     pub fn again(&self, number: u64) -> Option<(u64, &F)>
         ensures { option_map (λ found. (found.0, found.1.now)) result ≡ frame_again self.now.window number }
     {
@@ -75,8 +75,9 @@ impl<F: Drop> SpacedSender<F> {
         parts(held_under(&self.undone, number))
     }
 
-    /// Removes the lowest undone frame that the acknowledgement covers, and returns its number and the frame. `None` if it covers
-    /// no undone frame; then nothing has changed. To take a whole acknowledgement, call until the result is `None`.
+    /// Removes the lowest undone frame that the acknowledgement covers, and returns its number and the frame. Returns `None` if the
+    /// acknowledgement covers no undone frame; then nothing has changed. To take a whole acknowledgement, call this until the result is
+    /// `None`.
     pub fn acked(&mut self, base: u64, mask: u64) -> Option<(u64, F)>
         ensures handed_out { result ≡ lowest_covered self.old.window base mask }
         ensures done { self.new ≡ record self.old { window = acknowledged self.old.window base mask } }
@@ -86,7 +87,7 @@ impl<F: Drop> SpacedSender<F> {
         take_covered(&mut self.undone, base, mask)
     }
 
-    /// Returns the spare buffer, for the caller to write the next frame in. `commit` then makes it a frame.
+    /// Returns the spare buffer, in which the caller writes the next frame. `commit` then makes it a frame.
     pub fn spare(&mut self) -> &mut F
         ensures* writes_back { sem 𝓛 (Lends (the_row F.row) F.row self.entry result (λ w. record self.old { spare = w })) }
         ensures value { result.now ≡ self.old.spare }
@@ -96,7 +97,7 @@ impl<F: Drop> SpacedSender<F> {
 }
 
 impl SpacedSender<Vec<u8>> {
-    /// Returns the sending end of a link, to which no frame was pushed, with an empty spare buffer. Takes no memory.
+    /// Returns the sending end of a link to which no frame was pushed, with an empty spare buffer. Takes no memory.
     pub fn new(alloc: Global) -> SpacedSender<Vec<u8>>
         ensures window { result.window ≡ new_window }
         ensures spaced { result.spaced ≡ false }
@@ -111,8 +112,8 @@ impl SpacedSender<Vec<u8>> {
         }
     }
 
-    /// Reserves memory for the spare buffer to become the next frame of the link, with capacity for `len` bytes, and empties the
-    /// spare. The reservation holds until the next `push` or `commit`. `Err` if memory is refused; then the spare's bytes stay.
+    /// Reserves memory for the spare buffer to become the next frame of the link, with capacity for `len` bytes, and empties the spare. The
+    /// reservation holds until the next `push` or `commit`. Returns `Err` if memory is refused; then the spare keeps its bytes.
     pub fn space(&mut self, len: usize) -> Result<(), OutOfMemory>
         requires { IsTrue (has_room self.old.window) }
         ensures window { self.new.window ≡ self.old.window }
@@ -128,8 +129,7 @@ impl SpacedSender<Vec<u8>> {
         Ok(())
     }
 
-    /// Makes the memory of `frame`, which `acked` returned, the spare buffer for the next frame of the link. The spare is empty
-    /// then.
+    /// Makes the memory of `frame`, which `acked` returned, the spare buffer for the next frame of the link. The spare is empty after that.
     pub fn reuse(&mut self, mut frame: Vec<u8>)
         ensures window { self.new.window ≡ self.old.window }
         ensures spaced { self.new.spaced ≡ self.old.spaced }
@@ -140,8 +140,8 @@ impl SpacedSender<Vec<u8>> {
         self.spare = frame;
     }
 
-    /// Makes the bytes of the spare buffer the next frame of the link, and returns its number. The spare must not be empty, `space`
-    /// must have been called, and the sender must have room. The spare is empty then. Takes no memory.
+    /// Makes the bytes of the spare buffer the next frame of the link, and returns its number. The spare must not be empty, `space` must
+    /// have been called, and the sender must have room. The spare is empty after that. Takes no memory.
     pub fn commit(&mut self) -> u64
         requires room { IsTrue (has_room self.old.window) }
         requires spaced { IsTrue self.old.spaced }

@@ -1,4 +1,4 @@
--- How much a tenant may ask.
+-- The rates at which tenants may ask.
 use Rattle.std.specs.Prelude.{ℕ, ◌==◌, Bool, true, false, List, [], ◌∷◌, Option, Some, None, if◌then◌else◌}
 use Rattle.gb_loop.specs.declared.rates.Rate.{Rate}
 use Rattle.gb_loop.specs.declared.rates.TenantRate.{TenantRate}
@@ -14,6 +14,6 @@ named_rate each tenant [] = each
 named_rate each tenant (None ∷ rows) = named_rate each tenant rows
 named_rate each tenant (Some row ∷ rows) = if row.tenant == tenant then row.rate else named_rate each tenant rows
 
--- how much a tenant may ask
+-- the rate of a tenant
 abbrev pub rate_of : RateLimits → ℕ → Rate
 rate_of limits tenant = named_rate limits.each tenant limits.named

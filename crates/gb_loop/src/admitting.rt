@@ -1,4 +1,4 @@
-//! The connections that a loop takes in, and those that make room for them.
+//! The connections that a loop accepts, and those that make room for them.
 ghost use Rattle.std.specs.Prelude.{◌≡◌};
 
 use crate::candidate::{Candidate, earlier};
@@ -15,7 +15,7 @@ use std::io::ErrorKind;
 use std::sync::Wait;
 use std::time::Clock;
 
-/// How many connections a round accepts at most.
+/// The most connections that a round accepts.
 pub const ACCEPTS: usize = 64;
 
 const _: () = prove!(ACCEPTS == 64);
@@ -35,7 +35,7 @@ impl<'a, L: Tapes, H: Wait + Clock, P: Port, S: Settle + Copy> NodeLoop<'a, L, H
         }
     }
 
-    // Accepts connections that wait, `ACCEPTS` at most.
+    // Accepts connections that wait, at most `ACCEPTS` of them.
     pub(crate) fn accept(&mut self, poll: &Poll)
         ensures origin { self.new.mail.origin ≡ self.old.mail.origin }
     {
@@ -47,7 +47,7 @@ impl<'a, L: Tapes, H: Wait + Clock, P: Port, S: Settle + Copy> NodeLoop<'a, L, H
             }
             match self.listener.accept() {
                 Ok((stream, _)) => self.admit(poll, stream),
-                // None waits; or the system has no room for one, and is asked again at a tick.
+                // No connection waits, or the system has no room for one. It is asked again at a tick.
                 Err(_) => {
                     self.has_clients = false;
                     return;
@@ -56,7 +56,7 @@ impl<'a, L: Tapes, H: Wait + Clock, P: Port, S: Settle + Copy> NodeLoop<'a, L, H
         }
     }
 
-    // Returns the connection with this standing that came first.
+    // Returns the connection with this standing that came first. `None` if there is none.
     fn first_of(&self, standing: Standing) -> Option<usize> {
         let mut found = None;
         for key in 0..self.connections.capacity() {
@@ -85,7 +85,7 @@ impl<'a, L: Tapes, H: Wait + Clock, P: Port, S: Settle + Copy> NodeLoop<'a, L, H
         true
     }
 
-    // Returns the standing of a new connection, for which another one may have made room. `None`: there is no place for it.
+    // Returns the standing of a new connection, for which another one may have made room. `None` if there is no room for it.
     fn place(&mut self) -> Option<Standing>
         ensures origin { self.new.mail.origin ≡ self.old.mail.origin }
     {
@@ -99,7 +99,7 @@ impl<'a, L: Tapes, H: Wait + Clock, P: Port, S: Settle + Copy> NodeLoop<'a, L, H
         None
     }
 
-    // Takes a connection in, or closes it if there is no place for it.
+    // Adds a connection, or closes it if there is no room for it.
     fn admit(&mut self, poll: &Poll, stream: TcpStream)
         ensures origin { self.new.mail.origin ≡ self.old.mail.origin }
     {
@@ -121,7 +121,7 @@ impl<'a, L: Tapes, H: Wait + Clock, P: Port, S: Settle + Copy> NodeLoop<'a, L, H
         }
     }
 
-    // Registers a new connection, and lists it.
+    // Registers a new connection, and puts it into a line.
     fn join(&mut self, poll: &Poll, key: usize)
         ensures origin { self.new.mail.origin ≡ self.old.mail.origin }
     {
@@ -143,7 +143,7 @@ impl<'a, L: Tapes, H: Wait + Clock, P: Port, S: Settle + Copy> NodeLoop<'a, L, H
         }
     }
 
-    // Returns what the first bytes of a connection are; they are left for the next read.
+    // Returns the kind of a connection's first bytes. They are left for the next read.
     fn opening_of(&mut self, key: usize) -> Opening
         ensures origin { self.new.mail.origin ≡ self.old.mail.origin }
     {
@@ -166,7 +166,7 @@ impl<'a, L: Tapes, H: Wait + Clock, P: Port, S: Settle + Copy> NodeLoop<'a, L, H
         }
     }
 
-    // Looks at what a connection shows whose place is kept for administrators. It may stay if it shows the token. Returns true if it did.
+    // Checks the first bytes of a connection that is kept for administrators. It may stay if they show the token. Returns true if they did.
     pub(crate) fn examine(&mut self, key: usize) -> bool
         ensures origin { self.new.mail.origin ≡ self.old.mail.origin }
     {

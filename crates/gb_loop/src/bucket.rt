@@ -2,7 +2,7 @@
 ghost use Rattle.std.specs.Prelude.{◌≡◌};
 ghost use Rattle.gb_loop.specs.Buckets.{charged, is_open, opens_at};
 
-/// How many nanoseconds a second has, and how many a microsecond.
+/// The nanoseconds of a second, and of a microsecond.
 const SECOND: u64 = 1_000_000_000;
 
 const MICRO: u64 = 1_000;
@@ -13,7 +13,7 @@ const _: () = prove!(SECOND == 1_000_000_000 && MICRO == 1_000);
 /// is full again, in nanoseconds, if nothing more is taken out.
 #[derive(Clone, Copy, Debug, PartialEq, Eq)]
 pub struct Bucket {
-    /// How much comes in a second; 0: there is no limit.
+    /// The number that comes in a second, or 0 if there is no limit.
     pub rate: u64,
     pub full_at: u64,
 }
@@ -27,7 +27,7 @@ impl Bucket {
         Bucket { rate, full_at: 0 }
     }
 
-    /// Takes `count` out at the time `now`, in microseconds. Nothing changes where there is no limit.
+    /// Takes `count` out at the time `now`, in microseconds. Changes nothing if there is no limit.
     pub fn charge(&mut self, now: u64, count: u64)
         ensures { self.new ≡ charged self.old now count }
     {
@@ -39,7 +39,7 @@ impl Bucket {
         self.full_at = from.saturating_add(cost);
     }
 
-    /// Returns true if something may be taken out at the time `now`, in microseconds: it is not overdrawn.
+    /// Returns true if something may be taken out at the time `now`, in microseconds: the bucket is not overdrawn.
     pub fn is_open(&self, now: u64) -> bool
         ensures { result ≡ is_open self.now now }
     {

@@ -1,4 +1,4 @@
-//! The packets of a loop: those that come, and those that are owed to other nodes.
+//! The packets of a loop: those that come, and those that the loop owes to other nodes.
 ghost use Rattle.std.specs.Prelude.{◌≡◌};
 
 use crate::links::{CALL, Link};
@@ -14,7 +14,7 @@ use gb_types::limits::NODES;
 use std::sync::Wait;
 use std::time::Clock;
 
-/// How many packets a round takes at most, and how many frames it packs for a node.
+/// The most packets that a round takes, and the most frames that it packs for a node.
 pub const PACKETS: usize = 64;
 
 pub const FRAMES: usize = 64;
@@ -31,8 +31,8 @@ fn highest_of(hint: Hint) -> u64 {
 }
 
 impl<'a, L: Tapes, H: Wait + Clock, P: Port, S: Settle + Copy> NodeLoop<'a, L, H, P, S> {
-    // Returns the node with this number, if it is another one and this one has not noticed it: to one that was noticed nothing is sent any
-    // more, so that it notices this one in turn.
+    // Returns the node with this number, if it is another one and this one has not noticed it. `None` otherwise. A node that was noticed is
+    // sent nothing more, so that it notices this one in turn.
     fn other(&self, number: u8) -> Option<NodeId> {
         if number == self.mail.origin.node.number || usize::from(number) >= NODES {
             return None;
@@ -45,7 +45,7 @@ impl<'a, L: Tapes, H: Wait + Clock, P: Port, S: Settle + Copy> NodeLoop<'a, L, H
         }
     }
 
-    // Keeps what is known of the link to a node.
+    // Stores the state of the link to a node.
     fn set_link(&mut self, to: NodeId, link: Link)
         ensures origin { self.new.mail.origin ≡ self.old.mail.origin }
     {
@@ -112,7 +112,7 @@ impl<'a, L: Tapes, H: Wait + Clock, P: Port, S: Settle + Copy> NodeLoop<'a, L, H
         }
     }
 
-    // A good packet came.
+    // Updates the link to the sender of a good packet, sends frames again that it lacks, and wakes clients that wait for its items.
     fn heed(&mut self, good: Good, hint: Hint)
         ensures origin { self.new.mail.origin ≡ self.old.mail.origin }
     {
@@ -137,7 +137,7 @@ impl<'a, L: Tapes, H: Wait + Clock, P: Port, S: Settle + Copy> NodeLoop<'a, L, H
         }
     }
 
-    // Sends a frame again that the other node lacks, if it was not sent again yet.
+    // Sends a frame again that the other node lacks, unless it was sent again before.
     fn fill(&mut self, to: NodeId, number: u64)
         ensures origin { self.new.mail.origin ≡ self.old.mail.origin }
     {
@@ -153,7 +153,7 @@ impl<'a, L: Tapes, H: Wait + Clock, P: Port, S: Settle + Copy> NodeLoop<'a, L, H
         self.set_link(to, link);
     }
 
-    // Sends again the frames below the highest that came, each once.
+    // Sends again the frames below the highest that arrived, each once.
     fn repair(&mut self, to: NodeId, hint: Hint)
         ensures origin { self.new.mail.origin ≡ self.old.mail.origin }
     {
@@ -171,7 +171,7 @@ impl<'a, L: Tapes, H: Wait + Clock, P: Port, S: Settle + Copy> NodeLoop<'a, L, H
         }
     }
 
-    // Takes packets that came, `PACKETS` at most.
+    // Takes packets that came, at most `PACKETS` of them.
     pub(crate) fn receive(&mut self)
         ensures origin { self.new.mail.origin ≡ self.old.mail.origin }
     {
@@ -191,7 +191,7 @@ impl<'a, L: Tapes, H: Wait + Clock, P: Port, S: Settle + Copy> NodeLoop<'a, L, H
         }
     }
 
-    // Packs what waits for a node, while its frames have room.
+    // Packs the items that wait for a node, while the link has room for frames.
     fn pack(&mut self, to: NodeId)
         ensures origin { self.new.mail.origin ≡ self.old.mail.origin }
     {
@@ -205,7 +205,7 @@ impl<'a, L: Tapes, H: Wait + Clock, P: Port, S: Settle + Copy> NodeLoop<'a, L, H
         }
     }
 
-    // Packs what waits for each other node.
+    // Packs the items that wait for each other node.
     pub(crate) fn pack_all(&mut self)
         ensures origin { self.new.mail.origin ≡ self.old.mail.origin }
     {
@@ -227,7 +227,7 @@ impl<'a, L: Tapes, H: Wait + Clock, P: Port, S: Settle + Copy> NodeLoop<'a, L, H
             if self.mail.send(NodeEvent::Again { to, frame: 0 }, to) {
                 link.sent(now);
             } else if !self.mail.is_short {
-                // No frame is open: the other node is noticed.
+                // No frame was sent, since the other node is noticed.
                 link.open = 0;
             }
             link.repeated(now);
@@ -239,7 +239,7 @@ impl<'a, L: Tapes, H: Wait + Clock, P: Port, S: Settle + Copy> NodeLoop<'a, L, H
         self.set_link(to, link);
     }
 
-    // Does for each link what is due.
+    // Sends on each link what is due.
     pub(crate) fn keep_links(&mut self)
         ensures origin { self.new.mail.origin ≡ self.old.mail.origin }
     {
@@ -250,7 +250,7 @@ impl<'a, L: Tapes, H: Wait + Clock, P: Port, S: Settle + Copy> NodeLoop<'a, L, H
         }
     }
 
-    // Returns how many microseconds nothing is to be done, if nothing happens.
+    // Returns the number of microseconds for which there is nothing to do, if nothing happens.
     pub(crate) fn patience(&self) -> u64 {
         let is_open = self.is_open();
         if self.has_packets

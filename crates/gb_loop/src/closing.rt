@@ -11,18 +11,18 @@ use std::sync::Wait;
 use std::thread;
 use std::time::{Clock, Duration};
 
-/// How many turns a connection gets at the loop's end while its stream takes the replies, and how often it is looked at again, every 10
-/// milliseconds, where its stream does not.
+/// The most turns of a connection at the loop's end while its stream takes the replies, and the most looks at it, every 10
+/// milliseconds, while its stream does not.
 pub const LAST_TURNS: usize = 64;
 
 pub const LAST_LOOKS: usize = 100;
 
-/// How long all of these take at most, in microseconds.
+/// The most microseconds of all of these.
 pub const LAST: u64 = 2_000_000;
 
 const _: () = prove!(LAST_LOOKS == 100 && LAST_TURNS == 64 && LAST == 2_000_000);
 
-/// What the last turn of a connection leaves to do.
+/// The work that is left after the last turn of a connection.
 #[derive(Clone, Copy, Debug, PartialEq, Eq)]
 enum Rest {
     /// Nothing.
@@ -34,7 +34,7 @@ enum Rest {
 }
 
 impl Rest {
-    // Returns the greater of two: more to answer before replies that wait.
+    // Returns the greater of two: more to answer is greater than replies that wait.
     fn with(self, other: Rest) -> Rest {
         match (self, other) {
             (Rest::More, _) | (_, Rest::More) => Rest::More,
@@ -45,7 +45,7 @@ impl Rest {
 }
 
 impl<'a, L: Tapes, H: Wait + Clock, P: Port, S: Settle + Copy> NodeLoop<'a, L, H, P, S> {
-    // Makes a last turn of a connection: what is whole is answered, what waits as late; then what came is read.
+    // Makes a last turn of a connection: answers whole messages, and waits as late; then reads the bytes that came. Returns the work left.
     fn end_turn(&mut self, key: usize) -> Rest
         ensures origin { self.new.mail.origin ≡ self.old.mail.origin }
     {
@@ -60,7 +60,7 @@ impl<'a, L: Tapes, H: Wait + Clock, P: Port, S: Settle + Copy> NodeLoop<'a, L, H
         }
     }
 
-    // Makes a last turn of a connection in which it is read.
+    // Makes a last turn of a connection in which it is read. Returns the work left.
     fn end_read(&mut self, key: usize) -> Rest
         ensures origin { self.new.mail.origin ≡ self.old.mail.origin }
     {
@@ -71,7 +71,7 @@ impl<'a, L: Tapes, H: Wait + Clock, P: Port, S: Settle + Copy> NodeLoop<'a, L, H
         }
     }
 
-    // Makes a last turn of each connection, as long as there is time.
+    // Makes a last turn of each connection, as long as there is time. Returns the work left.
     fn end_turns(&mut self, until: u64) -> Rest
         ensures origin { self.new.mail.origin ≡ self.old.mail.origin }
     {
@@ -86,7 +86,7 @@ impl<'a, L: Tapes, H: Wait + Clock, P: Port, S: Settle + Copy> NodeLoop<'a, L, H
     }
 
     // Makes last turns of all connections, one of each in turn, until there is no more to answer. Returns true if replies wait for the
-    // stream of one.
+    // stream of a connection.
     fn answer_last(&mut self, until: u64) -> bool
         ensures origin { self.new.mail.origin ≡ self.old.mail.origin }
     {
@@ -100,8 +100,8 @@ impl<'a, L: Tapes, H: Wait + Clock, P: Port, S: Settle + Copy> NodeLoop<'a, L, H
         rest != Rest::Nothing
     }
 
-    // The end: no connection is accepted any more; those that wait are answered as late, and what is whole is answered. Replies that a
-    // stream does not take get a second. Then all are closed, `LAST` microseconds after the end was seen if something is left to do then.
+    // Ends the loop. Accepts no more connections, answers those that wait as late, and answers whole messages. Waits a second for replies
+    // that a stream does not take. Then closes all connections, at the latest `LAST` microseconds after the end was seen.
     pub(crate) fn finish(&mut self)
         ensures origin { self.new.mail.origin ≡ self.old.mail.origin }
     {

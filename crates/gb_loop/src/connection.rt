@@ -10,33 +10,33 @@ pub const ROOM: usize = 65_536;
 
 const _: () = prove!(ROOM == 65_536);
 
-/// What a connection waits for.
+/// The event that a connection waits for.
 #[derive(Drop)]
 pub enum Waits {
     /// For bytes of its client.
     Bytes,
-    /// For room for replies: messages are whole that were not answered for lack of it.
+    /// Room for replies: whole messages were not answered for lack of it.
     Room,
-    /// For something to fetch from one of these groups, which its next message names.
+    /// Something to fetch from one of these groups, which its next message names.
     Groups(Vec<Addr>),
-    /// For the end of the time that its next message names, and for nothing else: its tenant has as many that wait for groups as it may.
+    /// The end of the time that its next message names, and nothing else: as many connections of its tenant wait for groups as may.
     Time,
 }
 
-/// The place that a connection takes, and what was admitted of it.
+/// The kind of room that a connection takes, and whether a request of it was admitted.
 #[derive(Clone, Copy, Debug, PartialEq, Eq)]
 pub enum Standing {
-    /// A common place, and nothing was admitted.
+    /// It takes common room, and no request was admitted.
     Stranger,
-    /// A common place, and something was admitted.
+    /// It takes common room, and a request was admitted.
     Member,
-    /// A place that is kept for administrators, whose token it has not shown yet.
+    /// It takes room that is kept for administrators, and has not shown the token yet.
     Unshown,
-    /// A place that is kept for administrators, whose token it has shown.
+    /// It takes room that is kept for administrators, and has shown the token.
     Administrator,
 }
 
-/// Why a connection is looked at.
+/// The reason why a connection is looked at.
 #[derive(Clone, Copy, Debug, PartialEq, Eq)]
 pub enum Look {
     /// Bytes may have come.
@@ -49,38 +49,38 @@ pub enum Look {
     Late,
     /// The loop ends.
     Last,
-    /// The loop ends, and nothing that came before is left to answer.
+    /// The loop ends, and all that came before is answered.
     LastReads,
 }
 
-/// A client's connection: its stream, its client, and what is to be done for it.
+/// A client's connection: its stream, its client, and the work for it.
 #[derive(Drop)]
 pub struct Connection {
     pub stream: TcpStream,
     pub client: Client,
     pub waits: Waits,
-    /// Until when its next message waits, once it was tried.
+    /// The time until which its next message waits, once it was tried.
     pub wait_until: Option<u64>,
-    /// It stands in a line, or is held until its tenant may ask again.
+    /// True if it is in a line, or is held until its tenant may ask again.
     pub is_listed: bool,
-    /// When it was put into its line, in microseconds.
+    /// The time when it was put into its line, in microseconds.
     pub listed_at: u64,
-    /// It is among those whose wait is tried again.
+    /// True if it is among those whose wait is tried again.
     pub is_woken: bool,
-    /// The system said that there is no more to read for now.
+    /// True if the system has no more bytes of it for now.
     pub is_drained: bool,
-    /// The peer sends no more.
+    /// True if the peer sends no more.
     pub is_read_closed: bool,
     pub standing: Standing,
-    /// The tenant of the last request of it that was admitted.
+    /// The tenant of its last request that was admitted.
     pub tenant: Option<u16>,
-    /// When it came, in microseconds.
+    /// The time when it came, in microseconds.
     pub came_at: u64,
     pub timer: Timer,
 }
 
 impl Standing {
-    /// Returns the standing once something was admitted.
+    /// Returns the standing after a request was admitted.
     pub fn admitted(self) -> Standing {
         match self {
             Standing::Stranger => Standing::Member,
@@ -88,14 +88,14 @@ impl Standing {
         }
     }
 
-    /// Returns true if it takes one of the places that are kept for administrators.
+    /// Returns true if it takes room that is kept for administrators.
     pub fn is_kept(self) -> bool {
         matches!(self, Standing::Unshown | Standing::Administrator)
     }
 }
 
 impl Look {
-    /// Returns how a turn is made.
+    /// Returns the way in which a turn is made for this reason.
     pub fn way(self) -> Way {
         match self {
             Look::Reads => Way {
@@ -166,7 +166,7 @@ impl Connection {
         }
     }
 
-    /// Returns true if it takes longer than is allowed at the time `now`. One that waits does not.
+    /// Returns true if the connection takes longer than is allowed at the time `now`. One that waits does not.
     pub fn is_late(&self, now: u64, patience: &Patience) -> bool {
         !self.is_parked() && self.timer.is_late(now, patience)
     }

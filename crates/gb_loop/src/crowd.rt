@@ -1,11 +1,11 @@
-//! The connections of a loop as a whole: who is looked at next, whose wait is tried again, and who is held.
+//! The connections of a loop as a whole: those that are looked at next, those whose wait is tried again, and those that are held.
 use crate::lines::Lines;
 use crate::meters::Meters;
 use crate::rates::RateLimits;
 use std::alloc::Global;
 use std::collections::VecDeque;
 
-/// How many places are kept for administrators, beside those of all other connections.
+/// The number of connections that are kept for administrators, beside all other connections.
 pub const KEPT: u64 = 2;
 
 const _: () = prove!(KEPT == 2);
@@ -13,20 +13,20 @@ const _: () = prove!(KEPT == 2);
 /// The connections of a loop as a whole.
 #[derive(Drop)]
 pub struct Crowd {
-    /// Those that are looked at next.
+    /// The connections that are looked at next.
     pub lines: Lines,
-    /// Those whose wait is tried again.
+    /// The connections whose wait is tried again.
     pub woken: VecDeque<usize>,
-    /// Those whose tenants asked more than they may, and from when on the first of them may ask again, in microseconds.
+    /// The connections whose tenants asked more than they may, and the time when the first of them may ask again, in microseconds.
     pub held: VecDeque<usize>,
     pub held_until: u64,
     pub meters: Meters,
-    /// How many of the places that are kept for administrators are taken.
+    /// The number of connections of administrators that are taken.
     pub kept: u64,
 }
 
 impl Crowd {
-    /// Returns a crowd of no connection.
+    /// Returns a crowd without a connection.
     pub fn new(alloc: Global, limits: RateLimits) -> Crowd {
         Crowd {
             lines: Lines::new(alloc),
@@ -43,7 +43,7 @@ impl Crowd {
         !self.lines.is_empty() || !self.woken.is_empty()
     }
 
-    /// Returns when there is something to do if nothing happens before, in microseconds.
+    /// Returns the time at which there is something to do if nothing happens before, in microseconds.
     pub fn due_at(&self) -> u64 {
         self.held_until
     }

@@ -1,9 +1,10 @@
 //! The event loop of a node: one thread that carries its packets, answers all its clients and makes its time tick, and waits in
-//! the system for the next of these. gb_mail has the node with its port, and each client's session. Here `links` has what is owed to each
-//! other node, `sources` where it waits for packets, and `parked` the clients that wait for a group. The loop itself is `node_loop::run_loop`; `carry` is its half of packets. The
-//! others are its half of clients: `admitting` takes connections in, `serving` looks at them, `waiting` has those that wait, `ticking` does
-//! what is due at a tick and `closing` what is due at the end. `lines`, `timer`, `candidate`, `opening`, `bucket` and `rates` decide who is served, and
-//! know no socket. Who runs a loop hands in a `Settle` and gets `Parts` back, so these names are passed on.
+//! the system for the next of these. gb_mail has the node with its port, and each client's session. Here `links` has the state of the
+//! link to each other node, `sources` the sources of packets, and `parked` the clients that wait for a group. The loop itself is
+//! `node_loop::run_loop`; `carry` is its half for packets. The others are its half for clients: `admitting` accepts connections,
+//! `serving` looks at them, `waiting` has those that wait, `ticking` does the work of a tick and `closing` that of the end. `lines`,
+//! `timer`, `candidate`, `opening`, `bucket` and `rates` choose the client that is served, and know no socket. The caller of a loop
+//! passes a `Settle` and receives `Parts`, so these names are passed on.
 #![tactic(auto)]
 
 pub mod admitting;

@@ -5,23 +5,23 @@ ghost use Rattle.gb_loop.specs.Turns.{is_strangers_turn, members_behind, next_ke
 use std::alloc::Global;
 use std::collections::VecDeque;
 
-/// Every how many turns those come first of whom nothing was admitted.
+/// The number of turns of which one is for connections without an admitted request.
 const SHARE: u64 = 4;
 
 const _: () = prove!(SHARE == 4);
 
-/// Two lines of connections: those of whom something was admitted, and the others. Three turns of four are the former's, while there are
-/// some; the fourth is the latter's.
+/// Two lines of connections: those with an admitted request, which are members, and the others, which are strangers. Three turns of four
+/// are for members, while there are some; the fourth is for strangers.
 #[derive(Drop)]
 pub struct Lines {
     pub members: VecDeque<usize>,
     pub strangers: VecDeque<usize>,
-    /// How many turns there were, modulo 2^64.
+    /// The number of turns so far, modulo 2^64.
     pub turns: u64,
 }
 
 impl Lines {
-    /// Returns lines in which nobody stands.
+    /// Returns two empty lines.
     pub fn new(alloc: Global) -> Lines
         ensures members { result.members.items ≡ [] }
         ensures strangers { result.strangers.items ≡ [] }
@@ -33,7 +33,7 @@ impl Lines {
         }
     }
 
-    /// Returns true if nobody stands in either line.
+    /// Returns true if both lines are empty.
     pub fn is_empty(&self) -> bool {
         self.members.is_empty() && self.strangers.is_empty()
     }
@@ -54,7 +54,7 @@ impl Lines {
         }
     }
 
-    /// Takes out the connection whose turn is next, and returns it. `None` if nobody stands in either line.
+    /// Removes the connection whose turn is next, and returns it. `None` if both lines are empty.
     pub fn next(&mut self) -> Option<usize>
         ensures next { result ≡ next_key (is_strangers_turn self.old.turns) self.old.members.items self.old.strangers.items }
         ensures members { self.new.members.items ≡ members_behind (is_strangers_turn self.old.turns) self.old.members.items self.old.strangers.items }

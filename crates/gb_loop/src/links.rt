@@ -1,8 +1,8 @@
 //! What a loop owes another node.
 use gb_host::LinkStanding;
 
-/// How long after a frame was sent it is sent again, in microseconds: while no round trip was measured, and at least. Without an
-/// acknowledgement it is twice as long each time, up to the greater of `AGAIN_MOST` and what the measured round trip asks for.
+/// The time after which a frame is sent again, in microseconds: while no round trip was measured, and at least. Without an
+/// acknowledgement it doubles each time, up to the greater of `AGAIN_MOST` and the time that follows from the measured round trip.
 pub const AGAIN: u64 = 4_000;
 
 pub const AGAIN_MOST: u64 = 256_000;
@@ -32,7 +32,7 @@ pub const ROOM_MOST: u64 = 64;
 
 const _: () = prove!(ROOM_MOST == 64 && ROOM == 16 && ROOM_LEAST == 4);
 
-/// What a loop knows of the link to another node, and what it owes it.
+/// The state of the link to another node, with the frames and acknowledgements that are owed to it.
 #[derive(Clone, Copy)]
 pub struct Link {
     /// How many frames were packed for it.
@@ -40,25 +40,25 @@ pub struct Link {
     /// How many of them are not acknowledged, and how many may be.
     pub open: u64,
     pub room: u64,
-    /// When a frame is sent again, where some are open.
+    /// The time when a frame is sent again, if some are open.
     pub again_at: u64,
-    /// How long is waited for that.
+    /// The wait before that.
     pub patience: u64,
-    /// The frame is sent again as an acknowledgement came behind one that was late.
+    /// True if a frame is sent again because an acknowledgement came behind one that was late.
     pub is_prompted: bool,
-    /// How many frames are to be acknowledged until all are that were open when one was late.
+    /// The number of frames that must be acknowledged until all are that were open when one was late.
     pub late: u64,
-    /// When a frame was sent whose round trip is measured, and how many frames are to be acknowledged until it is; 0: none is measured.
+    /// The time when the frame was sent whose round trip is measured, and the number of frames until its acknowledgement; 0 if none is measured.
     pub timed_at: u64,
     pub timed: u64,
-    /// The measured round trip, and how much it varies; 0: none was measured.
+    /// The measured round trip, and its variation; 0 if none was measured.
     pub round_trip: u64,
     pub variation: u64,
     /// The highest frame that was sent again because a later one came.
     pub repaired: u64,
-    /// A frame of it came and was not acknowledged.
+    /// True if a frame of it came and was not acknowledged.
     pub owes: bool,
-    /// When something was last sent to it.
+    /// The time when a packet was last sent to it.
     pub sent_at: u64,
 }
 
@@ -109,19 +109,19 @@ impl Link {
         self.sent(now);
     }
 
-    /// Notes that something was sent, which acknowledges what came.
+    /// Records that a packet was sent, which acknowledges the frames that came.
     pub fn sent(&mut self, now: u64) {
         self.owes = false;
         self.sent_at = now;
     }
 
-    // How long is waited for an acknowledgement by what was measured: the round trip and four times its variation (RFC 6298).
+    // Returns the wait for an acknowledgement by the measurements: the round trip and four times its variation (RFC 6298).
     fn measured(&self) -> u64 {
         let spread = self.variation.saturating_mul(4).max(GRAIN);
         self.round_trip.saturating_add(spread).max(AGAIN)
     }
 
-    // Takes a round trip in (RFC 6298, section 2).
+    // Updates the measurements by a round trip (RFC 6298, section 2).
     fn measure(&mut self, took: u64) {
         let took = took.max(1);
         if self.round_trip == 0 {
@@ -135,7 +135,7 @@ impl Link {
         self.patience = self.measured();
     }
 
-    // Frames are acknowledged: the one that is measured may be among them.
+    // Counts acknowledged frames, among which may be the one that is measured.
     fn time(&mut self, count: u64, now: u64) {
         if self.timed == 0 {
             return;
@@ -148,8 +148,8 @@ impl Link {
         }
     }
 
-    /// Notes that `count` more frames are acknowledged. The patience stays what it grew to until a round trip is measured. Of the frames
-    /// that were open when one was late, the next is sent again at once.
+    /// Records that `count` more frames are acknowledged. The patience keeps its value until a round trip is measured. If frames are still
+    /// open that were open when one was late, the next of them is sent again at once.
     pub fn done(&mut self, count: u64, now: u64) {
         if count > 0 {
             self.open = self.open.saturating_sub(count);
@@ -175,14 +175,14 @@ impl Link {
         self.room = (self.room / 2).max(ROOM_LEAST);
     }
 
-    /// Notes that a frame was sent again. An acknowledgement does not tell which of the two it is for, so no round trip is measured by it
+    /// Records that a frame was sent again. An acknowledgement does not show which of the two it is for, so it measures no round trip
     /// (Karn's algorithm).
     pub fn resent(&mut self) {
         self.timed = 0;
     }
 
-    /// Notes that the frame that waits longest was sent again, because an acknowledgement asked for it or its time had come. In the second
-    /// case it was late, and fewer may be open. All that are missing may be sent again once more.
+    /// Records that the frame that waits longest was sent again, because an acknowledgement asked for it or its time had come. In the second
+    /// case it was late, and fewer may be open. All missing frames may be sent again once more.
     pub fn repeated(&mut self, now: u64) {
         self.repaired = 0;
         self.resent();
@@ -197,7 +197,7 @@ impl Link {
         self.again_at = now.saturating_add(self.patience);
     }
 
-    /// Returns the time at which something is to be done for the link if nothing happens before: a frame sent again, or a sign of life
+    /// Returns the time at which the link needs a packet if nothing happens before: a frame sent again, or a sign of life
     /// `beat` microseconds after the last packet.
     pub fn due_at(&self, beat: u64) -> u64 {
         let beat_at = self.sent_at.saturating_add(beat);

@@ -1,21 +1,21 @@
-//! What tenants have asked, as far as they have limits.
+//! The requests of tenants that have limits.
 use crate::bucket::Bucket;
 use crate::rates::{Rate, RateLimits};
 use indexmap::IndexMap;
 use std::alloc::Global;
 
-/// What a tenant has asked.
+/// The requests that a tenant has made.
 #[derive(Clone, Copy)]
 pub struct Meter {
     pub requests: Bucket,
     pub bytes: Bucket,
-    /// How many of its connections wait for something to fetch, and how many may; 0: as many as there are.
+    /// The number of its connections that wait for something to fetch, and the most that may; 0: without a limit.
     pub waits: u64,
     pub most_waits: u64,
 }
 
 impl Meter {
-    // Returns the meter of a tenant that has asked nothing.
+    // Returns the meter of a tenant that has made no request.
     fn new(rate: Rate) -> Meter {
         Meter {
             requests: Bucket::new(rate.requests),
@@ -34,7 +34,7 @@ pub struct Meters {
 }
 
 impl Meters {
-    /// Returns meters of which none has counted anything.
+    /// Returns meters without a count.
     pub fn new(alloc: Global, limits: RateLimits) -> Meters {
         Meters {
             limits,
@@ -42,7 +42,7 @@ impl Meters {
         }
     }
 
-    // Returns the meter of a tenant. None: it has no limit.
+    // Returns the meter of a tenant. `None` if it has no limit.
     fn meter(&self, tenant: u16) -> Option<Meter> {
         let rate = self.limits.of(tenant);
         if !rate.is_limited() {
@@ -54,7 +54,7 @@ impl Meters {
         }
     }
 
-    // Keeps the meter of a tenant, if there is memory for it.
+    // Stores the meter of a tenant, if there is memory for it.
     fn keep(&mut self, tenant: u16, meter: Meter) {
         let _ = self.meters.insert(tenant, meter);
     }
@@ -64,7 +64,7 @@ impl Meters {
         self.limits.of(tenant).is_limited()
     }
 
-    /// Counts what a tenant asked at the time `now`, in microseconds.
+    /// Charges a tenant for these requests and bytes at the time `now`, in microseconds.
     pub fn charge(&mut self, tenant: u16, requests: u64, bytes: u64, now: u64) {
         if let Some(meter) = self.meter(tenant) {
             let mut meter = meter;
@@ -74,7 +74,7 @@ impl Meters {
         }
     }
 
-    /// Returns from when on a tenant may ask again, in microseconds. `None` if it may now.
+    /// Returns the time from which a tenant may ask again, in microseconds. `None` if it may now.
     pub fn opens_at(&self, tenant: u16, now: u64) -> Option<u64> {
         let meter = self.meters.get(&tenant)?;
         if meter.requests.is_open(now) && meter.bytes.is_open(now) {

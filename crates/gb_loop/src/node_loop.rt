@@ -27,7 +27,7 @@ use std::time::{Clock, Duration};
 /// The bytes that one read takes at most.
 pub const PIECE: usize = 65_536;
 
-/// How long a round waits at most, in microseconds: so soon an end is seen.
+/// The longest wait of a round, in microseconds. An end is seen within this time.
 pub const LOOK: u64 = 100_000;
 
 const _: () = prove!(LOOK == 100_000 && PIECE == 65_536);
@@ -35,12 +35,12 @@ const _: () = prove!(LOOK == 100_000 && PIECE == 65_536);
 // The token of the socket that is neither a connection nor a source of packets.
 const LISTENER: usize = SOURCES - 1;
 
-/// What a loop is told, and what it tells. Asked once a round.
+/// The calls by which a loop reports, and asks whether it is to end. `is_over` is called once a round.
 pub trait Ending {
-    /// All connections that are to be served were.
+    /// Reports that all connections that were to be served have been served.
     fn served(&self);
 
-    /// A loop could not begin: its sockets could not be waited for.
+    /// Reports that a loop could not begin, since its sockets could not be waited for.
     fn fail(&self);
 
     /// A node that goes on from its record lacks the last lines of it: another node knows of more.
@@ -49,17 +49,17 @@ pub trait Ending {
     /// Returns true if the loop is to end.
     fn is_over(&self) -> bool;
 
-    /// A loop has begun: its memory and its sockets are there.
+    /// Reports that a loop has begun: its memory and its sockets are there.
     fn begun(&self) {}
 
-    /// An administrator has asked for the end at a node.
+    /// Reports that an administrator has asked for the end at a node.
     fn asked(&self) {}
 
-    /// What a node counted until its last tick, the nodes that it noticed, and how long its loop took. Called when the loop begins, once a
-    /// tick, and when it has ended.
+    /// Reports the counts of a node until its last tick, the nodes that it noticed, and the times of its loop. It is called when the loop
+    /// begins, once a tick, and when the loop has ended.
     fn publish(&self, _node: NodeId, _figures: &Figures, _noticed: &NodeSet, _times: &LoopTimes) {}
 
-    /// Packets that came to a node from the address of another one do not fit. Told at a tick, at most once a minute for each other one.
+    /// Reports that packets from another node's address do not fit. It is called at a tick, at most once a minute for each other node.
     fn misfit(&self, _node: NodeId, _other: NodeId, _misfit: Misfit) {}
 }
 
@@ -79,11 +79,11 @@ pub struct NodeLoop<'a, L: Tapes, H, P: Port, S> {
     pub(crate) connections: Slab<Connection>,
     pub(crate) crowd: Crowd,
     pub(crate) parked: Parked,
-    // Bytes read, replies made and groups of items that came in one call.
+    // The bytes that one call read, the replies that it made, and the groups of items that came in it.
     pub(crate) space: Vec<u8>,
     pub(crate) out: Vec<u8>,
     pub(crate) came: Vec<Addr>,
-    // Something may wait for other nodes.
+    // True if something may wait for other nodes.
     pub(crate) is_dirty: bool,
     pub(crate) has_packets: bool,
     pub(crate) has_clients: bool,
@@ -94,13 +94,13 @@ pub struct NodeLoop<'a, L: Tapes, H, P: Port, S> {
     pub(crate) has_ticked: bool,
     // The nodes that this one noticed.
     pub(crate) noticed: NodeSet,
-    // Time passes at the node. It waits for the other nodes to be heard of, and these were.
+    // True if time passes at the node, which waits for the other nodes to be heard; and the nodes that were heard.
     pub(crate) may_tick: bool,
     pub(crate) heard: NodeSet,
     // Another node knows of more than this one does, which goes on from its record.
     pub(crate) is_lost: bool,
     pub(crate) sources: Sources,
-    // How long rounds and replies took, and whether the last look at a connection made replies.
+    // The times of rounds and replies, and whether the last look at a connection made replies.
     pub(crate) times: LoopTimes,
     pub(crate) has_replied: bool,
 }
@@ -128,14 +128,14 @@ fn new_links(
 pub struct LoopSockets<P> {
     /// The node whose sockets they are.
     pub node: NodeId,
-    /// For packets.
+    /// The port for packets.
     pub port: P,
-    /// For clients.
+    /// The listener for clients.
     pub listener: TcpListener,
 }
 
 impl<'a, L: Tapes, H: Wait + Clock, P: Port, S: Settle + Copy> NodeLoop<'a, L, H, P, S> {
-    // A loop that has not begun. Without memory the node's parts are given back.
+    // Returns a loop that has not begun. Without memory it returns the node's parts.
     fn new(
         rt: &'a H,
         settle: S,
@@ -191,7 +191,7 @@ impl<'a, L: Tapes, H: Wait + Clock, P: Port, S: Settle + Copy> NodeLoop<'a, L, H
         })
     }
 
-    // Registers the sockets.
+    // Registers the sockets, and returns the poll and the space for its events.
     fn begin<N: Net>(&mut self, net: &N) -> io::Result<(Poll, Events)>
         ensures origin { self.new.mail.origin ≡ self.old.mail.origin }
     {
@@ -205,7 +205,7 @@ impl<'a, L: Tapes, H: Wait + Clock, P: Port, S: Settle + Copy> NodeLoop<'a, L, H
         Ok((poll, events))
     }
 
-    // Notes that the system told something of a connection.
+    // Records an event that the system reported about a connection.
     fn hear(&mut self, key: usize, event: &Event)
         ensures origin { self.new.mail.origin ≡ self.old.mail.origin }
     {
@@ -221,7 +221,7 @@ impl<'a, L: Tapes, H: Wait + Clock, P: Port, S: Settle + Copy> NodeLoop<'a, L, H
         self.list(key);
     }
 
-    // Notes what the system told.
+    // Records the events that the system reported.
     fn hear_all(&mut self, events: &Events)
         ensures origin { self.new.mail.origin ≡ self.old.mail.origin }
     {
@@ -234,7 +234,7 @@ impl<'a, L: Tapes, H: Wait + Clock, P: Port, S: Settle + Copy> NodeLoop<'a, L, H
         }
     }
 
-    // Does what there is to do.
+    // Does the work that is there.
     fn work(&mut self, poll: &Poll)
         ensures origin { self.new.mail.origin ≡ self.old.mail.origin }
     {
@@ -264,7 +264,7 @@ impl<'a, L: Tapes, H: Wait + Clock, P: Port, S: Settle + Copy> NodeLoop<'a, L, H
         self.keep_links();
     }
 
-    // One round: waits, and does what there is to do.
+    // Makes one round: waits, and does the work that is there.
     fn round<E: Ending>(&mut self, poll: &mut Poll, events: &mut Events, ending: &E)
         ensures origin { self.new.mail.origin ≡ self.old.mail.origin }
     {
@@ -295,14 +295,14 @@ impl<'a, L: Tapes, H: Wait + Clock, P: Port, S: Settle + Copy> NodeLoop<'a, L, H
         }
     }
 
-    // Publishes what the node counted, the nodes that it noticed, and how long its loop took.
+    // Publishes the counts of the node, the nodes that it noticed, and the times of its loop.
     fn publish<E: Ending>(&self, ending: &E) {
         let figures = self.mail.figures;
         let noticed = self.noticed.duplicate();
         ending.publish(self.mail.origin.node, &figures, &noticed, &self.times);
     }
 
-    // Runs until the end is told.
+    // Runs until `ending` says that it is over.
     fn run<N: Net, E: Ending>(&mut self, net: &N, ending: &E)
         ensures origin { self.new.mail.origin ≡ self.old.mail.origin }
     {
@@ -330,7 +330,7 @@ impl<'a, L: Tapes, H: Wait + Clock, P: Port, S: Settle + Copy> NodeLoop<'a, L, H
         self.publish(ending);
     }
 
-    // Gives up the loop for its node's parts.
+    // Consumes the loop, and returns its node's parts.
     fn into_parts(self) -> Parts<L, P>
         ensures node { result.node ≡ self.entry.mail.origin.node }
         ensures here { ∥ HasCalled result.node self.entry.mail.origin.seat.value.calls result.seat.calls ∥₁ }
@@ -374,9 +374,9 @@ impl<'a, L: Tapes, H: Wait + Clock, P: Port, S: Settle + Copy> NodeLoop<'a, L, H
     }
 }
 
-/// Runs the loop of the node of `sockets` until its end is told: carries the packets of its port, answers the clients of its listener, and
-/// makes its time tick. Each call of the seat is one at the node; what travelled at the port is what these calls say. What happened is
-/// settled before a reply is written, after the turn of each client, and once a round. Returns the seat and the port.
+/// Runs the loop of the node of `sockets` until `ending` says that it is over: carries the packets of its port, answers the clients of its
+/// listener, and makes its time tick. Each call of the seat is one at the node, and exactly the packets of these calls pass the port. Events
+/// are settled before a reply is written, after the turn of each client, and once a round. Returns the seat and the port.
 pub fn run_loop<L: Tapes, H: Wait + Clock, N: Net, P: Port, S: Settle + Copy, E: Ending>(
     rt: &H,
     net: &N,

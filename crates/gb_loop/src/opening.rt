@@ -1,4 +1,4 @@
-//! What the first message of a connection comes with.
+//! The first message of a connection, and its token.
 ghost use Rattle.std.specs.Prelude.{◌≡◌, IfOk};
 ghost use Rattle.gb_loop.specs.Openings.{Opens, shown_token};
 
@@ -9,18 +9,18 @@ use gb_session::session::{AskFront, read_ask_front};
 use gb_types::{Action, OutOfMemory};
 use std::alloc::Global;
 
-/// What the first bytes of a connection are.
+/// The kind of a connection's first bytes.
 #[derive(Clone, Copy, Debug, PartialEq, Eq)]
 pub enum Opening {
     /// Less than a whole message is there.
     Begun,
-    /// The first message comes with the administrator's token.
+    /// The first message has the administrator's token.
     Token,
-    /// It comes with another one, or asks nothing.
+    /// The first message has another token, or asks nothing.
     Other,
 }
 
-// Returns the token that an administrator's request shows. None: it is a request for a group.
+// Returns the token of a request that only an administrator may make. `None` if it is another request.
 fn token_of(ask: &Ask) -> Option<[u8; 32]>
     ensures { result ≡ shown_token ask.now }
 {
@@ -34,8 +34,8 @@ fn token_of(ask: &Ask) -> Option<[u8; 32]>
     }
 }
 
-/// Returns what the first bytes of a connection are: whether the message in front is one that only an administrator may ask, with the
-/// token that the administrator has under `key`. `Err` if there is no memory.
+/// Returns the kind of a connection's first bytes: whether the message in front is one that only an administrator may ask, with the
+/// administrator's token under `key`. `Err` if there is no memory.
 pub fn read_opening(alloc: Global, key: &Key, bytes: &[u8]) -> Result<Opening, OutOfMemory>
     ensures { IfOk result (Opens key.now bytes.now) }
 {

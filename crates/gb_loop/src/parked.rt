@@ -11,7 +11,7 @@ pub struct Parked {
 }
 
 impl Parked {
-    /// Returns a list of waiting connections that has none.
+    /// Returns a list without waiting connections.
     pub fn new(alloc: Global) -> Parked {
         Parked {
             alloc,
@@ -49,7 +49,7 @@ impl Parked {
         Some(waiting)
     }
 
-    /// Takes a connection out of those that wait for a group.
+    /// Removes a connection from those that wait for a group.
     pub fn remove(&mut self, address: Addr, key: usize) {
         let mut is_empty = false;
         if let Some(keys) = self.places.get_mut(&address) {

@@ -1,13 +1,13 @@
-//! How much tenants may ask.
+//! The rates at which tenants may ask.
 ghost use Rattle.std.specs.Prelude.{◌≡◌, replicate, None};
 ghost use Rattle.gb_loop.specs.Rates.{has_rate, named_rate, rate_of};
 
-/// How many tenants may have a rate of their own.
+/// The number of tenants that may have a rate of their own.
 pub const NAMED: usize = 16;
 
 const _: () = prove!(NAMED == 16);
 
-/// How much a tenant may ask at a node; 0: there is no limit.
+/// The rate at which a tenant may ask at a node; 0: without a limit.
 #[derive(Clone, Copy, Debug, PartialEq, Eq)]
 pub struct Rate {
     /// Requests a second.
@@ -18,14 +18,14 @@ pub struct Rate {
     pub waits: u64,
 }
 
-/// A tenant, and how much it may ask.
+/// A tenant, and its rate.
 #[derive(Clone, Copy, Debug, PartialEq, Eq)]
 pub struct TenantRate {
     pub tenant: u16,
     pub rate: Rate,
 }
 
-/// How much each tenant may ask at a node: those that are named by a rate of their own, each other one by the same.
+/// The rates of all tenants at a node: named tenants have a rate of their own, and each other one has the same.
 #[derive(Clone, Copy)]
 pub struct RateLimits {
     pub each: Rate,
@@ -46,7 +46,7 @@ impl Rate {
         }
     }
 
-    /// Returns true if there is a limit.
+    /// Returns true if the rate has a limit.
     pub fn is_limited(&self) -> bool
         ensures { result ≡ has_rate self.now }
     {
@@ -55,7 +55,7 @@ impl Rate {
 }
 
 impl RateLimits {
-    /// Returns that no tenant has a limit.
+    /// Returns rates without a limit for any tenant.
     pub fn none() -> RateLimits
         ensures requests { result.each.requests ≡ 0 }
         ensures bytes { result.each.bytes ≡ 0 }
@@ -68,7 +68,7 @@ impl RateLimits {
         }
     }
 
-    /// Returns how much a tenant may ask: by the first row that names it, or else as each other one.
+    /// Returns the rate of a tenant: that of the first row that names it, or else that of each other tenant.
     pub fn of(&self, tenant: u16) -> Rate
         ensures { result ≡ rate_of self.now tenant }
     {

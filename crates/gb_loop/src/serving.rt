@@ -1,4 +1,4 @@
-//! The clients of a loop: who is looked at, and what is done for them.
+//! The clients of a loop: the choice of the next one, and the work for it.
 ghost use Rattle.std.specs.Prelude.{◌≡◌};
 
 use crate::connection::{Connection, Look, Standing, Waits};
@@ -12,17 +12,17 @@ use gb_status::Figure;
 use std::sync::Wait;
 use std::time::Clock;
 
-/// How many connections a round looks at, and how long it does so, in microseconds, before packets, acknowledgements and ticks come again.
+/// The most connections that a round looks at, and the most microseconds that it does so, before packets, acknowledgements and ticks come again.
 pub const TURNS: usize = 64;
 
 pub const ROUND: u64 = 20_000;
 
-/// The bytes that a read takes at most of a connection of which nothing was admitted, or whose tenant has a limit.
+/// The most bytes that a read takes of a connection without an admitted request, or whose tenant has a limit.
 pub const FEW: usize = 4_096;
 
 const _: () = prove!(TURNS == 64 && ROUND == 20_000 && FEW == 4_096);
 
-// Returns what a turn brought, by the bytes that came and whether replies were made.
+// Returns the result of a turn, by the bytes that came and whether replies were made.
 fn heard_by(step: &Step, count: usize, has_answered: bool) -> Heard {
     if has_answered || matches!(step, Step::Parked(_)) {
         Heard::Whole
@@ -33,14 +33,14 @@ fn heard_by(step: &Step, count: usize, has_answered: bool) -> Heard {
     }
 }
 
-// Returns true if the beginning of a message is there, behind a turn that came to this.
+// Returns true if the beginning of a message is there after a turn with this step.
 fn begins(connection: &Connection, step: &Step) -> bool {
     matches!(step, Step::Hungry)
         && matches!(connection.client.session.end_of_input(), SessionEnd::Cut)
 }
 
 impl<'a, L: Tapes, H: Wait + Clock, P: Port, S: Settle + Copy> NodeLoop<'a, L, H, P, S> {
-    // Lists a connection to be looked at: behind those that are, in its line.
+    // Puts a connection at the end of its line, unless it is in one.
     pub(crate) fn list(&mut self, key: usize)
         ensures origin { self.new.mail.origin ≡ self.old.mail.origin }
     {
@@ -60,7 +60,7 @@ impl<'a, L: Tapes, H: Wait + Clock, P: Port, S: Settle + Copy> NodeLoop<'a, L, H
         }
     }
 
-    // Returns how many bytes a read of a connection takes at most.
+    // Returns the most bytes that a read of a connection takes.
     fn most_read(&self, key: usize) -> usize {
         let size = self.space.len();
         let Some(connection) = self.connections.get(key) else {
@@ -73,7 +73,7 @@ impl<'a, L: Tapes, H: Wait + Clock, P: Port, S: Settle + Copy> NodeLoop<'a, L, H
         if has_few { size.min(FEW) } else { size }
     }
 
-    // Makes a turn of a connection, in which a read takes at most this number of bytes, and settles what happened in it. Returns None if
+    // Makes a turn of a connection, in which a read takes at most this number of bytes, and settles the events of the turn. Returns `None` if
     // there is no such connection.
     pub(crate) fn turn(&mut self, key: usize, why: Look, most: usize) -> Option<Turn>
         ensures origin { self.new.mail.origin ≡ self.old.mail.origin }
@@ -104,7 +104,7 @@ impl<'a, L: Tapes, H: Wait + Clock, P: Port, S: Settle + Copy> NodeLoop<'a, L, H
         Some(turn)
     }
 
-    // Returns how many bytes of replies wait for a connection's stream.
+    // Returns the number of bytes of replies that wait for a connection's stream.
     fn unsent(&self, key: usize) -> usize {
         match self.connections.get(key) {
             Some(connection) => connection.client.unsent.len(),
@@ -112,7 +112,7 @@ impl<'a, L: Tapes, H: Wait + Clock, P: Port, S: Settle + Copy> NodeLoop<'a, L, H
         }
     }
 
-    // Notes that a connection did something in this round, if fewer bytes wait for its stream than these.
+    // Records that a connection did something in this round, if fewer bytes wait for its stream than these.
     fn note_sent(&mut self, key: usize, waiting: usize)
         ensures origin { self.new.mail.origin ≡ self.old.mail.origin }
     {
@@ -124,8 +124,8 @@ impl<'a, L: Tapes, H: Wait + Clock, P: Port, S: Settle + Copy> NodeLoop<'a, L, H
         }
     }
 
-    // Takes what was admitted in a turn of a connection. Its tenant is charged, and it stands better from now on. Returns true if
-    // something was admitted.
+    // Takes the admitted requests of a turn of a connection. Charges its tenant, and raises the connection's standing. Returns true if
+    // a request was admitted.
     fn account(&mut self, key: usize, bytes: usize) -> bool
         ensures origin { self.new.mail.origin ≡ self.old.mail.origin }
     {
@@ -149,7 +149,7 @@ impl<'a, L: Tapes, H: Wait + Clock, P: Port, S: Settle + Copy> NodeLoop<'a, L, H
         true
     }
 
-    // Makes a turn of a connection, and notes how it ended. Returns true if there may be more to do at once.
+    // Makes a turn of a connection, and records its end. Returns true if there may be more to do at once.
     pub(crate) fn look(&mut self, key: usize, why: Look) -> bool
         ensures origin { self.new.mail.origin ≡ self.old.mail.origin }
     {
@@ -185,7 +185,7 @@ impl<'a, L: Tapes, H: Wait + Clock, P: Port, S: Settle + Copy> NodeLoop<'a, L, H
         }
     }
 
-    // The system has no more bytes of a connection for now.
+    // Records that the system has no more bytes of a connection for now.
     fn drain(&mut self, key: usize)
         ensures origin { self.new.mail.origin ≡ self.old.mail.origin }
     {
@@ -194,8 +194,8 @@ impl<'a, L: Tapes, H: Wait + Clock, P: Port, S: Settle + Copy> NodeLoop<'a, L, H
         }
     }
 
-    // A read took fewer bytes of a connection than it might: the system has no more for now, unless it still tells that the peer sends no
-    // more.
+    // Records that a read took fewer bytes of a connection than it might: the system has no more for now, unless it still reports that the
+    // peer sends no more.
     fn drain_open(&mut self, key: usize)
         ensures origin { self.new.mail.origin ≡ self.old.mail.origin }
     {
@@ -206,7 +206,7 @@ impl<'a, L: Tapes, H: Wait + Clock, P: Port, S: Settle + Copy> NodeLoop<'a, L, H
         }
     }
 
-    // Notes what a turn of a connection brought.
+    // Records the result of a turn of a connection in its timer.
     fn hear_turn(&mut self, key: usize, step: &Step, count: usize, is_known: bool)
         ensures origin { self.new.mail.origin ≡ self.old.mail.origin }
     {
@@ -227,7 +227,7 @@ impl<'a, L: Tapes, H: Wait + Clock, P: Port, S: Settle + Copy> NodeLoop<'a, L, H
         }
     }
 
-    // Notes how a turn ended. Returns true if there may be more to do at once.
+    // Records the end of a turn. Returns true if there may be more to do at once.
     fn note(&mut self, key: usize, step: Step) -> bool
         ensures origin { self.new.mail.origin ≡ self.old.mail.origin }
     {
@@ -251,7 +251,7 @@ impl<'a, L: Tapes, H: Wait + Clock, P: Port, S: Settle + Copy> NodeLoop<'a, L, H
         matches!(&connection.waits, Waits::Room) || !connection.is_drained
     }
 
-    // Returns how long connections may take.
+    // Returns the times that connections may take.
     pub(crate) fn patience_of_clients(&self) -> Patience {
         Patience {
             first: self.options.first,
@@ -269,7 +269,7 @@ impl<'a, L: Tapes, H: Wait + Clock, P: Port, S: Settle + Copy> NodeLoop<'a, L, H
     }
 
     // Closes a connection that takes longer than is allowed, if its stream takes no replies now either: it may have room for some, and
-    // the system has not told so yet. Returns true if there may be more to do at once.
+    // the system has not reported it yet. Returns true if there may be more to do at once.
     fn retire(&mut self, key: usize) -> bool
         ensures origin { self.new.mail.origin ≡ self.old.mail.origin }
     {
@@ -281,7 +281,7 @@ impl<'a, L: Tapes, H: Wait + Clock, P: Port, S: Settle + Copy> NodeLoop<'a, L, H
         is_more
     }
 
-    // Looks at a listed connection that is not late. Returns true if there may be more to do at once.
+    // Looks at a connection from a line that is not late. Returns true if there may be more to do at once.
     fn look_at(&mut self, key: usize) -> bool
         ensures origin { self.new.mail.origin ≡ self.old.mail.origin }
     {
@@ -307,7 +307,7 @@ impl<'a, L: Tapes, H: Wait + Clock, P: Port, S: Settle + Copy> NodeLoop<'a, L, H
         self.look(key, Look::Writes)
     }
 
-    // Looks at a listed connection. Returns true if there may be more to do at once.
+    // Looks at a connection from a line. Returns true if there may be more to do at once.
     fn look_once(&mut self, key: usize) -> bool
         ensures origin { self.new.mail.origin ≡ self.old.mail.origin }
     {
@@ -325,7 +325,7 @@ impl<'a, L: Tapes, H: Wait + Clock, P: Port, S: Settle + Copy> NodeLoop<'a, L, H
         self.look_at(key)
     }
 
-    // Returns when a connection was put into its line, in microseconds.
+    // Returns the time when a connection was put into its line, in microseconds.
     fn listed_at(&self, key: usize) -> u64 {
         match self.connections.get(key) {
             Some(connection) => connection.listed_at,
@@ -333,7 +333,7 @@ impl<'a, L: Tapes, H: Wait + Clock, P: Port, S: Settle + Copy> NodeLoop<'a, L, H
         }
     }
 
-    // Looks at those who stand in line, in their order: `TURNS` of them, or as many as `ROUND` microseconds allow. The others stay in line.
+    // Looks at the connections in the lines, in order: at most `TURNS`, and for at most `ROUND` microseconds. The others stay in line.
     pub(crate) fn look_all(&mut self)
         ensures origin { self.new.mail.origin ≡ self.old.mail.origin }
     {

@@ -1,4 +1,4 @@
-//! The sources of a loop's port: where the loop waits for packets, how long strangers wait, and what does not fit in what came.
+//! The sources of a loop's port: where the loop waits for packets, the wait of strangers, and the misfits among the packets.
 ghost use Rattle.std.specs.Prelude.{◌≡◌};
 
 use crate::node_loop::{Ending, NodeLoop};
@@ -14,29 +14,29 @@ use std::os::fd::RawFd;
 use std::sync::Wait;
 use std::time::Clock;
 
-/// The token of the source with number 0. Those of the others follow.
+/// The token of the source with number 0. The other sources have the numbers that follow.
 pub const SOURCES: usize = usize::MAX - 63;
 
-/// How long a loop does not look at strangers once more of them came than its port takes in a row, in microseconds.
+/// The microseconds for which a loop reads no strangers' packets, once more of them came than its port takes in a row.
 pub const REST: u64 = 1_000;
 
-/// How long nothing more is told of what does not fit in packets from a node's address, in microseconds.
+/// The microseconds between two reports of misfits from one node's address.
 pub const MINUTE: u64 = 60_000_000;
 
 const _: () = prove!(REST == 1_000 && MINUTE == 60_000_000);
 
-/// What a loop keeps of its port's sources.
+/// The state of a port's sources.
 #[derive(Drop)]
 pub struct Sources {
-    // When the loop looks at strangers again; 0: it does.
+    // The time when the loop reads strangers' packets again, or 0 if it does now.
     rests_until: u64,
-    // By the number of a node, what did not fit since the last tick in what came from its address, and from when on it may be told again.
+    // For each node, the misfit of the packets from its address since the last tick, and the time from which it may be reported again.
     misfits: [Option<Misfit>; NODES],
     quiet_until: [u64; NODES],
 }
 
 impl Sources {
-    /// Returns what is kept before anything came.
+    /// Returns the state before anything came.
     pub fn new() -> Sources {
         Sources {
             rests_until: 0,
@@ -45,7 +45,7 @@ impl Sources {
         }
     }
 
-    /// Returns the time at which strangers are looked at again; 2^64 - 1 if they are.
+    /// Returns the time at which strangers' packets are read again, or 2^64 - 1 if they are read now.
     pub fn due_at(&self) -> u64 {
         if self.rests_until == 0 {
             u64::MAX
@@ -54,14 +54,14 @@ impl Sources {
         }
     }
 
-    /// Notes what did not fit in a packet.
+    /// Records the misfit of a packet.
     pub fn note(&mut self, found: NodeMisfit) {
         if let Some(misfit) = self.misfits.get_mut(found.from.index()) {
             *misfit = Some(found.misfit);
         }
     }
 
-    /// Takes and returns what did not fit in what came from a node's address, if it is to be told now. It is forgotten else.
+    /// Removes the misfit of a node's address. Returns it if it is to be reported now, and `None` otherwise.
     pub fn take(&mut self, node: NodeId, now: u64) -> Option<Misfit> {
         let misfit = self.misfits.get_mut(node.index())?.take()?;
         let quiet_until = self.quiet_until.get_mut(node.index())?;
@@ -73,7 +73,7 @@ impl Sources {
     }
 }
 
-// Waits at a source from now on. Returns true if the system does.
+// Adds a source to those at which the poll waits. Returns true if the system accepts it.
 fn is_registered(poll: &Poll, fd: RawFd, number: u8) -> bool {
     let token = Token(SOURCES.saturating_add(usize::from(number)));
     poll.registry()
@@ -82,7 +82,7 @@ fn is_registered(poll: &Poll, fd: RawFd, number: u8) -> bool {
 }
 
 impl<'a, L: Tapes, H: Wait + Clock, P: Port, S: Settle + Copy> NodeLoop<'a, L, H, P, S> {
-    // Waits at each source of the port. Returns false if the system does not.
+    // Adds each source of the port to those at which the poll waits. Returns false if the system does not accept one.
     pub(crate) fn watch_sources(&mut self, poll: &Poll) -> bool
         ensures origin { self.new.mail.origin ≡ self.old.mail.origin }
     {
@@ -95,7 +95,7 @@ impl<'a, L: Tapes, H: Wait + Clock, P: Port, S: Settle + Copy> NodeLoop<'a, L, H
         are_registered
     }
 
-    // Something may have come at a source.
+    // Records that something may have come at a source.
     pub(crate) fn wake_source(&mut self, number: usize)
         ensures origin { self.new.mail.origin ≡ self.old.mail.origin }
     {
@@ -103,7 +103,7 @@ impl<'a, L: Tapes, H: Wait + Clock, P: Port, S: Settle + Copy> NodeLoop<'a, L, H
         self.has_packets = true;
     }
 
-    // Counts what the port says, and does not look at strangers for a while if it has more of them than it takes in a row.
+    // Counts the port's figures. If more strangers' packets came than the port takes in a row, does not read them for a while.
     pub(crate) fn rest(&mut self, poll: &Poll)
         ensures origin { self.new.mail.origin ≡ self.old.mail.origin }
     {
@@ -117,7 +117,7 @@ impl<'a, L: Tapes, H: Wait + Clock, P: Port, S: Settle + Copy> NodeLoop<'a, L, H
         self.sources.rests_until = self.now.saturating_add(REST);
     }
 
-    // Looks at strangers again once it is time.
+    // Reads strangers' packets again once it is time.
     pub(crate) fn end_rest(&mut self, poll: &Poll)
         ensures origin { self.new.mail.origin ≡ self.old.mail.origin }
     {
@@ -137,7 +137,7 @@ impl<'a, L: Tapes, H: Wait + Clock, P: Port, S: Settle + Copy> NodeLoop<'a, L, H
         self.wake_source(usize::from(number));
     }
 
-    // Tells what did not fit in what came from the addresses of other nodes.
+    // Reports the misfits of packets from the addresses of other nodes.
     pub(crate) fn tell_misfits<E: Ending>(&mut self, ending: &E)
         ensures origin { self.new.mail.origin ≡ self.old.mail.origin }
     {

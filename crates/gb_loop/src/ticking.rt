@@ -1,4 +1,4 @@
-//! What a loop does at a tick.
+//! The work of a loop at a tick.
 ghost use Rattle.std.specs.Prelude.{◌≡◌};
 
 use crate::node_loop::NodeLoop;
@@ -11,7 +11,7 @@ use gb_types::NodeSet;
 use std::sync::Wait;
 use std::time::Clock;
 
-// Returns true if an answer tells of nodes that are noticed from now on, or that the node stopped.
+// Returns true if an answer reports nodes that are noticed from now on, or that the node stopped.
 fn has_news(answer: &NodeAnswer) -> bool {
     match answer {
         NodeAnswer::Ticked(Ticked::Noticed(noticed)) => !noticed.is_empty(),
@@ -20,7 +20,7 @@ fn has_news(answer: &NodeAnswer) -> bool {
     }
 }
 
-// Returns the nodes that are noticed, those of an answer among them.
+// Returns the noticed nodes, with those of an answer.
 fn with_noticed(noticed: &NodeSet, answer: &NodeAnswer) -> NodeSet {
     match answer {
         NodeAnswer::Ticked(Ticked::Noticed(more)) => noticed.union(more),
@@ -29,9 +29,9 @@ fn with_noticed(noticed: &NodeSet, answer: &NodeAnswer) -> NodeSet {
 }
 
 impl<'a, L: Tapes, H: Wait + Clock, P: Port, S: Settle + Copy> NodeLoop<'a, L, H, P, S> {
-    // A tick: time passes at the node, unless it waits for other nodes yet, those that waited long enough are answered in their turn, and
-    // those that take too long are looked at. Where something was left undone for lack of memory all connections are looked at, and what
-    // waits is packed. The system is asked for new connections again, if it had no room for one.
+    // Makes a tick. Time passes at the node, unless it still waits for other nodes. Clients that waited long enough are answered in their
+    // turn, and connections that take too long are looked at. If work was left undone for lack of memory, all connections are looked at, and
+    // waiting items are packed. If the system had no room for a new connection, it is asked again.
     pub(crate) fn tick(&mut self)
         ensures origin { self.new.mail.origin ≡ self.old.mail.origin }
     {
@@ -69,7 +69,7 @@ impl<'a, L: Tapes, H: Wait + Clock, P: Port, S: Settle + Copy> NodeLoop<'a, L, H
         }
     }
 
-    // Notes how many connections there are and were, and how many wait.
+    // Records the numbers of connections that are and were open, and of those that wait.
     pub(crate) fn count_connections(&mut self, waiting: u64)
         ensures origin { self.new.mail.origin ≡ self.old.mail.origin }
     {
@@ -79,8 +79,8 @@ impl<'a, L: Tapes, H: Wait + Clock, P: Port, S: Settle + Copy> NodeLoop<'a, L, H
         self.mail.set(Figure::Waiting, waiting);
     }
 
-    // Looks at a connection at a tick. One that waits is tried again in its turn with news, and once its time has passed; any other is
-    // listed with news, and if it takes longer than is allowed.
+    // Checks a connection at a tick. One that waits is tried again in its turn if there is news, and once its time has passed. Any other is
+    // put into its line if there is news, and if it takes longer than is allowed.
     fn check(&mut self, key: usize, has_news: bool)
         ensures origin { self.new.mail.origin ≡ self.old.mail.origin }
     {

@@ -1,33 +1,33 @@
-//! How long a connection may take.
+//! The times that a connection may take.
 ghost use Rattle.std.specs.Prelude.{◌≡◌};
 ghost use Rattle.gb_loop.specs.Timers.{is_late, new_timer, timer_behind};
 
-/// How long connections may take, in microseconds.
+/// The times that connections may take, in microseconds.
 #[derive(Clone, Copy, Debug, PartialEq, Eq)]
 pub struct Patience {
-    /// For a whole message, while nothing that it asked was admitted.
+    /// The time for a whole message, while no request was admitted.
     pub first: u64,
-    /// For the rest of a message whose beginning came.
+    /// The time for the rest of a message whose beginning came.
     pub later: u64,
-    /// In which nothing moves; 0: for ever.
+    /// The time in which nothing moves; 0: without a limit.
     pub idle: u64,
 }
 
-/// How far a connection is.
+/// The stage of a connection.
 #[derive(Clone, Copy, Debug, PartialEq, Eq)]
 pub enum Stage {
-    /// Nothing that it asked was admitted.
+    /// No request was admitted.
     First,
-    /// Something was admitted, and no message has begun.
+    /// A request was admitted, and no message has begun.
     Between,
-    /// Something was admitted, and the beginning of a message came.
+    /// A request was admitted, and the beginning of a message came.
     Begun,
 }
 
-/// What a turn brought.
+/// The result of a turn.
 #[derive(Clone, Copy, Debug, PartialEq, Eq)]
 pub enum Heard {
-    /// Neither bytes came, nor was a message answered.
+    /// No bytes came, and no message was answered.
     Nothing,
     /// Bytes came, and no message was answered.
     Bytes,
@@ -39,9 +39,9 @@ pub enum Heard {
 #[derive(Clone, Copy, Debug, PartialEq, Eq)]
 pub struct Timer {
     pub stage: Stage,
-    /// When it came, or when its last message was answered; at the stage `Begun` when that message began.
+    /// The time when it came, or when its last message was answered; at the stage `Begun`, the time when that message began.
     pub since: u64,
-    /// When it last did something.
+    /// The time when it last did something.
     pub moved_at: u64,
 }
 
@@ -57,7 +57,7 @@ impl Timer {
         }
     }
 
-    /// Notes at the time `now` what a turn brought. `is_known` says that something was admitted in it, and `is_begun` that the beginning
+    /// Records at the time `now` the result of a turn. `is_known` means that a request was admitted in it, and `is_begun` that the beginning
     /// of a message is there.
     pub fn hear(&mut self, now: u64, brought: Heard, is_known: bool, is_begun: bool)
         ensures { self.new ≡ timer_behind self.old now brought is_known is_begun }
@@ -78,8 +78,8 @@ impl Timer {
         }
     }
 
-    /// Returns true if the connection takes longer than is allowed at the time `now`: for its first message that is admitted, for the
-    /// rest of a later one, or without anything that moves.
+    /// Returns true if the connection takes longer than is allowed at the time `now`: for its first admitted message, for the
+    /// rest of a later one, or without any movement.
     pub fn is_late(&self, now: u64, patience: &Patience) -> bool
         ensures { result ≡ is_late self.now now patience.now }
     {

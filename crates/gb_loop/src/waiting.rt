@@ -12,15 +12,15 @@ use std::alloc::Global;
 use std::sync::Wait;
 use std::time::Clock;
 
-/// How many waits a round tries again.
+/// The most waits that a round tries again.
 pub const WAKES: usize = 64;
 
-/// Of how many groups that requests changed a round puts those that wait in line.
+/// The most groups, changed by requests, of which a round tries the waiting connections again.
 pub const GROUPS: usize = 1_024;
 
 const _: () = prove!(WAKES == 64 && GROUPS == 1_024);
 
-// Returns the groups of the places, or None if there is no memory.
+// Returns the groups of the places. `None` if there is no memory.
 fn groups_of(alloc: Global, awaited: &Awaited) -> Option<Vec<Addr>> {
     let mut groups = Vec::new(alloc);
     for place in &awaited.places {
@@ -43,8 +43,8 @@ impl<'a, L: Tapes, H: Wait + Clock, P: Port, S: Settle + Copy> NodeLoop<'a, L, H
         is_in
     }
 
-    // Lets a connection wait for the groups that its next message names; or only for its time, if its tenant has as many that wait as it
-    // may. Without memory it is closed.
+    // Makes a connection wait for the groups that its next message names; or only for its time, if as many connections of its tenant wait
+    // as may. Without memory it is closed.
     pub(crate) fn park(&mut self, key: usize, awaited: &Awaited)
         ensures origin { self.new.mail.origin ≡ self.old.mail.origin }
     {
@@ -72,7 +72,7 @@ impl<'a, L: Tapes, H: Wait + Clock, P: Port, S: Settle + Copy> NodeLoop<'a, L, H
         }
     }
 
-    // A connection waits no longer. Returns true if it did.
+    // Ends the wait of a connection. Returns true if it waited.
     pub(crate) fn unpark(&mut self, key: usize) -> bool
         ensures origin { self.new.mail.origin ≡ self.old.mail.origin }
     {
@@ -94,7 +94,7 @@ impl<'a, L: Tapes, H: Wait + Clock, P: Port, S: Settle + Copy> NodeLoop<'a, L, H
         true
     }
 
-    // The wait of a connection is tried again, in its turn.
+    // Puts a connection among those whose wait is tried again, in its turn.
     pub(crate) fn rouse(&mut self, key: usize)
         ensures origin { self.new.mail.origin ≡ self.old.mail.origin }
     {
@@ -111,7 +111,7 @@ impl<'a, L: Tapes, H: Wait + Clock, P: Port, S: Settle + Copy> NodeLoop<'a, L, H
         }
     }
 
-    // The waits of those that wait for a group are tried again, in their turn.
+    // Puts the connections that wait for a group among those whose wait is tried again.
     fn rouse_all(&mut self, address: Addr)
         ensures origin { self.new.mail.origin ≡ self.old.mail.origin }
     {
@@ -124,7 +124,7 @@ impl<'a, L: Tapes, H: Wait + Clock, P: Port, S: Settle + Copy> NodeLoop<'a, L, H
         }
     }
 
-    // Those that wait for groups of the items that came are tried again, in their turn.
+    // Puts the connections that wait for groups of the items that came among those whose wait is tried again.
     pub(crate) fn wake_came(&mut self)
         ensures origin { self.new.mail.origin ≡ self.old.mail.origin }
     {
@@ -135,7 +135,7 @@ impl<'a, L: Tapes, H: Wait + Clock, P: Port, S: Settle + Copy> NodeLoop<'a, L, H
         self.came = came;
     }
 
-    // Those that wait for groups that requests changed are tried again, in their turn.
+    // Puts the connections that wait for groups that requests changed among those whose wait is tried again.
     pub(crate) fn wake_touched(&mut self)
         ensures origin { self.new.mail.origin ≡ self.old.mail.origin }
     {
@@ -151,7 +151,7 @@ impl<'a, L: Tapes, H: Wait + Clock, P: Port, S: Settle + Copy> NodeLoop<'a, L, H
         }
     }
 
-    // Tries the message of a connection that waits again: as one whose time has passed, if it has.
+    // Tries the message of a waiting connection again: as late, if its time has passed.
     fn try_again(&mut self, key: usize)
         ensures origin { self.new.mail.origin ≡ self.old.mail.origin }
     {
@@ -170,7 +170,7 @@ impl<'a, L: Tapes, H: Wait + Clock, P: Port, S: Settle + Copy> NodeLoop<'a, L, H
         }
     }
 
-    // Tries those again whose turn has come: `WAKES` of them. The others stay in line.
+    // Tries the waits again whose turn has come, at most `WAKES` of them. The others stay in line.
     pub(crate) fn wake_some(&mut self)
         ensures origin { self.new.mail.origin ≡ self.old.mail.origin }
     {
@@ -204,7 +204,7 @@ impl<'a, L: Tapes, H: Wait + Clock, P: Port, S: Settle + Copy> NodeLoop<'a, L, H
         true
     }
 
-    // Lists those that were held, in their order, once the first of their tenants may ask again.
+    // Puts the held connections into their lines, in order, once the first of their tenants may ask again.
     pub(crate) fn release(&mut self)
         ensures origin { self.new.mail.origin ≡ self.old.mail.origin }
     {

@@ -50,7 +50,7 @@ struct Clients {
     fourth: Member,
 }
 
-// Connects the clients, and makes the groups.
+// Connects the clients, and makes the groups. Returns the clients.
 fn enter<H: Net<Stream = TcpStream> + Clock>(
     rt: &H,
     alloc: Global,
@@ -72,7 +72,7 @@ fn enter<H: Net<Stream = TcpStream> + Clock>(
     })
 }
 
-// Returns true if a client that waits at these places gets this reply, after a least and at most a greatest number of
+// Returns true if a client that waits at these places gets this reply, between the least and the greatest number of
 // milliseconds. A fifth of a second after it began, another client makes this request.
 fn is_woken<H: Clock + Threads + Sync>(
     rt: &H,
@@ -98,7 +98,7 @@ fn is_woken<H: Clock + Threads + Sync>(
     }
 }
 
-// Returns true if a wait in which nothing comes takes this number of milliseconds and at most a few ticks more.
+// Returns true if a wait in which nothing comes takes this number of milliseconds, and at most a few ticks more.
 fn is_late<H: Clock>(rt: &H, alloc: Global, member: &mut Member, wait: u32) -> bool {
     match waits(rt, alloc, member, &["7 1 0 16", "7 2 0 16"], wait) {
         Ok((took, text)) => text.as_slice() == b"log 0".as_slice()
@@ -190,7 +190,7 @@ fn waits_end_when_they_should(rt: HostRuntime) {
 
 static STOPPED: [&str; 5] = ["gb_serve", "--nodes=2", "--base-port=25200", "--tick", "20"];
 
-// Ends the server by an administrator at node 1 as soon as a client waits at node 0. Returns true if it is granted.
+// Ends the server by an administrator at node 1 as soon as a client waits at node 0. Returns true if the request is granted.
 fn stop_waiting<H: Clock>(
     rt: &H,
     alloc: Global,
@@ -201,7 +201,7 @@ fn stop_waiting<H: Clock>(
     Ok(waiting == 1 && stops(alloc, admin)?)
 }
 
-// Returns true if a client that would wait for a minute is answered as if its time was over when the server ends, and its
+// Returns true if a client that would wait for a minute is answered as late when the server ends, and its
 // connection ends then.
 fn ends_with_node<H: Net<Stream = TcpStream> + Clock + Threads + Sync>(
     rt: &H,
@@ -257,7 +257,7 @@ static LONE: [(Head, &str, &str); 6] = [
     (Head::Group(CommandHead::Say), "7 2 hi", "said 1"),
 ];
 
-// Sixteen places of the group without a message, the same with the other group at the last one, and one place more.
+// Sixteen places of the group without a message, the same with the other group in the last one, and one place more.
 static EMPTY: [&str; 16] = ["7 1 0 16"; 16];
 
 static LAST: [&str; 16] = [
@@ -267,7 +267,7 @@ static LAST: [&str; 16] = [
 
 static ONE_MORE: [&str; 17] = ["7 2 0 16"; 17];
 
-// Returns the replies to a client that waits at sixteen places in vain, finds an entry at the last one, and names one more place.
+// Returns the replies to a client that waits at sixteen places in vain, finds an entry in the last one, and names one more place.
 fn wait_at_many<H: Net<Stream = TcpStream> + Clock>(
     rt: &H,
     alloc: Global,

@@ -17,7 +17,7 @@ static WORDS: [&str; 7] = [
     "6",
 ];
 
-// Returns what a client reads that sends these bytes and then no more. `None` if it could not connect, or its connection broke.
+// Returns the bytes that a client reads which sends these bytes and no more. `None` if it could not connect, or its connection broke.
 fn told<H: Net<Stream = TcpStream> + Clock>(
     rt: &H,
     alloc: Global,
@@ -32,7 +32,7 @@ fn told<H: Net<Stream = TcpStream> + Clock>(
     Some(text)
 }
 
-// Returns true if a client that sends the first bytes and then no more reads the others.
+// Returns true if a client that sends the first bytes and no more reads the others.
 fn is_told<H: Net<Stream = TcpStream> + Clock>(
     rt: &H,
     alloc: Global,
@@ -45,7 +45,7 @@ fn is_told<H: Net<Stream = TcpStream> + Clock>(
     }
 }
 
-// Sends one request and a part of another, and goes away when the reply is there, without reading it: the system resets the
+// Sends one request and a part of another, and closes when the reply is there, without reading it: the system resets the
 // connection. Returns true if a reply came.
 fn resets<H: Net<Stream = TcpStream> + Clock>(rt: &H, port: u16) -> bool {
     let Some(mut stream) = connect(rt, port) else {
@@ -56,8 +56,8 @@ fn resets<H: Net<Stream = TcpStream> + Clock>(rt: &H, port: u16) -> bool {
     is_sent && stream.peek(&mut space).is_ok()
 }
 
-// Returns true for each of these clients that sees what it should: a reset in the middle of a message, a reset with replies that
-// wait, half a message, no message, and a whole message behind which no more comes.
+// Returns true for each of these clients that reads what it should: a reset in the middle of a message, a reset with replies that
+// wait, half a message, no message, and a whole message with no more after it.
 fn break_all<H: Net<Stream = TcpStream> + Clock>(rt: &H, alloc: Global) -> [bool; 5] {
     let is_reset = resets(rt, 24_464);
     let is_deaf = flood_requests(rt, 24_464).is_some();

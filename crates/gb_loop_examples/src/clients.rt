@@ -33,7 +33,7 @@ static KEYS: &[u8] =
 pub static OPEN: &[u8] =
     b"\x00\x00\x00\x49open 0000000000000000000000000000000000000000000000000000000000000000 7 1";
 
-/// A running node's reply to it.
+/// The reply of a running node to `OPEN`.
 pub static DENIED: &[u8] = b"\x00\x00\x00\x10refused 1 Denied";
 
 // The keys that the members know: the administrator's key, which the server reads in its second line, and the tenant's key.
@@ -199,14 +199,14 @@ pub fn reply_to(alloc: Global, member: &mut Member, body: &[u8]) -> Result<Vec<u
 }
 
 /// Sends the administrator's request that ends the server to a member's node. Returns true if the reply is `ok` and the connection
-/// ends behind it. `Err` as with `reply`.
+/// ends after it. `Err` as with `reply`.
 pub fn stops(alloc: Global, member: &mut Member) -> Result<bool, ClientFault> {
     let text = reply_to(alloc, member, STOP)?;
     Ok(text.as_slice() == b"ok".as_slice() && is_at_end(member))
 }
 
 /// Connects to node 0 of a server with this base port and asks for the end of the server, as `stops` does. Returns true if the
-/// reply is `ok` and the connection ends behind it, and false in all other cases.
+/// reply is `ok` and the connection ends after it, and false in all other cases.
 pub fn end_server<H: Net<Stream = TcpStream> + Clock>(
     rt: &H,
     alloc: Global,
@@ -278,7 +278,7 @@ pub fn gives(
     Ok(true)
 }
 
-// Returns this word, and for each of these lines the words of its fetch behind the first word.
+// Returns the body that begins with this word, followed by the other words of the fetch of each of these lines.
 fn places_of(
     alloc: Global,
     node: NodeId,
@@ -293,7 +293,7 @@ fn places_of(
     Ok(places)
 }
 
-// Returns the body of fetches that wait, at the places of these lines.
+// Returns the body of an `await` for the places of these lines.
 fn wait_of(alloc: Global, node: NodeId, lines: &[&str], wait: u32) -> Result<Vec<u8>, ClientFault>
     ensures { IfOk result (λ body. vec_len body ≤ BODY) }
 {
@@ -302,7 +302,7 @@ fn wait_of(alloc: Global, node: NodeId, lines: &[&str], wait: u32) -> Result<Vec
 }
 
 /// Sends one message with fetches that do not wait to a member's node, and returns the text of the reply. Each of `lines` has the
-/// words of one fetch, as gb_ctl takes them. Their number is not limited here. `Err` as with `reply`.
+/// words of one fetch, as gb_ctl takes them. Any number of lines is sent. `Err` as with `reply`.
 pub fn fetches(alloc: Global, member: &mut Member, lines: &[&str]) -> Result<Vec<u8>, ClientFault> {
     let mut body = places_of(alloc, member.node, b"await", lines)?;
     body.extend_from_slice(b" 0")?;

@@ -33,8 +33,8 @@ static MANY: [&str; 7] = [
     "102",
 ];
 
-// Returns the number of idle connections, true if one client sends and never reads, and the number of right replies to a busy
-// client beside them.
+// Returns three results: the number of idle connections, true if one client sends and never reads, and the number of right replies to a
+// busy client beside them.
 fn busy_beside_others<H: Net<Stream = TcpStream> + Clock>(
     rt: &H,
     alloc: Global,
@@ -71,7 +71,7 @@ static SLOW: [&str; 7] = [
     "1",
 ];
 
-// Sends a number of requests, and then reads their replies a number of bytes at a time. Returns the number of right bytes.
+// Sends a number of requests, and then reads their replies, a number of bytes at a time. Returns the number of right bytes.
 fn read_slowly<H: Net<Stream = TcpStream> + Clock>(
     rt: &H,
     port: u16,

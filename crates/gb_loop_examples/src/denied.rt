@@ -1,4 +1,4 @@
-// Requests without the token that they need wake nobody who waits, and end no server.
+// Requests without the token that they need wake no client that waits, and end no server.
 use crate::clients::{
     Member, ask_often, end_server, figure, figure_at_last, gives, joined, reply_to, serves, waits,
 };
@@ -29,7 +29,7 @@ static LONE: [(Head, &str, &str); 3] = [
 // A request for the end of the server whose token differs from the administrator's in its last digit.
 static WRONG_STOP: &[u8] = b"stop 674e623760cac750ae766b788c59c762f116bab90bcfb901f9c20ac06448c55e";
 
-// Lets a stranger ask for the group for which one client waits. Returns how many replies were Denied.
+// Makes a stranger ask for the group for which one client waits. Returns the number of replies that were Denied.
 fn disturb<H: Net<Stream = TcpStream> + Clock>(
     rt: &H,
     alloc: Global,
@@ -40,8 +40,8 @@ fn disturb<H: Net<Stream = TcpStream> + Clock>(
 }
 
 // Returns true for each of these: a client that waits for two seconds is answered as late, and its group was fetched from twice for it,
-// at the begin and at the end, though a stranger asked for the group a hundred times meanwhile; a wrong end is Denied; and the server
-// answers behind it.
+// at the beginning and at the end, though a stranger asked for the group a hundred times meanwhile; a wrong end is Denied; and the server
+// answers after it.
 fn undisturbed<H: Net<Stream = TcpStream> + Clock + Threads + Sync>(
     rt: &H,
     alloc: Global,

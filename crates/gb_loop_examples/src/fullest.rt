@@ -12,13 +12,13 @@ use std::io;
 use std::io::{ErrorKind, Write};
 use std::test::Fail;
 
-// The logs that a client is sent: how many entries each has, and of how many bytes. The messages of the first three have 65,535 bytes,
-// so that one more request is answered before they are written; that of the last has 131,242.
+// The logs in the replies to a client: the number of entries of each, and the bytes of an entry. The messages of the first three have
+// 65,535 bytes, so that one more request is answered before they are written; that of the last has 131,242.
 const LOGS: &[(usize, usize)] = &[(7, 4_096), (1, 2_000), (1, 2_037), (16, 4_096)];
 
 const PAYLOAD: &[u8] = &[0xab; 4_096];
 
-// Returns this number of entries of so many bytes.
+// Returns this number of entries with this number of bytes.
 fn entries(alloc: Global, count: usize, bytes: usize) -> Result<Entries, OutOfMemory> {
     let mut entries = Entries::new(alloc);
     let payload = PAYLOAD.get(..bytes).unwrap_or(PAYLOAD);
@@ -32,7 +32,7 @@ fn entries(alloc: Global, count: usize, bytes: usize) -> Result<Entries, OutOfMe
     Ok(entries)
 }
 
-/// Answers with one log after the other.
+/// An answerer that replies with one log after the other.
 #[derive(Drop)]
 struct Logs {
     alloc: Global,
@@ -56,7 +56,7 @@ impl Answers for Logs {
     }
 }
 
-/// Takes all bytes, or none while it is shut.
+/// A writer that takes all bytes, or none while it is shut.
 #[derive(Drop)]
 struct Gate {
     taken: Vec<u8>,
@@ -98,7 +98,7 @@ const HEADS: [&[u8]; 4] = [
     b"\x00\x02\x00\xa6log 16",
 ];
 
-// Appends the text of an entry of so many bytes.
+// Appends the text of an entry with this number of bytes.
 fn put_entry(text: &mut Vec<u8>, bytes: usize) -> Result<(), OutOfMemory> {
     text.extend_from_slice(b" 31:65535:")?;
     for _ in 0..bytes {
@@ -119,7 +119,7 @@ fn messages(alloc: Global) -> Result<Vec<u8>, OutOfMemory> {
     Ok(text)
 }
 
-/// A client, and what it takes turns with.
+/// A client, with the reader, the writer and the answers of its turns.
 #[derive(Drop)]
 struct Talk<'a> {
     client: Client,
@@ -195,8 +195,8 @@ fn the_most_replies_wait_for_a_client_that_does_not_read(rt: HostRuntime) -> Res
     Ok(())
 }
 
-// Returns the bytes of a packet of version 2 with as many items without a payload as it has room for, each of a group of its own. Of its
-// header only the version is read here.
+// Returns the bytes of a packet of version 2 with as many items without a payload as it has room for, each of a group of its own. The
+// test reads only the version of its header.
 fn fullest_packet(alloc: Global) -> Result<Vec<u8>, OutOfMemory> {
     let mut bytes = Vec::from_slice(alloc, b"GB\x02")?;
     bytes.extend_from_slice(&[0; 28])?;
@@ -208,7 +208,7 @@ fn fullest_packet(alloc: Global) -> Result<Vec<u8>, OutOfMemory> {
     Ok(bytes)
 }
 
-// Returns the number of addresses that are those of groups of the tenant, from group 0 on.
+// Returns the number of addresses that are, in this order, those of groups 0, 1, .. of the tenant.
 fn count_right(came: &[Addr]) -> usize {
     let mut count: usize = 0;
     for address in came {

@@ -1,4 +1,4 @@
-// The limits of connections in a server's words: how many at once, how long they may be silent, and how much they may ask.
+// The limits of connections in a server's words: their number, their longest silence, and their rates.
 use crate::clients::{
     DENIED, Member, OPEN, ask, connect, end_server, figure, gives, is_at_end, is_sound,
     joined as member_of, serves, told,
@@ -14,7 +14,7 @@ use std::rt::HostRuntime;
 use std::thread;
 use std::time::{Clock, Duration};
 
-// Returns what is read from a connection to its end.
+// Returns the bytes that are read from a connection to its end.
 fn rest_of(alloc: Global, stream: &mut TcpStream) -> Option<Vec<u8>> {
     let mut text = Vec::new(alloc);
     stream.read_to_end(&mut text).ok()?;
@@ -67,7 +67,7 @@ fn is_dropped<H: Net<Stream = TcpStream> + Clock>(rt: &H, port: u16, bytes: &[u8
     let mut space = [0u8; 1];
     match stream.read(&mut space) {
         Ok(count) => count == 0,
-        // Bytes that the server did not read end a connection so.
+        // A connection with bytes that the server did not read ends with this error.
         Err(error) => error.kind() == ErrorKind::ConnectionReset,
     }
 }
@@ -80,7 +80,7 @@ static TWO_AT_ONCE: [&str; 5] = [
     "2",
 ];
 
-// Returns true for each of these: of two connections of which something was admitted none makes room; one more that asks something else
+// Returns true for each of these: neither of two connections with an admitted request makes room; one more that asks something else
 // is closed without a reply; an administrator is answered on one more; and both go on.
 fn are_undisturbed<H: Net<Stream = TcpStream> + Clock>(rt: &H, alloc: Global) -> [bool; 4] {
     let (Some(mut first), Some(mut second)) = (
@@ -126,7 +126,7 @@ static SHORT: [&str; 8] = [
     "2",
 ];
 
-// The connection of a client that asks once is closed when it was silent for a second. A client that asks three requests gets two
+// The connection of a client that asks once is closed after it was silent for a second. A client that asks three requests gets two
 // replies.
 #[test]
 fn silence_and_many_requests_end_a_connection(rt: HostRuntime) {
@@ -202,7 +202,7 @@ fn are_same(alloc: Global, member: &mut Member, want: &[u8], count: u32) -> bool
     true
 }
 
-// Asks for 32 megabytes in all, and reads 400,000 bytes of them each half a second. Returns true if they were right and the
+// Asks for 32 megabytes in all, and reads 400,000 bytes of them every half a second. Returns true if they were right and the
 // connection is still open.
 fn read_late<H: Net<Stream = TcpStream> + Clock>(
     rt: &H,
@@ -249,7 +249,7 @@ fn one_that_reads_late_is_not_idle(rt: HostRuntime) {
     assert!(rt; is_served && is_right);
 }
 
-// Returns texts one behind the other. It is empty if there is no memory.
+// Returns the texts, one after the other. The result is empty if there is no memory.
 fn joined(alloc: Global, texts: &[&[u8]]) -> Vec<u8> {
     let mut all = Vec::new(alloc);
     for text in texts {

@@ -13,7 +13,7 @@ static WORDS: [&str; 3] = ["gb_serve", "--nodes=1", "--base-port=27200"];
 
 static TENANT: [(Head, &str, &str); 1] = [(Head::Tenant, "7 256 1 5 1", "ok")];
 
-// What is done in three of the groups, and the replies.
+// The requests in three of the groups, and the replies.
 static DEEDS: [(Head, &str, &str); 5] = [
     (Head::Group(CommandHead::Open), "7 3", "ok"),
     (Head::Group(CommandHead::Say), "7 3 hello", "said 1"),
@@ -22,7 +22,7 @@ static DEEDS: [(Head, &str, &str); 5] = [
     (Head::Group(CommandHead::Drop), "7 6", "ok"),
 ];
 
-// Makes groups 0 to 64 of a tenant, and does something in three of them. Returns true if each reply was right.
+// Makes groups 0 to 64 of a tenant, and the requests in three of them. Returns true if each reply was right.
 fn makes(alloc: Global, member: &mut Member) -> Option<bool> {
     let mut are_made = gives(alloc, member, &TENANT).ok()?;
     for group in 0..65u16 {
@@ -33,7 +33,7 @@ fn makes(alloc: Global, member: &mut Member) -> Option<bool> {
     Some(gives(alloc, member, &DEEDS).ok()? && are_made)
 }
 
-// Returns what a list has of a group behind its number.
+// Returns the part of a list's row for this group that follows its number.
 fn told_of(group: u16) -> &'static str {
     match group {
         3 => "beb:0:1:5:1:open:1",
@@ -63,7 +63,7 @@ fn listed(alloc: Global, member: &mut Member, from: u16, most: u16) -> Option<Ve
     reply_to(alloc, member, body.as_bytes()).ok()
 }
 
-// Returns true if lists of the node have what they are to have.
+// Returns true if the lists of the node have the right rows.
 fn are_listed<H: Net<Stream = TcpStream> + Clock>(rt: &H, alloc: Global) -> Option<bool> {
     let mut member = joined(rt, 27_200, NodeId::new(0)).ok()?;
     let are_made = makes(alloc, &mut member)?;

@@ -37,7 +37,7 @@ pub struct Alone {
     pub first: u64,
 }
 
-/// The progress of a loop, and its end: when it is told, when this number of nodes is noticed, or after this number of rounds.
+/// The progress of a loop, and its end: by a call of `end`, once this number of nodes is noticed, or after this number of rounds.
 #[derive(Drop)]
 pub struct Watch<'a, H> {
     clock: &'a H,
@@ -141,7 +141,7 @@ fn plan_of(alone: Alone) -> HostPlan
     }
 }
 
-/// Returns the options of its loop: it serves for ever.
+/// Returns the options of its loop, which serves without an end.
 pub fn options_of(alone: Alone, rates: RateLimits) -> LoopOptions {
     LoopOptions {
         tick: alone.tick,
@@ -186,7 +186,7 @@ fn open_sockets<N: Net<Listener = TcpListener, Stream = TcpStream>>(
     })
 }
 
-// Runs the loop of a host's node, and closes the host. Returns true if the seat that the loop hands back is one of this host. `None` if the
+// Runs the loop of a host's node, and closes the host. Returns true if the seat that the loop returns is one of this host. `None` if the
 // cluster has no such node, or memory was refused.
 fn run_host<
     L: Tapes,
@@ -298,8 +298,8 @@ const RESTLESS: Alone = Alone {
     first: 10_000_000,
 };
 
-// Asks a loop a hundred times at its beginning, and again after thirty thousand rounds. Then tells it to end. Returns the numbers
-// of right replies, and true if there was that number of rounds.
+// Asks a loop a hundred times at its beginning, and again after thirty thousand rounds. Then ends it. Returns the numbers
+// of right replies, and true if there were that many rounds.
 fn ask_late<H: Net<Stream = TcpStream> + Clock>(rt: &H, watch: &Watch<'_, H>) -> ([u32; 2], bool) {
     let early = ask_often(rt, 25_864, 100);
     for _ in 0..5_000 {

@@ -23,8 +23,8 @@ use std::thread;
 use std::thread::Threads;
 use std::time::{Clock, Duration};
 
-// A port round another one. While it is cut each packet that is sent is lost. A rough one loses every third packet, sends every fifth twice,
-// and holds every seventh back until the next was sent.
+// A port over another one. While it is cut, each packet that is sent is lost. A rough port loses every third packet, sends every fifth
+// twice, and holds every seventh back until the next was sent.
 #[derive(Drop)]
 struct RoughPort<'a, P> {
     port: P,
@@ -36,14 +36,14 @@ struct RoughPort<'a, P> {
 }
 
 impl<P: Port> RoughPort<'_, P> {
-    // Sends what was held back.
+    // Sends the packet that was held back, if there is one.
     fn release(&mut self) {
         if let Some((to, bytes)) = self.held.take() {
             let _ = self.port.send(to, &bytes);
         }
     }
 
-    // Sends a packet as its number says.
+    // Sends a packet, or loses, repeats or holds it, by its number.
     fn send_roughly(&mut self, to: NodeId, bytes: &[u8]) -> bool {
         if self.sent % 3 == 0 {
             return true;
@@ -104,7 +104,7 @@ impl<P: Port> Port for RoughPort<'_, P> {
     }
 }
 
-// Whether a loop is to end, and whether its node has noticed another one.
+// The end of a loop, and whether its node has noticed another one.
 #[derive(Drop)]
 struct Seen {
     is_over: AtomicBool,
@@ -119,7 +119,7 @@ impl Seen {
         }
     }
 
-    // Waits until the node has noticed another one, ten seconds at most. Returns whether it has.
+    // Waits until the node has noticed another one, at most ten seconds. Returns true if it has.
     fn notices<H: Clock>(&self, rt: &H) -> bool {
         for _ in 0..1_000 {
             if self.has_noticed.load(Ordering::SeqCst) {
@@ -210,7 +210,7 @@ fn open<'a, N: Net<Listener = TcpListener, Stream = TcpStream>>(
     })
 }
 
-// Runs the loop of a node of a pair. Returns whether it ran and its host was closed well. All loops of the pair end then.
+// Runs the loop of a node of a pair. Then ends all loops of the pair. Returns true if it ran and its host was closed well.
 fn run_one<H: Wait + Clock, N: Net<Listener = TcpListener, Stream = TcpStream>>(
     rt: &H,
     net: &N,
@@ -238,7 +238,7 @@ fn run_one<H: Wait + Clock, N: Net<Listener = TcpListener, Stream = TcpStream>>(
     has_run
 }
 
-// Runs both loops of a pair. Returns whether both ran well.
+// Runs both loops of a pair. Returns true if both ran well.
 fn run_both<
     H: Wait + Clock + Threads + Sync,
     N: Net<Listener = TcpListener, Stream = TcpStream> + Sync,
@@ -284,10 +284,10 @@ static GROUPS: [(Head, &str, &str); 9] = [
     (Head::Group(CommandHead::Open), "7 4", "ok"),
 ];
 
-// What is said in each group in a turn.
+// The messages that are said in the groups in a turn.
 static SAYS: [&str; 4] = ["7 1 a", "7 2 b", "7 3 c", "7 4 d"];
 
-// A member says something in each group. Returns whether the node took it.
+// Says a message in each group as a member. Returns true if the node took each.
 fn is_said(alloc: Global, member: &mut Member) -> Result<bool, ClientFault> {
     let mut is_said = true;
     for line in &SAYS {
@@ -297,7 +297,7 @@ fn is_said(alloc: Global, member: &mut Member) -> Result<bool, ClientFault> {
     Ok(is_said)
 }
 
-// Where the pieces of logs of 50 entries begin, which a fetch returns.
+// The fetches of the pieces of logs of 50 entries.
 static PIECES: [[&str; 4]; 4] = [
     ["7 1 0 16", "7 1 16 16", "7 1 32 16", "7 1 48 16"],
     ["7 2 0 16", "7 2 16 16", "7 2 32 16", "7 2 48 16"],
@@ -305,14 +305,14 @@ static PIECES: [[&str; 4]; 4] = [
     ["7 4 0 16", "7 4 16 16", "7 4 32 16", "7 4 48 16"],
 ];
 
-// Returns how often a text has a part.
+// Returns the number of times that a text has a part.
 fn count_of(text: &[u8], part: &[u8]) -> usize {
     text.windows(part.len().max(1))
         .filter(|bytes| *bytes == part)
         .count()
 }
 
-// Returns the log of a group at a member's node, of which these are the pieces.
+// Returns the log of a group at a member's node, from these pieces.
 fn log_of(alloc: Global, member: &mut Member, pieces: &[&str; 4]) -> Result<Vec<u8>, ClientFault> {
     let mut log = Vec::new(alloc);
     for piece in pieces {
@@ -322,7 +322,7 @@ fn log_of(alloc: Global, member: &mut Member, pieces: &[&str; 4]) -> Result<Vec<
     Ok(log)
 }
 
-// Whether a log has each of the 25 messages of a node once.
+// Returns true if a log has each of the 25 messages of a node once.
 fn has_all(alloc: Global, log: &[u8], node: u64) -> Result<bool, ClientFault> {
     let mut has_all = true;
     for number in 1..26u64 {
@@ -336,7 +336,7 @@ fn has_all(alloc: Global, log: &[u8], node: u64) -> Result<bool, ClientFault> {
     Ok(has_all)
 }
 
-// Whether the log of a group comes to have the messages of both nodes, within twenty seconds.
+// Returns true if the log of a group has the messages of both nodes within twenty seconds.
 fn is_whole<H: Clock>(
     rt: &H,
     alloc: Global,
@@ -353,7 +353,7 @@ fn is_whole<H: Clock>(
     Ok(false)
 }
 
-// Whether the logs of all groups come to be whole at a node, which sent each lost frame again, and few others.
+// Returns true if the logs of all groups become whole at a node, which sent each lost frame again, and few others.
 fn is_well<H: Clock>(rt: &H, alloc: Global, member: &mut Member) -> Result<bool, ClientFault> {
     let mut is_well = true;
     for pieces in &PIECES {
@@ -364,7 +364,7 @@ fn is_well<H: Clock>(rt: &H, alloc: Global, member: &mut Member) -> Result<bool,
     Ok(is_well && again > 0 && again <= 4 * packed.min(100_000))
 }
 
-// Two members say 25 messages in each of four groups. Returns whether each log comes to have all of them.
+// Says 25 messages as each of two members, in each of four groups. Returns true if each log gets all of them.
 fn talk<H: Net<Stream = TcpStream> + Clock>(rt: &H, alloc: Global) -> Result<bool, ClientFault> {
     let mut first = joined(rt, ROUGH.port, NodeId::new(0))?;
     let mut second = joined(rt, ROUGH.port, NodeId::new(1))?;
@@ -380,7 +380,7 @@ fn talk<H: Net<Stream = TcpStream> + Clock>(rt: &H, alloc: Global) -> Result<boo
     Ok(are_said && is_well(rt, alloc, &mut first)? && is_well(rt, alloc, &mut second)?)
 }
 
-// Two nodes with rough ports, which notice nobody.
+// Two nodes with rough ports, which notice no node.
 const ROUGH: Alone = Alone {
     nodes: 2,
     silence: 1_000,
@@ -419,8 +419,8 @@ const CUT: Alone = Alone {
     first: 10_000_000,
 };
 
-// Cuts the way from node 0 to node 1 until node 1 has noticed node 0, and joins it again. Returns whether node 0 then notices node 1 in turn,
-// and had not before.
+// Cuts the way from node 0 to node 1 until node 1 has noticed node 0, and joins it again. Returns true if node 0 then notices node 1 in
+// turn, and had not before.
 fn cut<H: Clock>(rt: &H, pair: &Pair) -> bool {
     thread::sleep(rt, Duration::from_millis(500));
     let was_well = !pair.ends[0].has_noticed.load(Ordering::SeqCst);
@@ -431,7 +431,7 @@ fn cut<H: Clock>(rt: &H, pair: &Pair) -> bool {
     was_well && is_first && was_heard && pair.ends[0].notices(rt)
 }
 
-// A node that was noticed by one that it hears notices that one in turn, after one more silence.
+// A node that was noticed by a node that it hears notices that node in turn, after one more silence.
 #[test]
 fn a_notice_becomes_mutual(rt: HostRuntime) {
     let alloc = rt.alloc();

@@ -1,4 +1,4 @@
-// Tenants that ask more than they may wait, and nobody else does.
+// Tenants that ask more than they may are made to wait, and no other tenant is.
 ghost use Rattle.std.specs.Prelude.{◌≤◌};
 
 use crate::clients::{Member, gives, joined, reply, told, wait_for};
@@ -56,7 +56,7 @@ fn limits_of(tenant: u16, rate: Rate) -> RateLimits {
     limits
 }
 
-// Fetches this number of times, one after the other. Returns how many milliseconds that took.
+// Fetches this number of times, one after the other. Returns the milliseconds that it took.
 fn fetch_often<H: Clock>(
     rt: &H,
     alloc: Global,
@@ -79,7 +79,7 @@ fn fetch_often<H: Clock>(
     }
 }
 
-// Returns how many milliseconds 60 fetches of a tenant take that may ask 20 a second, and 60 of another one beside it.
+// Returns the milliseconds of 60 fetches of a tenant that may ask 20 a second, and those of 60 fetches of another tenant beside it.
 fn fetch_both<H: Net<Stream = TcpStream> + Clock>(
     rt: &H,
     alloc: Global,
@@ -93,8 +93,8 @@ fn fetch_both<H: Net<Stream = TcpStream> + Clock>(
     Ok((slow, fast))
 }
 
-// Returns true if the first took as long as its rate asks for, two seconds less some tenths for the clock, and the second less than half
-// as long.
+// Returns true if the first tenant took as long as its rate requires, two seconds less some tenths for the clock, and the second less than
+// half as long.
 fn is_slowed(took: Result<(u128, u128), ClientFault>) -> bool {
     match took {
         Ok((slow, fast)) => slow >= 1_800 && fast < slow / 2,
@@ -102,7 +102,7 @@ fn is_slowed(took: Result<(u128, u128), ClientFault>) -> bool {
     }
 }
 
-// A second's worth is had at once, and the rest at the rate.
+// A tenant may ask a second's worth of requests at once, and the rest at its rate.
 #[test]
 fn a_tenant_over_its_rate_waits(rt: HostRuntime) {
     let alloc = rt.alloc();
@@ -129,8 +129,8 @@ fn is_told(alloc: Global, member: &mut Member) -> Result<bool, ClientFault> {
     Ok(told(alloc, member)?.as_slice() == b"log 1 0:1:6869".as_slice())
 }
 
-// Lets three clients of a tenant wait of which two may, and says a message. Returns whether the replies of the three are right, and how
-// many milliseconds the last one waited.
+// Makes three clients of a tenant wait of which two may, and says a message. Returns true if the replies of the three are right, and the
+// milliseconds that the last one waited.
 fn wait_over<H: Net<Stream = TcpStream> + Clock>(
     rt: &H,
     alloc: Global,
@@ -166,7 +166,7 @@ fn lasts(told: Result<(bool, u128), ClientFault>) -> bool {
     }
 }
 
-// One that waits beside as many as may is answered when its time is over, and no sooner.
+// A client that waits beside as many others as may is answered when its time is over, and no sooner.
 #[test]
 fn a_wait_over_the_limit_lasts_its_time(rt: HostRuntime) {
     let alloc = rt.alloc();

@@ -1,4 +1,4 @@
-// The rules by which a loop serves its clients, on their own: token buckets, times, lines, who makes room, and what is shown first.
+// The rules of a loop for its clients, by themselves: token buckets, times, lines, making room, and first messages.
 use gb_loop::bucket::Bucket;
 use gb_loop::candidate::{Candidate, earlier};
 use gb_loop::lines::Lines;
@@ -7,7 +7,7 @@ use gb_loop::timer::{Heard, Patience, Stage, Timer};
 use gb_loop::{Rate, RateLimits, TenantRate};
 use std::rt::HostRuntime;
 
-// A bucket of ten a second holds ten: it is open while no more than ten are owed, and opens again a tenth of a second for each.
+// A bucket of ten a second holds ten: it is open while at most ten are owed, and opens again after a tenth of a second for each.
 #[test]
 fn a_bucket_holds_what_a_second_gives(rt: HostRuntime) {
     let mut bucket = Bucket::new(10);
@@ -36,7 +36,7 @@ const PATIENCE: Patience = Patience {
     idle: 3_000,
 };
 
-// Bytes that trickle do not put off the end of a first message, nor of a later one; a whole message does.
+// Bytes that trickle put off the end neither of a first message nor of a later one; a whole message does.
 #[test]
 fn messages_come_whole_in_time(rt: HostRuntime) {
     let mut timer = Timer::new(1_000);
@@ -67,7 +67,7 @@ fn an_idle_time_of_zero_is_for_ever(rt: HostRuntime) {
     assert!(rt; !timer.is_late(u64::MAX, &patience));
 }
 
-// Three turns of four are those of members; where nobody stands in one line, the other has the turn.
+// Three turns of four are for members; if one line is empty, the other has the turn.
 #[test]
 fn strangers_have_every_fourth_turn(rt: HostRuntime) {
     let mut lines = Lines::new(rt.alloc());

@@ -1,4 +1,4 @@
-// Clients without a token: they lock nobody out, and a message of theirs comes whole in time. A node that was noticed is sent nothing.
+// Clients without a token lock no other client out, and must send their messages in time. A node that was noticed is sent nothing.
 ghost use Rattle.std.specs.Prelude.{◌≤◌};
 
 use crate::clients::{DENIED, OPEN, address, connect, end_server, figure, joined, serves};
@@ -84,7 +84,7 @@ const HASTY: Alone = Alone {
     first: 300_000,
 };
 
-// Sends a byte of a request every 40 milliseconds. Returns after how many milliseconds the connection was closed.
+// Sends a byte of a request every 40 milliseconds. Returns the milliseconds after which the connection was closed.
 fn trickle<H: Net<Stream = TcpStream> + Clock>(rt: &H, port: u16) -> Option<u128> {
     let mut stream = connect(rt, port)?;
     let begun = Instant::now(rt).ok()?;
@@ -139,7 +139,7 @@ fn count_datagrams(socket: &UdpSocket) -> u32 {
     10_000
 }
 
-// Returns the datagrams that came to the other node until it was noticed, and those that came in the second behind that.
+// Returns the number of datagrams that came to the other node until it was noticed, and of those in the second after that.
 fn hear_node<H: Net + Clock>(rt: &H) -> Option<[u32; 2]> {
     let socket = UdpSocket::bind(rt, address(26_601)).ok()?;
     let before = count_datagrams(&socket);

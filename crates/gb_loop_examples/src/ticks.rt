@@ -34,7 +34,7 @@ const OF_EIGHT: Alone = Alone {
     first: 10_000_000,
 };
 
-// How a node that runs alone notices the others: whether its loop ended well, after how many ticks, and after how many microseconds.
+// Runs a node alone until it notices the others. Returns whether its loop ended well, the number of ticks, and the microseconds.
 fn notice<H: Wait + Clock, N: Net<Listener = TcpListener, Stream = TcpStream>>(
     rt: &H,
     net: &N,
@@ -52,7 +52,7 @@ fn notice<H: Wait + Clock, N: Net<Listener = TcpListener, Stream = TcpStream>>(
     (has_run, ticks, micros)
 }
 
-// By the system's clock silence lasts as long as its ticks take at least. A machine that has much to do lets it last longer.
+// By the system's clock a silence takes at least as long as its ticks. On a busy machine it takes longer.
 #[test]
 fn silent_nodes_are_noticed_in_time(rt: HostRuntime) {
     let alloc = rt.alloc();
@@ -65,7 +65,7 @@ fn silent_nodes_are_noticed_in_time(rt: HostRuntime) {
     assert!(rt; eight.0 && eight.1 == 20 && eight.2 >= 800_000 && eight.2 < 10_000_000);
 }
 
-// A clock that has gone on by 700 microseconds whenever it is read.
+// A clock that advances by 700 microseconds whenever it is read.
 #[derive(Drop)]
 struct Steps<'a, R> {
     rt: &'a R,
@@ -105,7 +105,7 @@ const STEPS_OF_EIGHT: Alone = Alone {
     first: 10_000_000,
 };
 
-// The same by the clock of steps.
+// Runs a node alone by the clock of steps until it notices the others. Returns the same as `notice`.
 fn notice_in_steps<H: Wait + Net<Listener = TcpListener, Stream = TcpStream>>(
     rt: &H,
     alloc: Global,
@@ -122,7 +122,7 @@ fn notice_in_steps<H: Wait + Net<Listener = TcpListener, Stream = TcpStream>>(
     notice(&clock, rt, alloc, alone)
 }
 
-// By that clock silence lasts exactly as long as its ticks take: 25 times three steps, and two before the first tick and behind the last.
+// By that clock a silence takes exactly as long as its ticks: 25 times three steps, and two before the first tick and after the last.
 #[test]
 fn silence_lasts_its_ticks(rt: HostRuntime) {
     let alloc = rt.alloc();
@@ -153,7 +153,7 @@ static TWO: [&str; 5] = ["gb_serve", "--nodes=2", "--base-port=26400", "--tick",
 
 static EIGHT: [&str; 5] = ["gb_serve", "--nodes=8", "--base-port=26500", "--tick", "20"];
 
-// How many ticks a node of a server made while at least a second went by, and how many milliseconds that took.
+// Returns the number of ticks that a node of a server made while at least a second went by, and the milliseconds that it took.
 fn count_ticks<H: Net<Stream = TcpStream> + Clock>(
     rt: &H,
     alloc: Global,
@@ -173,8 +173,8 @@ fn count_ticks<H: Net<Stream = TcpStream> + Clock>(
     Ok((after.saturating_sub(before), took.as_millis()))
 }
 
-// Ends a server. Returns true if its last node ticked each twenty milliseconds before, as the server's words say, or less often by far
-// where the machine has much to do, but never more often.
+// Ends a server. Returns true if its last node ticked each twenty milliseconds before, as the server's words require, or much less often
+// on a busy machine, but never more often.
 fn ticked_by_the_clock<H: Net<Stream = TcpStream> + Clock>(
     rt: &H,
     alloc: Global,

@@ -1,4 +1,4 @@
-// Clients that wait are woken by what changed their group, and by nothing else.
+// Clients that wait are woken by changes of their group, and by nothing else.
 use crate::clients::{
     DENIED, Member, ask, connect, end_server, figure, figure_at_last, gives, joined, reply, serves,
     told, wait_for,
@@ -57,7 +57,7 @@ static OPENS: [&[u8]; 2] = [
     b"\x00\x00\x00\x49open 0000000000000000000000000000000000000000000000000000000000000000 7 2",
 ];
 
-// Asks both in turn, this number of times. Returns the number of replies that are Denied.
+// Asks both requests in turn, this number of times. Returns the number of replies that are Denied.
 fn stir<H: Net<Stream = TcpStream> + Clock>(rt: &H, port: u16, count: usize) -> usize {
     let Some(mut stream) = connect(rt, port) else {
         return 0;
@@ -73,8 +73,8 @@ fn stir<H: Net<Stream = TcpStream> + Clock>(rt: &H, port: u16, count: usize) -> 
     right
 }
 
-// Returns how many fetches a stranger's 200 requests cost beside 20 clients that wait, how many of its requests were Denied, and how many
-// fetches a tenant's shut costs then.
+// Returns three numbers: the fetches that a stranger's 200 requests cost beside 20 clients that wait, those of its requests that were
+// Denied, and the fetches that a tenant's shut costs then.
 fn fetches_of_strangers<H: Net<Stream = TcpStream> + Clock>(
     rt: &H,
     alloc: Global,
@@ -117,7 +117,7 @@ fn a_denied_request_wakes_nobody(rt: HostRuntime) {
 
 static CROWD: [&str; 5] = ["gb_serve", "--nodes=1", "--base-port=24600", "--tick", "20"];
 
-// Lets 200 clients wait for a group, and says a message there. Returns the number of those that get it.
+// Makes 200 clients wait for a group, and says a message there. Returns the number of clients that get it.
 fn wake_crowd<H: Net<Stream = TcpStream> + Clock>(
     rt: &H,
     alloc: Global,

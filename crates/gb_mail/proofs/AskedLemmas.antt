@@ -1,4 +1,4 @@
--- What was asked in a turn.
+-- The requests of a turn.
 use Rattle.gb_types.specs.Common.{◌≡◌, ℕ, Bool, List, [], ◌∷◌, ◌++◌, sym, ap, subst, ◌∙◌}
 use Rattle.gb_types.specs.declared.{reply.Reply.Reply, request.Request.Request}
 use Rattle.gb_session.specs.{Answering.Answering, Runs.IsRun, Runs.HasAsked, Takes.Takes, Takes.StopsSo}
@@ -19,14 +19,14 @@ stopped answers is_late s t rest left room told after (Ended Limit) h = same ans
 stopped answers is_late s t rest left room told after (Ended Finished) h = absurd h
 stopped answers is_late s t rest left room told after (Ended Cut) h = absurd h
 
--- a session asked some requests, and nothing else
+-- a session that took a piece asked some requests, and nothing else
 pub took_asked : {S : Type 0} {answers : Answering S} {is_late : Bool} {s t : S} {bytes rest before after : List ℕ} {n m room : ℕ} {step : Step}
     → Takes answers is_late s t bytes rest before after n m room step → HasAsked answers s t
 took_asked {S} {answers} {is_late} {s} {t} {bytes} {rest} {before} {after} {n} {m} {room} {step} takes =
     let end = stopped answers is_late takes.mid t rest m room _ after step takes.stops in
     (takes.front.requests ++ end.0, takes.front.replies ++ end.1, IsRun-join answers s takes.mid t takes.front.requests end.0 takes.front.replies end.1 takes.front.runs end.2)
 
--- what each answer keeps is kept
+-- a value that each answer keeps is kept by a run of answers
 pub run_keeps : {S T : Type 0} (answers : Answering S) (seen : S → T) → ((s : S) (q : Request) (r : Reply) (t : S) → answers.replies s q r t → seen t ≡ seen s)
     → (s t : S) (requests : List Request) (replies : List Reply) → IsRun answers s requests replies t → seen t ≡ seen s
 run_keeps answers seen keeps s t [] [] run = ap seen (sym run)

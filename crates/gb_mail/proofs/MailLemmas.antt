@@ -1,4 +1,4 @@
--- What a node's port carried since its loop began.
+-- The packets of a node's port since its loop began.
 use Rattle.gb_types.specs.Common.{arith, ◌≡◌, ◌≤◌, ◌⊎◌, ◌+◌, ◌-◌, ◌^◌, inl, inr, ℕ, suc, ◌==◌, Bool, false, true, List, [], ◌∷◌, ◌++◌, refl, sym, ap, ◌∙◌, subst, Option, Some, Result, Ok, Err, IfOk, IfErr, OnErr, Decides-eqb, list_all-append, nat_cmp}
 use Rattle.std.proofs.Math.Logic.{∥∥₁_map}
 use Rattle.std.specs.FinSet as set
@@ -27,30 +27,30 @@ by_bool : {X : Type 0} (b : Bool) → (b ≡ true → X) → (b ≡ false → X)
 by_bool true so otherwise = so refl
 by_bool false so otherwise = otherwise refl
 
--- what the host says of a call
+-- the result of a call of the host
 pub answered : (plan : HostPlan) (here : set.FinSet nat_cmp) (me : NodeId) (event : NodeEvent) (s t : SeatValue) (outcome : Result NodeAnswer HostFault)
     → IfOk outcome (λ a. is_no_event a ≡ false → t.calls ≡ s.calls ++ noted me event a ∷ []) → IfOk outcome (λ a. is_no_event a ≡ true → WasNoEvent plan me s event a) → IfOk outcome (λ a. is_no_event a ≡ true → t ≡ s)
     → IfErr outcome (IsRefused plan here s me) → OnErr outcome (t ≡ s) → HasAnswer plan here me event s t outcome
 answered plan here me event s t (Ok a) made was same fault err = by_bool (is_no_event a) (λ none. inr (none, was none, same none)) (λ isnt. inl (isnt, made isnt))
 answered plan here me event s t (Err why) made was same fault err = (fault, err)
 
--- one more call at the node, or none
+-- a list gains one more call at the node, or none
 pub called_one : (plan : HostPlan) (here : set.FinSet nat_cmp) (me : NodeId) (event : NodeEvent) (s t : SeatValue) (outcome : Result NodeAnswer HostFault)
     → HasAnswer plan here me event s t outcome → HasCalled me s.calls t.calls
 called_one plan here me event s t (Ok a) (inl made) = (noted me event a ∷ [], made.1, and_both ((Decides-eqb me.number me.number).1 refl) refl)
 called_one plan here me event s t (Ok a) (inr none) = ([], ap (λ (x : SeatValue). x.calls) none.2 ∙ sym (append_nil s.calls), refl)
 called_one plan here me event s t (Err why) none = ([], ap (λ (x : SeatValue). x.calls) none.1 ∙ sym (append_nil s.calls), refl)
 
--- nothing was called yet
+-- an unchanged list has gained no call
 pub called_none : (me : NodeId) (list : List NodeStep) → ∥ HasCalled me list list ∥₁
 called_none me list = ∣ ([], sym (append_nil list), refl) ∣₁
 
--- what was called, and what is called then
+-- a list that gained calls, and then more, has gained all of them
 pub called_more : (me : NodeId) (old mid new : List NodeStep) → ∥ HasCalled me old mid ∥₁ → HasCalled me mid new → ∥ HasCalled me old new ∥₁
 called_more me old mid new before next =
     ∥∥₁_map before (λ had. (had.0 ++ next.0, joined old mid new had.0 next.0 had.1 next.1, list_all-append (λ x. x.node.number == me.number) had.0 next.0 ∙ and_both had.2 next.2))
 
--- What travelled, in parts.
+-- The packets that passed the port, in parts.
 
 travelled_more : (is_packet : List ℕ → Bool) (m n : ℕ) (xs ys ts us : List Traffic) → IsTravelled is_packet m xs ts → IsTravelled is_packet n ys us → IsTravelled is_packet (m + n) (xs ++ ys) (ts ++ us)
 travelled_more is_packet m n [] ys ts us none then =
@@ -69,7 +69,7 @@ travelled_same is_packet [] = (refl, refl)
 travelled_same is_packet (Went to bytes ∷ ts) = (ts, refl, travelled_same is_packet ts)
 travelled_same is_packet (Came bytes ∷ ts) = inl (ts, refl, travelled_same is_packet ts)
 
--- all that travelled is what the calls say
+-- all packets that passed the port are those of the calls
 moved_by : {P : Type 0} (plan : HostPlan) (me : NodeId) (sends : Sends P) (receives : Receives P) (p q : P) (old new : List NodeStep) → HasCarried sends receives p q old new → HasMoved plan me sends receives 0 p q old new
 moved_by plan me sends receives p q old new h = (h.0, h.1, h.2, h.3, subst (λ ts. IsTravelled (is_packet_at plan me) 0 (travels h.2) ts) h.4 (travelled_same (is_packet_at plan me) (travels h.2)))
 
@@ -85,50 +85,50 @@ moved_more plan me sends receives m n p q r old mid new g h = (
       (travelled_more (is_packet_at plan me) m n (travels g.2) (travels h.2) (traffic g.0) (traffic h.0) g.4 h.4)),
 )
 
--- nothing was carried yet
+-- no packet has passed yet
 pub mailed_none : {P : Type 0} (plan : HostPlan) (me : NodeId) (sends : Sends P) (receives : Receives P) (p : P) (list : List NodeStep) → ∥ HasMailed plan me sends receives 0 0 p p list list ∥₁
 mailed_none plan me sends receives p list = ∣ (0, inl refl, ([], sym (append_nil list), [], refl, (refl, refl))) ∣₁
 
--- counts, one after the other
+-- a counter that counted two numbers has counted their sum
 counted_to : (most a m b n c : ℕ) → (b ≡ a + m) ⊎ ((most ≤ b) × (most ≤ a + m)) → (c ≡ b + n) ⊎ ((most ≤ c) × (most ≤ b + n)) → (c ≡ a + (m + n)) ⊎ ((most ≤ c) × (most ≤ a + (m + n)))
 counted_to most a m b n c (inl x) (inl y) = inl (omega (arith, x, y))
 counted_to most a m b n c (inl x) (inr y) = let z = y.1 in let sum : most ≤ a + (m + n) = omega (arith, x, z) in inr (y.0, sum)
 counted_to most a m b n c (inr x) (inl y) = let w = x.0 in let z = x.1 in let top : most ≤ c = omega (arith, w, y) in let sum : most ≤ a + (m + n) = omega (arith, z) in inr (top, sum)
 counted_to most a m b n c (inr x) (inr y) = let z = x.1 in let sum : most ≤ a + (m + n) = omega (arith, z) in inr (y.0, sum)
 
--- what was carried, and what is carried then
+-- packets that passed the port, and then more, have passed together
 pub mailed_more : {P : Type 0} (plan : HostPlan) (me : NodeId) (sends : Sends P) (receives : Receives P) (lost lost' : ℕ) (p q r : P) (old mid new : List NodeStep)
     → ∥ HasMailed plan me sends receives 0 lost p q old mid ∥₁ → HasMailed plan me sends receives lost lost' q r mid new → ∥ HasMailed plan me sends receives 0 lost' p r old new ∥₁
 mailed_more plan me sends receives lost lost' p q r old mid new before next =
     ∥∥₁_map before (λ had. (had.0 + next.0, counted_to (2 ^ 64 - 1) 0 had.0 lost next.0 lost' had.1 next.1, moved_more plan me sends receives had.0 next.0 p q r old mid new had.2 next.2))
 
--- nothing is lost
+-- no packet is lost
 pub nothing_lost : {P : Type 0} (plan : HostPlan) (me : NodeId) (sends : Sends P) (receives : Receives P) (lost : ℕ) (p q : P) (old new : List NodeStep) → HasMoved plan me sends receives 0 p q old new → HasMailed plan me sends receives lost lost p q old new
 nothing_lost plan me sends receives lost p q old new moved = let same : lost ≡ lost + 0 = omega arith in (0, inl same, moved)
 
--- so where no more is lost
+-- packets that passed the port, and then more of which none is lost, have passed together
 pub moved_then : {P : Type 0} (plan : HostPlan) (me : NodeId) (sends : Sends P) (receives : Receives P) (lost : ℕ) (p q r : P) (old mid new : List NodeStep)
     → ∥ HasMailed plan me sends receives 0 lost p q old mid ∥₁ → HasMoved plan me sends receives 0 q r mid new → ∥ HasMailed plan me sends receives 0 lost p r old new ∥₁
 moved_then plan me sends receives lost p q r old mid new before next =
     mailed_more plan me sends receives lost lost p q r old mid new before (nothing_lost plan me sends receives lost q r mid new next)
 
--- an entry by which nothing travels
+-- an entry without packets changes no traffic
 quiet : {P : Type 0} (plan : HostPlan) (me : NodeId) (sends : Sends P) (receives : Receives P) (p : P) (old new : List NodeStep) (e : NodeEvent) (a : NodeAnswer)
     → traffic_of e a ≡ [] → new ≡ old ++ noted me e a ∷ [] → HasMoved plan me sends receives 0 p p old new
 quiet plan me sends receives p old new e a none is = (noted me e a ∷ [], is, [], refl, (append_nil (traffic_of e a) ∙ none, refl))
 
--- nothing was added
+-- a seat that has not changed has no new traffic
 still : {P : Type 0} (plan : HostPlan) (me : NodeId) (sends : Sends P) (receives : Receives P) (p : P) (s t : SeatValue) → t ≡ s → HasMoved plan me sends receives 0 p p s.calls t.calls
 still plan me sends receives p s t is = ([], ap (λ (x : SeatValue). x.calls) is ∙ sym (append_nil s.calls), [], refl, (refl, refl))
 
--- what was asked, if nothing travels by it where it is an event
+-- an event without packets changes no traffic, whether it is a call or not
 pub quiet_answer : {P : Type 0} (plan told : HostPlan) (here : set.FinSet nat_cmp) (me : NodeId) (sends : Sends P) (receives : Receives P) (p : P) (event : NodeEvent) (s t : SeatValue) (outcome : Result NodeAnswer HostFault)
     → IfOk outcome (λ a. traffic_of event a ≡ []) → HasAnswer plan here me event s t outcome → HasMoved told me sends receives 0 p p s.calls t.calls
 quiet_answer plan told here me sends receives p event s t (Ok a) none (inl made) = quiet told me sends receives p s.calls t.calls event a none made.1
 quiet_answer plan told here me sends receives p event s t (Ok a) none (inr isnt) = still told me sends receives p s t isnt.2
 quiet_answer plan told here me sends receives p event s t (Err why) none refused = still told me sends receives p s t refused.1
 
--- nothing travels by these events, whatever the answer is
+-- these events have no packets, whatever the answer is
 pub never : (event : NodeEvent) (outcome : Result NodeAnswer HostFault) → ((a : NodeAnswer) → traffic_of event a ≡ []) → IfOk outcome (λ a. traffic_of event a ≡ [])
 never event (Ok a) none = none a
 never event (Err why) none = tt
@@ -161,7 +161,7 @@ pub asked_in_vain : (plan : HostPlan) (here : set.FinSet nat_cmp) (me : NodeId) 
 asked_in_vain plan here me e old new a (inl made) h = inl (a, made.0, made.1, h)
 asked_in_vain plan here me e old new a (inr isnt) h = inr (refl, isnt.2, inl (a, isnt.0, isnt.1))
 
--- the answer has a packet
+-- an answer with a packet is a call of the seat
 made_packet : (plan : HostPlan) (here : set.FinSet nat_cmp) (me : NodeId) (e : NodeEvent) (old new : SeatValue) (a : NodeAnswer) (text : List ℕ) → HasAnswer plan here me e old new (Ok a) → a ≡ answers.Sent (sents.Packet text)
     → (is_no_event a ≡ false) × (new.calls ≡ old.calls ++ noted me e a ∷ [])
 made_packet plan here me e old new a text (inl made) is = made
@@ -185,7 +185,7 @@ nowhere to (answers.Taken taken) h = refl
 nowhere to (answers.Ticked ticked) h = refl
 nowhere to (answers.Halted halted) h = refl
 
--- an answer that gives no packet sends nothing
+-- an answer without a packet sends nothing
 pub gives_none : (e : NodeEvent) (to : NodeId) (a : NodeAnswer) → destination e ≡ Some to → gives_packet a ≡ false → traffic_of e a ≡ []
 gives_none (events.Request request) to a d none = refl
 gives_none (events.Packet bytes) to a d none = absurd cc
@@ -197,7 +197,7 @@ gives_none events.Stop to a d none = refl
 
 -- Requests.
 
--- what is replied to a request
+-- the reply to a request
 pub replied : (plan : HostPlan) (here : set.FinSet nat_cmp) (me : NodeId) (old new : SeatValue) (request : Request) (outcome : Result NodeAnswer HostFault) (reply : Reply) → HasAnswer plan here me (events.Request request) old new outcome
     → IfOk outcome (λ a. reply ≡ reply_of a) → IfErr outcome (λ why. reply ≡ reply_at why) → HasReplied plan here me old request reply new
 replied plan here me old new request (Ok a) reply (inl made) is fault = inl (a, made.0, made.1, is)

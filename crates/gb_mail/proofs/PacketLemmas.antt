@@ -9,12 +9,12 @@ use Rattle.gb_host.specs.Common.{SeatValue, WasNoEvent, is_no_event, plan_of}
 use Rattle.gb_host.specs.declared.plan.HostPlan.{HostPlan}
 use Rattle.gb_mail.specs.Mailed.{IsCalledOrNot, IsTakenOrNot, is_packet_at}
 
--- a running node, which read them
+-- a running node that answers with no event has found a fault in the bytes
 fault_of : (v : NodeValue) (r : Result Content PacketFault) → is_no_event (Taken (taken_answer v r)) ≡ true → is_ok r ≡ false
 fault_of v (Ok c) none = absurd cc
 fault_of v (Err fault) none = refl
 
--- a node that answers so, running or stopped
+-- a node that answers with no event, running or stopped, has found a fault in the bytes
 either_fault : (stopped : Bool) (v : NodeValue) (bytes : List ℕ) → is_no_event (if stopped then record { value = v; answer = stopped_answer (Packet bytes) } else running_turn v (Packet bytes)).answer ≡ true → is_ok (read_at v bytes) ≡ false
 either_fault true v bytes none = absurd cc
 either_fault false v bytes none = fault_of v (read_at v bytes) none

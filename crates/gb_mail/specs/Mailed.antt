@@ -1,4 +1,4 @@
--- What a loop adds to its seat's list, and what travels at its port.
+-- The calls that a loop adds to its seat's list, and the packets that pass its port.
 use Rattle.std.specs.Prelude.{ℕ, suc, ◌≡◌, ◌≤◌, ◌+◌, ◌-◌, ◌^◌, ◌⊎◌, ◌==◌, true, false, Bool, List, [], ◌∷◌, ◌++◌, Option, Result, Ok, Err, is_ok}
 use Rattle.std.specs.FinSet as set
 use Rattle.std.specs.{Ordering.nat_cmp, List.list_all}
@@ -20,7 +20,7 @@ all_at me es = list_all (λ e. e.node.number == me.number) es
 abbrev pub HasCalled : NodeId → List NodeStep → List NodeStep → Type 0
 HasCalled me old new = (es : List NodeStep) × (new ≡ old ++ es) × (all_at me es ≡ true)
 
--- What a node was asked from a seat. It is an event, and a call of the seat; or it is none by its answer, and the seat is as it was. Or the host refused the call.
+-- an event asked from a seat, with this answer: it is a call of the seat; or the answer shows that it is none, and the seat is the same
 abbrev pub IsCalledOrNot : HostPlan → NodeId → NodeEvent → SeatValue → SeatValue → NodeAnswer → Type 0
 IsCalledOrNot plan me event old new answer =
     ((is_no_event answer ≡ false) × (new.calls ≡ old.calls ++ noted me event answer ∷ []))
@@ -34,7 +34,7 @@ HasAnswer plan here me event old new (Err why) = IsRefused plan here old me why 
 abbrev pub is_packet_at : HostPlan → NodeId → List ℕ → Bool
 is_packet_at plan me bytes = is_ok (read_at (new_node (plan_of plan me)) bytes)
 
--- What travelled is this traffic of events, in its order, each once. Besides it bytes came that made no event: some that are no packet, and this number of others.
+-- The packets that passed are this traffic of events, in order, each once. Other bytes came: some that are no packet, and this number of others.
 abbrev pub IsTravelled : (List ℕ → Bool) → ℕ → List Traffic → List Traffic → Type 0
 IsTravelled is_packet lost [] told = (told ≡ []) × (lost ≡ 0)
 IsTravelled is_packet lost (Went to bytes ∷ more) told = (rest : List Traffic) × (told ≡ Went to bytes ∷ rest) × IsTravelled is_packet lost more rest
@@ -43,32 +43,32 @@ IsTravelled is_packet lost (Came bytes ∷ more) told =
     ⊎ ((is_packet bytes ≡ false) × IsTravelled is_packet lost more told)
     ⊎ ((others : ℕ) × (lost ≡ suc others) × IsTravelled is_packet others more told)
 
--- What travelled at the port of this node is what the calls say that a list gained, in their order, each once. Besides it bytes came that are no packet for the node, and this number of others.
+-- the packets that passed the port are those of the gained calls, in order; other bytes came: no packets for the node, and this number of others
 abbrev pub HasMoved : {P : Type 0} → HostPlan → NodeId → (P → NodeId → List ℕ → Result Bool PortFault → P → Type 0) → (P → Result (Option (Vec ℕ Global)) PortFault → P → Type 0) → ℕ → P → P → List NodeStep → List NodeStep → Type 0
 HasMoved plan me sends receives lost before after old new =
     (es : List NodeStep) × (new ≡ old ++ es) × (calls : List PortCall) × AreCalls sends receives before calls after × IsTravelled (is_packet_at plan me) lost (travels calls) (traffic es)
 
--- a number of 64 bits that counted this number more, up to its greatest value
+-- a number of 64 bits was increased by this number, up to its greatest value
 abbrev pub HasCounted : ℕ → ℕ → ℕ → Type 0
 HasCounted old more new = (new ≡ old + more) ⊎ ((2 ^ 64 - 1 ≤ new) × (2 ^ 64 - 1 ≤ old + more))
 
--- so where the number of the others is the one that was counted, up to 2^64 - 1
+-- the packets that passed the port are those of the gained calls, and the counter has counted the lost ones, up to 2^64 - 1
 abbrev pub HasMailed : {P : Type 0} → HostPlan → NodeId → (P → NodeId → List ℕ → Result Bool PortFault → P → Type 0) → (P → Result (Option (Vec ℕ Global)) PortFault → P → Type 0) → ℕ → ℕ → P → P → List NodeStep → List NodeStep → Type 0
 HasMailed plan me sends receives lost lost' before after old new = (count : ℕ) × HasCounted lost count lost' × HasMoved plan me sends receives count before after old new
 
--- Bytes that came to a node. They are an event; or they are no packet for the node, and no event; or the host refused the call, and one more is counted as lost.
+-- bytes came to a node: they are an event; or no packet for it, and no event; or the host refused the call, and one more is counted as lost
 abbrev pub IsTakenOrNot : HostPlan → NodeId → List ℕ → SeatValue → SeatValue → ℕ → ℕ → Type 0
 IsTakenOrNot plan me bytes old new lost lost' =
     ((lost' ≡ lost) × ((answer : NodeAnswer) × (is_no_event answer ≡ false) × (new.calls ≡ old.calls ++ noted me (Packet bytes) answer ∷ [])))
     ⊎ ((lost' ≡ lost) × (is_packet_at plan me bytes ≡ false) × (new ≡ old))
     ⊎ (HasCounted lost 1 lost' × (new ≡ old))
 
--- a packet was handed to the port
+-- a packet was given to the port
 abbrev pub is_handed : Outcome → Bool
 is_handed (Handed answer) = true
 is_handed other = false
 
--- What came of an event by which a node sends. It was a call, and a packet was sent exactly if its answer has one. Or no packet was sent: it was no event at the node, or the host refused the call.
+-- an event that sends: a call, with a packet sent exactly if its answer has one; or no packet, since it was no event or the host refused it
 abbrev pub WasAskedToSend : HostPlan → set.FinSet nat_cmp → NodeId → NodeEvent → SeatValue → SeatValue → Bool → Type 0
 WasAskedToSend plan here me event old new sent =
     ((answer : NodeAnswer) × (is_no_event answer ≡ false) × (new.calls ≡ old.calls ++ noted me event answer ∷ []) × (gives_packet answer ≡ sent))

@@ -1,4 +1,4 @@
--- What does not fit in bytes that come from a node's address.
+-- The misfits of bytes that come from a node's address.
 use Rattle.std.specs.Prelude.{ℕ, ◌==◌, Option, Some, None, if◌then◌else◌}
 use Rattle.gb_types.specs.declared.node.NodeId.{NodeId}
 use Rattle.gb_frame.specs.declared.{fault.PacketFault.TheVariants.Tag, fault.PacketFault.TheVariants.Node}
@@ -6,8 +6,8 @@ use Rattle.gb_node.specs.declared.{answer.PacketAnswer.PacketAnswer, answer.Pack
 use Rattle.gb_status.specs.declared.{misfit.Misfit.TheVariants.Key as OtherKey, misfit.Misfit.TheVariants.Node as OtherNode}
 use Rattle.gb_mail.specs.declared.misfits.NodeMisfit.{NodeMisfit}
 
--- what does not fit in bytes from a node's address, by what was made of them: their tag is another one, or they are a node's for another
--- node or from one that the cluster does not have, or they are a good packet of another node
+-- the misfit of bytes from a node's address, by the answer to them: their tag is wrong, or they are a packet to another node or of a node
+-- that the cluster does not have, or they are a good packet of another node
 abbrev pub misfit_in : NodeId → PacketAnswer → Option NodeMisfit
 misfit_in node (Good good) = if good.from.number == node.number then None else Some (record { from = node; misfit = OtherNode })
 misfit_in node (Fault Node) = Some (record { from = node; misfit = OtherNode })

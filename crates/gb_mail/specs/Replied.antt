@@ -1,4 +1,4 @@
--- What a client is replied, what it leaves of the seat, and what it shows of the client.
+-- The reply to a client, the seat after it, and the tokens that the client has shown.
 use Rattle.std.specs.Prelude.{◌≡◌, ◌⊎◌, ◌&&◌, ◌||◌, Bool, true, false, ◌∷◌, [], ◌++◌}
 use Rattle.std.specs.FinSet as set
 use Rattle.std.specs.Ordering.{nat_cmp}
@@ -15,7 +15,7 @@ abbrev pub IsEvent : NodeId → SeatValue → Request → Reply → SeatValue �
 IsEvent me old request reply new =
     (answer : NodeAnswer) × (is_no_event answer ≡ false) × (new.calls ≡ old.calls ++ noted me (Asked request) answer ∷ []) × (reply ≡ reply_of answer)
 
--- the request was asked at the node, which refused it in vain: the reply is the node's, and neither the node nor the seat has changed
+-- the request was asked at the node, which refused it: the reply is the node's, and neither the node nor the seat has changed
 abbrev pub IsVain : HostPlan → NodeId → SeatValue → Request → Reply → SeatValue → Type 0
 IsVain plan me old request reply new =
     (answer : NodeAnswer) × (is_no_event answer ≡ true) × WasNoEvent plan me old (Asked request) answer × (new ≡ old) × (reply ≡ reply_of answer)
@@ -24,17 +24,17 @@ IsVain plan me old request reply new =
 abbrev pub IsUncalled : HostPlan → set.FinSet nat_cmp → NodeId → SeatValue → Reply → SeatValue → Type 0
 IsUncalled plan here me old reply new = (why : HostFault) × IsRefused plan here old me why × (new ≡ old) × (reply ≡ reply_at why)
 
--- a reply to a request, and what it leaves of the seat
+-- a reply to a request, and the seat after it
 abbrev pub HasReplied : HostPlan → set.FinSet nat_cmp → NodeId → SeatValue → Request → Reply → SeatValue → Type 0
 HasReplied plan here me old request reply new = IsEvent me old request reply new ⊎ IsVain plan me old request reply new ⊎ IsUncalled plan here me old reply new
 
--- the request was done
+-- a request with this reply was done
 abbrev pub is_done : Reply → Bool
 is_done Done = true
 is_done (Said seq) = true
 is_done other = false
 
--- a refusal that comes only behind the right token
+-- the refusal comes only after the right token
 abbrev pub is_admitting : Refusal → Bool
 is_admitting Denied = false
 is_admitting Malformed = false
@@ -42,7 +42,7 @@ is_admitting Stopped = false
 is_admitting OutOfMemory = false
 is_admitting other = true
 
--- the request came with the token that it needs
+-- a request with this reply had the token that it needs
 abbrev pub is_admitted : Reply → Bool
 is_admitted (Refused why) = is_admitting why
 is_admitted other = true
@@ -55,7 +55,7 @@ is_for_admin other = false
 abbrev pub needs_admin : Request → Bool
 needs_admin request = is_for_admin request.what
 
--- what was shown before, and what a request with its reply shows
+-- the tokens that were shown before, and by a request with its reply
 abbrev pub shown_with : Request → Reply → Shown → Shown
 shown_with request reply shown = record {
   is_admitted = shown.is_admitted || is_admitted reply;

@@ -1,4 +1,4 @@
-//! What was admitted of what clients asked.
+//! The requests of clients that a node admitted.
 ghost use Rattle.std.specs.Prelude.{◌≡◌, None};
 ghost use Rattle.gb_mail.specs.Admissions.{group_tenant, noted};
 
@@ -7,9 +7,9 @@ use gb_types::{Action, Request};
 /// The requests of clients that came with the token that they need.
 #[derive(Clone, Copy, Debug, PartialEq, Eq)]
 pub struct Admitted {
-    /// How many there were, up to 2^64 - 1.
+    /// The number of these requests, up to 2^64 - 1.
     pub requests: u64,
-    /// The tenant of the last one that named a group. None: there was none.
+    /// The tenant of the last of them that named a group, or `None` if none did.
     pub tenant: Option<u16>,
 }
 
@@ -24,7 +24,7 @@ pub fn tenant_of(request: &Request) -> Option<u16>
 }
 
 impl Admitted {
-    /// Returns that nothing was admitted.
+    /// Returns a count of no request.
     pub fn new() -> Admitted
         ensures requests { result.requests ≡ 0 }
         ensures tenant { result.tenant ≡ None }
@@ -35,7 +35,7 @@ impl Admitted {
         }
     }
 
-    /// Notes a request for a group of this tenant, or for none. One that was not admitted changes nothing.
+    /// Counts a request for a group of this tenant, or for no group. A request that was not admitted changes nothing.
     pub fn note(&mut self, tenant: Option<u16>, is_admitted: bool)
         ensures { self.new ≡ noted self.old tenant is_admitted }
     {

@@ -10,7 +10,7 @@ use gb_types::OutOfMemory;
 use std::alloc::Global;
 use std::io::{ErrorKind, Read, Write};
 
-/// How often a write is tried again in one turn while the stream takes only a part.
+/// The most writes in one turn while the stream takes only a part.
 const WRITES: u32 = 64;
 
 const _: () = prove!(WRITES == 64);
@@ -20,22 +20,22 @@ const _: () = prove!(WRITES == 64);
 pub struct Client {
     pub session: Session,
     pub unsent: Vec<u8>,
-    /// The session has ended: nothing is read or answered any more.
+    /// True if the session has ended: nothing is read or answered any more.
     pub is_over: bool,
 }
 
-/// Whether a turn reads, and how it answers.
+/// The way in which a turn reads and answers.
 #[derive(Clone, Copy)]
 pub struct Way {
-    /// False: only what came before is looked at again.
+    /// If false, the turn reads nothing and looks only at the bytes that came before.
     pub reads: bool,
-    /// An `await` that finds nothing is answered as late.
+    /// If true, an `await` that finds nothing is answered as late.
     pub is_late: bool,
-    /// The limit, in bytes, of replies that wait: a message is answered below it alone.
+    /// The limit, in bytes, of waiting replies. Only below it is a message answered.
     pub room: usize,
 }
 
-/// What came of a turn.
+/// The result of a turn.
 #[derive(Drop)]
 pub enum Turn {
     /// The stream did not take all replies: nothing was read.
@@ -52,14 +52,14 @@ pub enum Turn {
     Failed,
 }
 
-// Returns true if a session ended so.
+// Returns true if a session has ended with this step.
 fn is_end(step: &Step) -> bool
     ensures { result ≡ is_end step.now }
 {
     matches!(step, Step::Ended(_))
 }
 
-// What a read came to.
+// The result of a read.
 enum Came {
     Bytes(usize),
     Dry,
@@ -68,7 +68,7 @@ enum Came {
     Failed,
 }
 
-// Makes one read, or none if `reads` is false.
+// Makes one read, or none if `reads` is false. Returns the result.
 fn read_some<R: Read>(reader: &mut R, space: &mut [u8], reads: bool) -> Came
     ensures { HasCome (R.remaining reader.old) (R.remaining reader.new) space.new result }
 {
@@ -86,7 +86,7 @@ fn read_some<R: Read>(reader: &mut R, space: &mut [u8], reads: bool) -> Came
     }
 }
 
-// Makes one write. Returns the number of bytes that the stream took, 0 if it takes none now, or None if it failed.
+// Makes one write. Returns the number of bytes that the stream took, 0 if it takes none now, or `None` if it failed.
 fn write_once<W: Write>(writer: &mut W, bytes: &[u8]) -> Option<usize>
     ensures within { IfSome result (λ count. count ≤ length bytes.now) }
     ensures bytes { IfSome result (λ count. Appends (W.contents writer.old) (W.contents writer.new) (take count bytes.now)) }
@@ -102,7 +102,7 @@ fn write_once<W: Write>(writer: &mut W, bytes: &[u8]) -> Option<usize>
     }
 }
 
-// Writes what the stream takes now. Returns the bytes that it did not take, or None if it failed.
+// Writes the bytes that the stream takes now. Returns the bytes that it did not take, or `None` if it failed.
 fn write_some<'a, W: Write>(writer: &mut W, bytes: &'a [u8]) -> Option<&'a [u8]>
     ensures some { IfSome result (λ rest. (sent : List ℕ) × Appends (W.contents writer.old) (W.contents writer.new) sent
         × (bytes.now ≡ sent ++ rest.now)) }
@@ -122,8 +122,8 @@ fn write_some<'a, W: Write>(writer: &mut W, bytes: &'a [u8]) -> Option<&'a [u8]>
     Some(rest)
 }
 
-// Settles what happened, and then writes what the stream takes now. Returns the bytes that it did not take, or None if it failed or what
-// happened cannot be kept.
+// Settles the events so far, and then writes the bytes that the stream takes now. Returns the bytes that it did not take, or `None` if it
+// failed or the events cannot be kept.
 fn send<'a, S: Settle, W: Write>(settle: &S, writer: &mut W, bytes: &'a [u8]) -> Option<&'a [u8]>
     ensures some { IfSome result (λ rest. (sent : List ℕ) × Appends (W.contents writer.old) (W.contents writer.new) sent
         × (bytes.now ≡ sent ++ rest.now)) }
@@ -152,7 +152,7 @@ impl Client {
         }
     }
 
-    // Sends what the stream takes of the replies that wait. Returns false if it failed, or there was no memory.
+    // Sends the waiting replies that the stream takes. Returns false if it failed, or there was no memory.
     fn flush<S: Settle, W: Write>(&mut self, alloc: Global, settle: &S, writer: &mut W) -> bool
         ensures sent { result ≡ true → (sent : List ℕ) × Appends (W.contents writer.old) (W.contents writer.new) sent
             × (self.old.unsent.items ≡ sent ++ self.new.unsent.items) }
@@ -172,7 +172,7 @@ impl Client {
         true
     }
 
-    // Answers a piece, and sends what the stream takes of the replies. Returns None if it failed, or there was no memory.
+    // Answers a piece, and sends the replies that the stream takes. Returns the result, or `None` if it failed or there was no memory.
     fn answer<A: Answers, S: Settle, W: Write>(
         &mut self,
         alloc: Global,
@@ -208,9 +208,9 @@ impl Client {
         Some(step)
     }
 
-    /// Makes one turn: sends the replies that wait; if all are sent, reads a piece, answers what is whole, and sends what the stream takes
-    /// of the replies. What happened is settled before anything is sent; the turn fails if it cannot be kept. `space` is where a read puts
-    /// its bytes, and `out` where replies are put. Returns how the turn ended.
+    /// Makes one turn. It sends the replies that wait. If all are sent, it reads a piece, answers whole messages, and sends the replies that
+    /// the stream takes. The events so far are settled before anything is sent; the turn fails if they cannot be kept. A read writes its bytes
+    /// to `space`, and replies are written to `out`. Returns the result of the turn.
     pub fn turn<A: Answers, S: Settle, R: Read, W: Write>(
         &mut self,
         alloc: Global,

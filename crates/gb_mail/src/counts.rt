@@ -1,4 +1,4 @@
-//! Which figures a node's calls count.
+//! The figures that count a node's calls.
 use gb_frame::PacketFault;
 use gb_node::{Frame, NodeAnswer, NodeEvent, PacketAnswer, Ticked};
 use gb_status::{Figure, Figures};
@@ -39,7 +39,7 @@ pub(crate) fn refused_figure(why: Refusal) -> Figure {
     }
 }
 
-// Returns how many places for groups a request reserves where it is done.
+// Returns the number of places for groups that a request reserves if it is done.
 pub(crate) fn places_asked(request: &Request) -> u64 {
     match &request.what {
         Action::AddTenant(row) => u64::from(row.groups),
@@ -47,13 +47,13 @@ pub(crate) fn places_asked(request: &Request) -> u64 {
     }
 }
 
-// Notes that places for groups were reserved.
+// Subtracts reserved places for groups from those that are left.
 fn reserve(figures: &mut Figures, places: u64) {
     let left = figures.value(Figure::PlacesLeft).saturating_sub(places);
     figures.set(Figure::PlacesLeft, left);
 }
 
-// Counts a request under `asked`, and what was replied to it. Where it was done it reserved this number of places for groups.
+// Counts a request under `asked`, and its reply. If the request was done, it reserved this number of places for groups.
 pub(crate) fn count_reply(figures: &mut Figures, asked: Figure, places: u64, reply: &Reply) {
     figures.add(asked, 1);
     match reply {
@@ -69,7 +69,7 @@ pub(crate) fn count_reply(figures: &mut Figures, asked: Figure, places: u64, rep
     }
 }
 
-// Returns the figure that is counted when an event gives a packet.
+// Returns the figure that counts the packet of an event.
 pub(crate) fn sent_figure(event: &NodeEvent) -> Figure {
     match event {
         NodeEvent::Pack(_) => Figure::FramesPacked,
@@ -104,7 +104,7 @@ fn frame_figure(frame: Frame) -> Figure {
     }
 }
 
-// Counts what a node made of bytes that came.
+// Counts the result of bytes that came to a node.
 pub(crate) fn count_packet(figures: &mut Figures, answer: &NodeAnswer) {
     match answer {
         NodeAnswer::Taken(PacketAnswer::Good(good)) => {

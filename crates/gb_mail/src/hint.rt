@@ -1,9 +1,9 @@
-//! What the bytes of a packet say, before it is known that they are one.
+//! The content of bytes that may be a packet, before they are known to be one.
 use gb_frame::ItemViews;
 use gb_frame::limits::{HEADER, TAG};
 use gb_types::{Addr, Version};
 
-/// What a packet acknowledges: every frame below `base`, and `base + i` where bit i of the mask is set.
+/// The acknowledgement of a packet: every frame below `base`, and `base + i` where bit i of the mask is set.
 #[derive(Clone, Copy)]
 pub struct Hint {
     pub base: u64,
@@ -18,7 +18,7 @@ fn number_at(bytes: &[u8], at: usize) -> u64 {
     }
 }
 
-/// Returns what bytes acknowledge, if they are a packet. It decides only which frames are sent again, and when.
+/// Returns the acknowledgement of these bytes, if they are a packet. It decides only which frames are sent again, and when.
 pub fn hint_of(bytes: &[u8]) -> Hint {
     Hint {
         base: number_at(bytes, 5),
@@ -26,8 +26,8 @@ pub fn hint_of(bytes: &[u8]) -> Hint {
     }
 }
 
-/// Puts the addresses of the items of bytes, if they are a packet, in the place of what was there. Those for which there is no
-/// memory are left out, and false is returned then. They decide only who is asked again, and when.
+/// Replaces `addresses` by the addresses of the items of these bytes, if they are a packet. Returns false if there was no memory for
+/// some; these are left out. They decide only which clients are tried again, and when.
 pub fn put_addresses(bytes: &[u8], addresses: &mut Vec<Addr>) -> bool {
     addresses.clear();
     if bytes.len() < HEADER + TAG {

@@ -1,8 +1,8 @@
 //! A node with its port, and its clients, as values that a loop drives. `mail::Mail` is the node with its port: every call and every
-//! packet goes through it. `client::Client` is a client's session with the replies that are not sent yet. `settle` is what is done before
-//! replies leave, `operate` answers an administrator, `hint` says what the bytes of a packet say before it is known that they are one,
-//! `counts` which figures a call counts, `admitted` which requests, and `misfits` whether what comes from a node's address fits. Read
-//! `mail` and `client` first. Nothing here waits for the system; gb_loop does.
+//! packet goes through it. `client::Client` is a client's session with the replies that are not sent yet. `settle` is called before
+//! replies leave, `operate` answers an administrator, `hint` reads bytes before they are known to be a packet, `counts` counts calls under
+//! figures, `admitted` counts admitted requests, and `misfits` finds packets that do not fit the cluster. Read `mail` and `client` first.
+//! Nothing here waits for the system; gb_loop does.
 #![tactic(auto)]
 
 pub mod admitted;

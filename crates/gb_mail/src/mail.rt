@@ -1,4 +1,4 @@
-//! A node with its port: all that is asked of it, comes to it and goes from it.
+//! A node with its port: its requests, and the packets that come to it and leave it.
 ghost use Rattle.std.specs.Prelude.{◌≡◌, ◌++◌, ◌∷◌, ◌&&◌, ◌||◌, [], true, false, Ok, Some, IfOk, IfErr, OnOk, OnErr, IfSome, IfNone};
 ghost use Rattle.gb_node.specs.declared.{answer.NodeAnswer.TheVariants.Sent as WasSent, answer.Sent.TheVariants.Packet as SentPacket};
 ghost use Rattle.gb_worker.specs.{Answered.destination, Answered.gives_packet, Asked.reply_at, Asked.reply_of, Carried.GivesNothing};
@@ -32,25 +32,25 @@ pub struct Origin<L: Tapes, P> {
     pub seat: Snapshot<Seat<L>>,
 }
 
-/// What a packet that came was.
+/// The result of a packet that came.
 pub struct Arrival {
-    /// None if it was no packet for this node, or there was no memory for it.
+    /// `None` if it was no packet for this node, or there was no memory for it.
     pub good: Option<Good>,
     pub hint: Hint,
-    /// What does not fit, if it came from a node's address.
+    /// The misfit of the packet, if it came from a node's address.
     pub misfit: Option<NodeMisfit>,
 }
 
-/// What requests and operations showed of the client that made them.
+/// The tokens that a client showed by its requests and operations.
 #[derive(Clone, Copy)]
 pub struct Shown {
-    /// One came with the token that it needs.
+    /// True if a request or an operation had the token that it needs.
     pub is_admitted: bool,
-    /// One came with the administrator's token, and needs it.
+    /// True if one that needs the administrator's token had it.
     pub is_admin: bool,
 }
 
-/// What is left when no more is asked of a node: the node, its seat and its port. `lost` is the number of packets that came and for
+/// The parts of a node's access when it ends: the node, its seat and its port. `lost` is the number of packets that came and for
 /// which there was no memory, up to 2^64 - 1.
 #[derive(Drop)]
 pub struct Parts<L: Tapes, P> {
@@ -60,7 +60,7 @@ pub struct Parts<L: Tapes, P> {
     pub lost: u64,
 }
 
-/// A node of a host that is asked from one seat, and its port.
+/// A node of a host that gets its events from one seat, and its port.
 pub struct Mail<'a, L: Tapes, H, P: Port> {
     rt: &'a H,
     pub host: &'a Host<L>,
@@ -68,47 +68,47 @@ pub struct Mail<'a, L: Tapes, H, P: Port> {
     pub seat: Seat<L>,
     pub port: P,
     pub lost: u64,
-    // The groups that requests changed since the last of them was begun to be returned, and those that are being returned.
+    // The groups that requests changed since the last call began to return groups, and the groups that are being returned.
     touched: IndexSet<Addr>,
     returned: IndexSet<Addr>,
-    // What the requests showed that were answered since it was last taken.
+    // The tokens of the requests that were answered since it was last taken.
     shown: Shown,
-    // What the node admitted of what clients asked since it was last taken.
+    // The requests that the node admitted since it was last taken.
     admitted: Admitted,
     orders: Orders,
-    /// Something was left undone since the last tick for which there was no memory. The loop empties this, and looks at all again.
+    /// True if work was left undone since the last tick for lack of memory. The loop resets this, and looks at all again.
     pub is_short: bool,
-    /// What the node counted since the server's start. The loop adds what it counts of its connections.
+    /// The counts of the node since the server's start. The loop adds the counts of its connections.
     pub figures: Figures,
     pub ghost here: { ∥ HasCalled origin.node origin.seat.value.calls seat.calls ∥₁ },
     pub ghost mailed: { ∥ HasMailed host.now.plan origin.node P.sends P.receives 0 lost origin.port.value port origin.seat.value.calls seat.calls ∥₁ },
 }
 
-/// Nothing was shown.
+/// No token was shown.
 const NOTHING_SHOWN: Shown = Shown {
     is_admitted: false,
     is_admin: false,
 };
 
-// What came of an event by which a node sends to another.
+// The result of an event by which a node sends to another.
 #[derive(Drop)]
 enum Outcome {
     // The host refused the call, or the node had no memory for a packet.
     Short,
-    // The event gave no packet.
+    // The event had no packet.
     Nothing,
-    // The packet was handed to the port, which answered so.
+    // The packet was given to the port, which returned this.
     Handed(Result<bool, PortFault>),
 }
 
-// A law of every host: its plan is the one that its name knows.
+// A law of every host: its plan is the one of its name.
 fn plan_says<L: Tapes>(host: &Host<L>)
     ensures { host.now.plan ≡ L.plan }
 {
     let _ = host.plan();
 }
 
-// Asks a node for one event, which is left out of its past where its answer says that it is none.
+// Makes one event happen at a node, and returns the answer. If the answer shows that it is no event, the past does not have it.
 fn ask<L: Tapes, H: Wait>(
     rt: &H,
     host: &Host<L>,
@@ -122,7 +122,7 @@ fn ask<L: Tapes, H: Wait>(
     host.call_or_skip(rt, seat, node, event, &mut Open)
 }
 
-// What a client is told of a call.
+// Returns the reply to a client for the result of a call.
 fn reply_of(outcome: Result<NodeAnswer, HostFault>) -> Reply
     ensures answered { IfOk outcome (λ a. result ≡ reply_of a) }
     ensures fault { IfErr outcome (λ why. result ≡ reply_at why) }
@@ -150,15 +150,15 @@ fn needs_admin(request: &Request) -> bool
     matches!(&request.what, Action::AddTenant(_))
 }
 
-// Returns true if a request was done that is answered so.
+// Returns true if a request with this reply was done.
 fn is_done(reply: &Reply) -> bool
     ensures { result ≡ is_done reply.now }
 {
     matches!(reply, Reply::Done | Reply::Said(_))
 }
 
-// Returns true if a request that is answered so came with the token that it needs. One that the host refused, or that came to a node
-// which had stopped, did not show it.
+// Returns true if a request with this reply had the token that it needs. A request that the host refused, or that came to a node
+// which had stopped, is not known to have it.
 fn is_admitted(reply: &Reply) -> bool
     ensures { result ≡ is_admitted reply.now }
 {
@@ -168,7 +168,7 @@ fn is_admitted(reply: &Reply) -> bool
     }
 }
 
-// Returns true if a refusal comes only behind the right token.
+// Returns true if a refusal comes only after the right token.
 fn is_admitting(why: Refusal) -> bool
     ensures { result ≡ is_admitting why }
 {
@@ -181,8 +181,8 @@ fn is_admitting(why: Refusal) -> bool
     }
 }
 
-// Returns what was shown before, and what a request shows that needs the administrator's token or not, and came with the token that it
-// needs or not.
+// Returns the tokens that were shown before and by one more request. `is_admin` means that it needs the administrator's token, and
+// `is_admitted` that it had the token that it needs.
 fn shown_more(shown: Shown, is_admin: bool, is_admitted: bool) -> Shown
     ensures { result ≡ record { is_admitted = shown.is_admitted || is_admitted; is_admin = shown.is_admin || (is_admin && is_admitted) } }
 {
@@ -192,7 +192,7 @@ fn shown_more(shown: Shown, is_admin: bool, is_admitted: bool) -> Shown
     }
 }
 
-// Returns the packet that came next. None: none came, or the port failed, which is counted.
+// Returns the packet that came next. `None` if none came, or the port failed, which is counted.
 fn next_packet<P: Port>(port: &mut P, figures: &mut Figures) -> Option<Vec<u8>>
     ensures some { IfSome result (λ bytes. P.receives port.old (Ok (Some bytes)) port.new) }
     ensures none { IfNone result (GivesNothing P.receives port.old port.new) }
@@ -207,7 +207,7 @@ fn next_packet<P: Port>(port: &mut P, figures: &mut Figures) -> Option<Vec<u8>>
     }
 }
 
-// Returns the packet that an answer gives; if it gives none, what came of the event.
+// Returns the packet of an answer. If it has none, `Err` with the result of the event.
 fn packet_of(answer: NodeAnswer) -> Result<PacketText, Outcome>
     ensures ok { IfOk result (λ text. answer ≡ WasSent (SentPacket text)) }
     ensures err { IfErr result (λ outcome. (gives_packet answer ≡ false) × (is_handed outcome ≡ false)) }
@@ -219,7 +219,7 @@ fn packet_of(answer: NodeAnswer) -> Result<PacketText, Outcome>
     }
 }
 
-// Returns what a node made of bytes that came.
+// Returns the part of an answer that is about bytes that came. `None` if it is another answer.
 fn taken_of(answer: NodeAnswer) -> Option<PacketAnswer> {
     match answer {
         NodeAnswer::Taken(taken) => Some(taken),
@@ -227,7 +227,7 @@ fn taken_of(answer: NodeAnswer) -> Option<PacketAnswer> {
     }
 }
 
-// Returns what a node made of a good packet.
+// Returns the part of an answer that is about a good packet. `None` if it is another answer.
 fn good_of(taken: Option<PacketAnswer>) -> Option<Good> {
     match taken {
         Some(PacketAnswer::Good(good)) => Some(good),
@@ -235,7 +235,7 @@ fn good_of(taken: Option<PacketAnswer>) -> Option<Good> {
     }
 }
 
-// Counts one more packet that was lost, up to 2^64 - 1.
+// Counts one more lost packet, up to 2^64 - 1.
 fn count_lost(lost: &mut u64)
     ensures { HasCounted lost.old 1 lost.new }
 {
@@ -244,8 +244,8 @@ fn count_lost(lost: &mut u64)
     }
 }
 
-// A packet that came is one event at a node, unless it is no packet for it. Returns what the node made of it. If the host refuses the
-// call, the packet is lost and counted.
+// Passes the bytes that came to a node. They are one event at it, unless they are no packet for it. Returns the answer. If the host
+// refuses the call, the packet is lost and counted.
 fn take_packet<L: Tapes, H: Wait>(
     rt: &H,
     host: &Host<L>,
@@ -258,7 +258,7 @@ fn take_packet<L: Tapes, H: Wait>(
     ensures taken { IsTakenOrNot L.plan node bytes.items seat.old seat.new lost.old lost.new }
     ensures here { HasCalled node seat.old.calls seat.new.calls }
 {
-    // A node by its past has the key, the number and the cluster of its plan.
+    // By its past a node has the key, the number and the cluster of its plan.
     pasts_say();
     let event = NodeEvent::Packet(PacketText::from(bytes));
     match ask(rt, host, seat, node, event) {
@@ -274,8 +274,8 @@ fn take_packet<L: Tapes, H: Wait>(
     }
 }
 
-// One event by which a node sends to another. What it gives is handed to the port at once. Returns what came of it. If it gives nothing,
-// or the node has no memory for the packet, it is no event.
+// Makes one event happen by which a node sends to another, and passes its packet to the port at once. Returns the result. If it has no
+// packet, or the node has no memory for the packet, it is no event.
 fn send_at<L: Tapes, H: Wait, P: Port>(
     rt: &H,
     host: &Host<L>,
@@ -301,8 +301,8 @@ fn send_at<L: Tapes, H: Wait, P: Port>(
     Outcome::Handed(port.send(to, text.as_slice()))
 }
 
-// Counts what came of an event by which a node sends, a packet under `figure`, and notes if there was no memory for it. Returns true if
-// the event gave a packet.
+// Counts the result of an event by which a node sends, a packet under `figure`, and records in `is_short` that there was no memory for
+// it. Returns true if the event had a packet.
 fn count_outcome(
     outcome: Outcome,
     figure: Figure,
@@ -328,7 +328,7 @@ fn count_outcome(
 }
 
 impl<'a, L: Tapes, H: Wait, P: Port> Mail<'a, L, H, P> {
-    /// Returns the access of a loop to its node: each event goes to the host from this seat, and each packet that the node sends to this
+    /// Returns the access of a loop to its node: each event goes to the host from this seat, and each packet that the node sends goes to this
     /// port. No group is touched yet, and all counts are 0.
     pub fn new(
         rt: &'a H,
@@ -364,7 +364,7 @@ impl<'a, L: Tapes, H: Wait, P: Port> Mail<'a, L, H, P> {
         }
     }
 
-    /// Gives up the access. Returns the seat and the port.
+    /// Consumes the access. Returns the seat and the port.
     pub fn into_parts(self) -> Parts<L, P>
         ensures node { result.node ≡ self.entry.origin.node }
         ensures here { ∥ HasCalled result.node self.entry.origin.seat.value.calls result.seat.calls ∥₁ }
@@ -422,8 +422,8 @@ impl<'a, L: Tapes, H: Wait, P: Port> Mail<'a, L, H, P> {
         count_tick(&mut self.figures, answer);
     }
 
-    /// Takes the next packet that came, which is one event at the node unless it is no packet for it, and returns what it was. If `is_wanted`, the groups of its items
-    /// are put into `came`. `None` if no packet came, or the port failed.
+    /// Takes the next packet that came, which is one event at the node unless it is no packet for it. Returns the result. If `is_wanted`,
+    /// the groups of its items are written to `came`. `None` if no packet came, or the port failed.
     pub fn receive(&mut self, is_wanted: bool, came: &mut Vec<Addr>) -> Option<Arrival>
         ensures mailed { HasMailed L.plan self.old.origin.node P.sends P.receives self.old.lost self.new.lost self.old.port self.new.port self.old.seat.calls self.new.seat.calls }
         ensures origin { self.new.origin ≡ self.old.origin }
@@ -455,21 +455,21 @@ impl<'a, L: Tapes, H: Wait, P: Port> Mail<'a, L, H, P> {
         })
     }
 
-    /// Returns the descriptor of a source of the node's port, which is looked at only after `wake` from now on, as `Port::watch` says.
+    /// Returns the descriptor of a source of the node's port. From now on the port reads it only after `wake`, as `Port::watch` says.
     pub fn watch(&mut self, source: u8) -> Option<RawFd>
         ensures origin { self.new.origin ≡ self.old.origin }
     {
         self.port.watch(source)
     }
 
-    /// Notes that something may have come at a source of the node's port.
+    /// Records that something may have come at a source of the node's port.
     pub fn wake(&mut self, source: u8)
         ensures origin { self.new.origin ≡ self.old.origin }
     {
         self.port.wake(source);
     }
 
-    /// Counts what the node's port says beside its packets, and returns whether it has more of strangers than it takes in a row.
+    /// Counts the port's reports beside its packets. Returns true if more packets of strangers came than it takes in a row.
     pub fn count_port(&mut self) -> bool
         ensures origin { self.new.origin ≡ self.old.origin }
     {
@@ -480,10 +480,10 @@ impl<'a, L: Tapes, H: Wait, P: Port> Mail<'a, L, H, P> {
     }
 
     /// Makes one event happen at the node by which it sends to node `to`: a pack, an acknowledgement, or a frame once more. Waits for the
-    /// node's lock; the host may take memory to keep the call. If the node answers with a packet, it is handed to the port at once; the
-    /// port may lose it, as a network may. `lost`, which counts packets that came and were not handed in, stays as it was, and so does
+    /// node's lock; the host may take memory to keep the call. If the node answers with a packet, it is given to the port at once; the
+    /// port may lose it, as a network may. `lost`, which counts packets that came and were not passed on, stays as it was, and so does
     /// `origin`, the seat and the port as they were at first. Returns true if the node answered with a packet; false if it answered
-    /// otherwise or the host refused the call. What gives nothing, and what the node has no memory for, is no event.
+    /// otherwise or the host refused the call. If there is no packet, or no memory for it, this is no event.
     pub fn send(&mut self, event: NodeEvent, to: NodeId) -> bool
         requires { destination event ≡ Some to }
         ensures asked { WasAskedToSend L.plan self.old.host.now.here self.old.origin.node event self.old.seat self.new.seat result }
@@ -520,7 +520,7 @@ impl<'a, L: Tapes, H: Wait, P: Port> Mail<'a, L, H, P> {
         self.figures.set(figure, number);
     }
 
-    // Notes the group that a request may change, if the request was done.
+    // Records the group that a request may change, if the request was done.
     fn touch(&mut self, address: Option<Addr>, is_done: bool)
         ensures seat { self.new.seat ≡ self.old.seat }
         ensures origin { self.new.origin ≡ self.old.origin }
@@ -543,7 +543,7 @@ impl<'a, L: Tapes, H: Wait, P: Port> Mail<'a, L, H, P> {
         !self.touched.is_empty() || !self.returned.is_empty()
     }
 
-    /// Takes out and returns a group that requests changed. Each is returned once, until a request changes it again. All that were
+    /// Removes and returns a group that requests changed. Each is returned once, until a request changes it again. All that were
     /// changed before some call are returned before those that are changed after it. `None` if there is none.
     pub fn next_touched(&mut self) -> Option<Addr>
         ensures origin { self.new.origin ≡ self.old.origin }
@@ -554,7 +554,7 @@ impl<'a, L: Tapes, H: Wait, P: Port> Mail<'a, L, H, P> {
         self.returned.pop()
     }
 
-    /// Forgets the groups that requests changed.
+    /// Removes all groups that requests changed.
     pub fn forget_touched(&mut self)
         ensures origin { self.new.origin ≡ self.old.origin }
     {
@@ -562,8 +562,8 @@ impl<'a, L: Tapes, H: Wait, P: Port> Mail<'a, L, H, P> {
         self.returned.clear();
     }
 
-    /// Returns what the requests and operations showed that were answered since the last call. So a loop that calls it after each turn
-    /// of a client knows whether this client may stay.
+    /// Returns the tokens that requests and operations showed which were answered since the last call. A loop that calls it after each
+    /// turn of a client so learns whether this client may stay.
     pub fn take_shown(&mut self) -> Shown
         ensures origin { self.new.origin ≡ self.old.origin }
     {
@@ -576,7 +576,7 @@ impl<'a, L: Tapes, H: Wait, P: Port> Mail<'a, L, H, P> {
         shown
     }
 
-    /// Returns what was admitted since the last call, and forgets it.
+    /// Returns the requests that were admitted since the last call, and forgets them.
     pub fn take_admitted(&mut self) -> Admitted
         ensures origin { self.new.origin ≡ self.old.origin }
     {

@@ -1,4 +1,4 @@
-//! Whether what comes from a node's address fits the cluster.
+//! The packets from a node's address that do not fit the cluster.
 ghost use Rattle.std.specs.Prelude.{◌≡◌};
 ghost use Rattle.gb_mail.specs.Misfits.{misfit_of};
 
@@ -7,14 +7,14 @@ use gb_node::PacketAnswer;
 use gb_status::Misfit;
 use gb_types::NodeId;
 
-/// What does not fit in a packet, and the node from whose address it came.
+/// The misfit of a packet, and the node from whose address it came.
 #[derive(Clone, Copy, PartialEq, Eq)]
 pub struct NodeMisfit {
     pub from: NodeId,
     pub misfit: Misfit,
 }
 
-/// Returns what does not fit in bytes that came from a node's address, by what the node that they came to made of them. `None` if they fit,
+/// Returns the misfit of bytes that came from a node's address, by the answer of the node that they came to. `None` if they fit,
 /// or are no packet, or came from no node's address.
 pub fn misfit_of(from: Option<NodeId>, taken: Option<PacketAnswer>) -> Option<NodeMisfit>
     ensures { result ≡ misfit_of from taken }

@@ -1,4 +1,4 @@
-//! What an administrator is told of a node, and the end that an administrator asks for.
+//! The answers of a node to an administrator, and the end of the server that an administrator asks for.
 ghost use Rattle.std.specs.Prelude.{◌≡◌, ◌++◌, ℕ, List, true, IfOk, OnOk, OnErr};
 ghost use Rattle.gb_cap.specs.declared.token.Need.TheVariants.{Admin};
 ghost use Rattle.gb_table.specs.Common.{is_token};
@@ -44,7 +44,7 @@ fn put_field(out: &mut Vec<u8>, number: u64) -> Result<(), OutOfMemory> {
     put_number(out, number)
 }
 
-// Appends a node's number, behind a comma unless it is the first.
+// Appends a node's number, after a comma unless it is the first.
 fn put_member(out: &mut Vec<u8>, number: usize, is_first: bool) -> Result<(), OutOfMemory> {
     if !is_first {
         put_bytes(out, b",")?;
@@ -64,7 +64,7 @@ fn put_members(out: &mut Vec<u8>, members: &NodeSet) -> Result<(), OutOfMemory> 
     Ok(())
 }
 
-// Appends KIND:MEMBERS:MSGS:BYTES:WINDOW.
+// Appends `KIND:MEMBERS:MSGS:BYTES:WINDOW`.
 fn put_spec(out: &mut Vec<u8>, spec: &Spec) -> Result<(), OutOfMemory> {
     put_bytes(out, word_of(spec.kind))?;
     put_bytes(out, b":")?;
@@ -83,7 +83,7 @@ fn put_generation(out: &mut Vec<u8>, generation: u32) -> Result<(), OutOfMemory>
     put_number(out, u64::from(generation))
 }
 
-// Appends a space and T:G:KIND:MEMBERS:MSGS:BYTES:WINDOW:PHASE:LOG.
+// Appends a space and `T:G:KIND:MEMBERS:MSGS:BYTES:WINDOW:PHASE:LOG`.
 fn put_row(out: &mut Vec<u8>, row: &GroupRow) -> Result<(), OutOfMemory> {
     put_bytes(out, b" ")?;
     put_number(out, u64::from(row.address.tenant))?;
@@ -110,7 +110,7 @@ fn list_text(alloc: Global, listing: &Listing) -> Result<Vec<u8>, OutOfMemory> {
     Ok(text)
 }
 
-// Appends a text that is there.
+// Appends a text. `Err` if there is none for lack of memory.
 fn put_text(out: &mut Vec<u8>, text: Result<Vec<u8>, OutOfMemory>) -> Result<(), OutOfMemory>
     ensures ok { OnOk result ((told : List ℕ) × (out.new.items ≡ out.old.items ++ told)) }
     ensures err { OnErr result (out.new.items ≡ out.old.items) }
@@ -119,7 +119,7 @@ fn put_text(out: &mut Vec<u8>, text: Result<Vec<u8>, OutOfMemory>) -> Result<(),
     put_bytes(out, &text)
 }
 
-// Appends the groups of a node, or why they are not told.
+// Appends the list of a node's groups, or the refusal of it.
 fn put_list<L: Tapes, H: Wait>(
     rt: &H,
     alloc: Global,
@@ -140,7 +140,7 @@ fn put_list<L: Tapes, H: Wait>(
     }
 }
 
-/// What an operation came to.
+/// The result of an operation.
 #[derive(Clone, Copy)]
 pub(crate) enum Told {
     /// Its token is not the administrator's.
@@ -151,7 +151,7 @@ pub(crate) enum Told {
     Ends,
 }
 
-/// What was asked with the administrator's token.
+/// The facts about the operations that had the administrator's token.
 #[derive(Drop)]
 pub(crate) struct Orders {
     has_come: AtomicBool,
@@ -159,7 +159,7 @@ pub(crate) struct Orders {
 }
 
 impl Orders {
-    /// Returns that nothing was asked.
+    /// Returns the facts before any operation.
     pub(crate) fn new() -> Orders {
         Orders {
             has_come: AtomicBool::new(false),
@@ -167,7 +167,7 @@ impl Orders {
         }
     }
 
-    /// Notes that something was asked with this token.
+    /// Records that an operation had this token.
     pub(crate) fn note(&self, key: &Key, token: &Token)
         requires { is_token key.now Admin token.now ≡ true }
     {
@@ -175,7 +175,7 @@ impl Orders {
         self.has_come.store(true, Ordering::SeqCst);
     }
 
-    /// Notes that the end of the server was asked for with this token.
+    /// Records that an operation with this token asked for the end of the server.
     pub(crate) fn end(&self, key: &Key, token: &Token)
         requires { is_token key.now Admin token.now ≡ true }
     {
@@ -183,7 +183,7 @@ impl Orders {
         self.ends.store(true, Ordering::SeqCst);
     }
 
-    /// Returns true if something was noted since the last call.
+    /// Returns true if an operation was recorded since the last call.
     pub(crate) fn take_note(&self) -> bool {
         self.has_come.swap(false, Ordering::SeqCst)
     }
@@ -194,7 +194,7 @@ impl Orders {
     }
 }
 
-// Does what an administrator asks, and appends the text of the reply. Returns true if that is the end of the server.
+// Executes an operation of an administrator, and appends the text of the reply. Returns true if it asks for the end of the server.
 fn put_told<L: Tapes, H: Wait>(
     rt: &H,
     alloc: Global,
@@ -224,8 +224,8 @@ fn put_told<L: Tapes, H: Wait>(
     }
 }
 
-/// Appends the text of the reply to an operation at a node, and returns what it came to: `refused 1 Denied` unless it comes with the
-/// administrator's token. Without memory nothing is appended, and no end is asked for.
+/// Appends the text of the reply to an operation at a node, and returns its result. The text is `refused 1 Denied` unless the
+/// operation has the administrator's token. Without memory nothing is appended, and no end is asked for.
 pub(crate) fn operate<L: Tapes, H: Wait>(
     rt: &H,
     alloc: Global,

@@ -1,11 +1,11 @@
-//! What is done before replies leave a node.
-/// Where it is kept what happened at a node.
+//! The step before replies leave a node.
+/// The trait of those who keep the events at a node.
 pub trait Settle {
-    /// Keeps all that happened at the node until now. Returns false if it cannot be kept: then no reply leaves any more.
+    /// Keeps all events at the node until now. Returns false if they cannot be kept: then no reply leaves any more.
     fn settle(&self) -> bool;
 }
 
-/// Nothing is kept.
+/// Keeps no events.
 #[derive(Clone, Copy)]
 pub struct Unsettled;
 

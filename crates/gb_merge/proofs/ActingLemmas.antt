@@ -27,7 +27,7 @@ text_of p = p.text
 abbrev pub texts : List Posted → List (List ℕ)
 texts packets = map text_of packets
 
--- the packet that has the text
+-- a packet with this number has the text
 record HasText (packets : List Posted) (k : ℕ) (bytes : List ℕ) : Type 0 where
   packet : Posted
   there : packet_numbered packets k ≡ Some packet
@@ -44,7 +44,7 @@ has_text packets (suc k) bytes at = let got = text_got packets k bytes at in rec
 
 -- Packets for a node.
 
--- a node of a cluster takes those packets that are good there
+-- a node of a cluster takes the packets that are good there
 pub good_is : PastsSay → (plan : Plan) (run : List NodeStep) (v : ClusterValue) (a : NodeId) (bytes : List ℕ) → ComesTo plan run v → a.number < plan.nodes → is_packet_for (node_at v a) (Came bytes) ≡ is_good plan a bytes
 unfolding is_good
 good_is pasts plan run v a bytes comes within =
@@ -55,7 +55,7 @@ good_is pasts plan run v a bytes comes within =
     by was (Err fault) = refl
     by was (Ok c) = λ i. is_ok (if nat_eq c.to (was.beside.me i).number && nat_lt c.from (was.beside.nodes i) then Ok c else Err Node)
 
--- a good packet says for which node it is
+-- a good packet names the node that it is for
 pub goal_is : (plan : Plan) (a : NodeId) (bytes : List ℕ) (c : Content) → read plan.cluster_key bytes ≡ c ∷ [] → is_good plan a bytes ≡ true → c.to ≡ a.number
 unfolding is_good
 goal_is plan a bytes c says good = by (reading plan.cluster_key bytes) (sym (read_in plan.cluster_key bytes) ∙ says) good
@@ -72,7 +72,7 @@ goal_is plan a bytes c says good = by (reading plan.cluster_key bytes) (sym (rea
 
 -- One event.
 
--- the node does it
+-- the event happens at the node
 pub record Acted (w : ClusterValue) (a : NodeId) (n : NodeEvent) (x : Answer) (new : ClusterValue) : Type 0 where
   pub own : NodeAnswer
   pub acts : NodeActs w a n own new
@@ -117,7 +117,7 @@ acts pasts honest plan run w a sent (Came bytes) e x new comes within (inl came)
 
 -- Answers.
 
--- what is no refusal for lack of memory is what the node should answer
+-- an answer that is no refusal for lack of memory is the right answer of the node
 pub turned : StarvedSays → (old : NodeValue) (n : NodeEvent) (g : NodeAnswer) (new : NodeValue) → IsTurn old n g new → wants_memory g ≡ false → (g ≡ node_answer old n) × (new ≡ node_after old n)
 unfolding node_answer node_after
 turned starves old n g new (inr went) fed = went
@@ -127,7 +127,7 @@ turned starves old n g new (inl starved) fed = absurd (by (starves n (turn old n
     by (inl is) = let e : true ≡ false = sym (ap wants_memory is) ∙ fed in cc
     by (inr is) = let e : true ≡ false = sym (ap wants_memory is.2) ∙ fed in cc
 
--- an answer of the cluster that is no refusal for lack of memory tells of none
+-- an answer of the cluster that is no refusal for lack of memory is none of the node
 pub fed_is : (packets : List Posted) (x : Answer) (g : NodeAnswer) → told packets x ≡ Some g → is_refused x ≡ false → wants_memory g ≡ false
 fed_is packets (AnswerReply reply) g is fed = let same : Reply reply ≡ g = cc in ap wants_memory (sym same) ∙ fed
 fed_is packets (AnswerTaken taken) g is fed = let same : Taken taken ≡ g = cc in ap wants_memory (sym same) ∙ fed
@@ -143,7 +143,7 @@ fed_is packets (AnswerHalted halted) g is fed = let same : Halted halted ≡ g =
 fed_is packets NoPacket g is fed = absurd (cc)
 fed_is packets NotNoise g is fed = absurd (cc)
 
--- What is sent.
+-- The packets that are sent.
 
 nothing_posted : (to : Option NodeId) → posted_by to Nothing ≡ []
 nothing_posted None = refl
@@ -191,7 +191,7 @@ numbered_last : (packets : List Posted) (p : Posted) (k : ℕ) → k ≡ length 
 numbered_last packets p zero is = absurd (omega (arith, is))
 numbered_last packets p (suc k) is = seam packets p [] k (omega (arith, is))
 
--- the answer tells what the node gave
+-- the cluster's answer has the node's answer
 told_is : SendersRun → (before packets : List Posted) (v : NodeValue) (n : NodeEvent) (g : NodeAnswer) (w : NodeValue) → IsTurn v n g w → packets ≡ before ++ posted n g → told packets (answer_of (length before) g) ≡ Some g
 told_is sends before packets v n (Reply reply) w turn is = refl
 told_is sends before packets v n (Taken taken) w turn is = refl

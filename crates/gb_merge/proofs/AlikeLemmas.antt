@@ -1,4 +1,4 @@
--- Of tapes that are alike the same first entries are merged.
+-- The same first entries of tapes that are alike are merged.
 use Rattle.gb_types.specs.Common.{◌≡◌, ℕ, zero, suc, ◌+◌, ◌⊎◌, ◌<◌, ◌≤◌, ◌↔◌, List, [], ◌∷◌, ◌++◌, length, Some, inl, inr, refl, sym, ◌∙◌, ap, subst, arith, append_assoc, append-nil, slice_get, slice_set, cases_eq, cases_lt, length-append, AllZip}
 use Rattle.std.proofs.lemmas.Option.{slice_get_within}
 use Rattle.gb_types.specs.declared.{node.NodeId.NodeId, plan.Plan.Plan}
@@ -31,7 +31,7 @@ zip_at R (z ∷ xs) [] k x all at = absurd all
 zip_at R (z ∷ xs) (y ∷ ys) zero x all at = let same : z ≡ x = cc in (y, refl, subst (λ v. R v y) same all.0)
 zip_at R (z ∷ xs) (y ∷ ys) (suc k) x all at = zip_at R xs ys k x all.1 at
 
--- the other way round
+-- the relation in the other direction
 alike_back : (plan other : Plan) (a : ℕ) (xs ys : List TapeEntry) → AllZip (IsAlike plan other a) xs ys → AllZip (IsAlike other plan a) ys xs
 alike_back plan other a [] [] all = tt
 alike_back plan other a [] (y ∷ ys) all = absurd all
@@ -63,7 +63,7 @@ has_sent (p ∷ picks) bytes there = by (in_either bytes (sent_by p.entry.answer
     by (inl own) more = (p.node.number, 0, p.entry, ap (λ (es : List TapeEntry). slice_get es 0) (entries_at-same p.node.number p picks refl), sends_one p.entry.answer bytes own)
     by (inr there) more = let r = more there in later r (cases_eq p.node.number r.0)
 
--- an entry that was taken did not wait, and waits for nothing where as much was sent
+-- an entry that was taken did not wait, and waits for nothing if the same packets or more were sent
 not_waiting : (plan : Plan) (a : NodeId) (sent more : List (List ℕ)) (event : NodeEvent) (e : Event) → IsEventOf plan a sent event e → ((bytes : List ℕ) → In bytes sent → In bytes more) → IsBlocked plan a more event → ⊥
 not_waiting plan a sent more (Came bytes) e (inl came) among blocked = let at = at_in bytes more (among bytes (numbered_in sent bytes came.0 came.2)) in blocked.1 at.0 at.1
   where
@@ -73,9 +73,9 @@ not_waiting plan a sent more (Came bytes) e (inl came) among blocked = let at = 
 not_waiting plan a sent more (Came bytes) e (inr noise) among blocked = let good = blocked.0 in let bad = noise.1 in absurd (cc)
 not_waiting plan a sent more event e is among blocked = blocked
 
--- The one front has no more of a node than the other.
+-- One front has no more entries of a node than the other.
 module _ (plan other : Plan) (tapes others : List (List TapeEntry)) (more : List Event) (alike : AreAlike plan other tapes others) (n : IsMergedFront other others more) where
-  -- what these picks took is among what the other front took, as far as lengths go
+  -- the entries that these picks took are among those that the other front took, by their number
   abbrev Within : List Pick → Type 0
   Within done = (a : ℕ) → length (entries_at a done) ≤ length (entries_at a n.picks)
 
@@ -91,7 +91,7 @@ module _ (plan other : Plan) (tapes others : List (List TapeEntry)) (more : List
       let taken : slice_get (entries_at a n.picks) k ≡ Some y.0 = sym (get_front (entries_at a n.picks) (tape_of n.rest a) k low) ∙ (ap (λ (es : List TapeEntry). slice_get es k) (n.parts a) ∙ y.1) in
       in_sent a n.picks k y.0 bytes taken (ap sent_by (sym y.2.answer) ∙ r.4)
 
-  -- an entry that goes is not the next that is held
+  -- an entry that can be taken is not the next entry that is held
   not_next : (done : List Pick) (rest : ℕ → List TapeEntry) (p : Pick) (e : Event) (after : List TapeEntry) → ((a : ℕ) → entries_at a done ++ rest a ≡ tape_of tapes a) → rest p.node.number ≡ p.entry ∷ after → Within done → IsEventOf plan p.node (sent_with done) p.entry.event e
       → length (entries_at p.node.number n.picks) ≡ length (entries_at p.node.number done) → ⊥
   not_next done rest p e after parts next within is same = by (tape_of n.rest p.node.number) refl
@@ -162,7 +162,7 @@ unfolding sent_with
 no_more plan other tapes others events more alike m n =
     goes plan other tapes others more alike n [] m.picks events (tape_of m.rest) (λ a. ap (λ (es : List TapeEntry). es ++ (entries_at a m.picks ++ tape_of m.rest a)) (nothing a) ∙ m.parts a) m.are_events (λ a. let none : length (entries_at a []) ≡ 0 = ap length (nothing a) in omega (arith, none))
 
--- How many there are in all.
+-- The number of all entries.
 
 same_count : (xs ys : List (List TapeEntry)) → ((a : ℕ) → length (tape_of xs a) ≡ length (tape_of ys a)) → count_of xs ≡ count_of ys
 unfolding count_of
@@ -171,7 +171,7 @@ same_count [] (y ∷ ys) same = let here = same 0 in let later = same_count [] y
 same_count (x ∷ xs) [] same = let here = same 0 in let later = same_count xs [] (λ a. same (suc a)) in omega (arith, here, later)
 same_count (x ∷ xs) (y ∷ ys) same = let here = same 0 in let later = same_count xs ys (λ a. same (suc a)) in omega (arith, here, later)
 
--- what is left of the tapes when the first was taken
+-- the rest of the tapes after the first entry was taken
 left_of : (p : Pick) (picks : List Pick) (tapes rest : List (List TapeEntry)) → ((a : ℕ) → entries_at a (p ∷ picks) ++ tape_of rest a ≡ tape_of tapes a)
     → (a : ℕ) → entries_at a picks ++ tape_of rest a ≡ tape_of (slice_set tapes p.node.number (entries_at p.node.number picks ++ tape_of rest p.node.number)) a
 left_of p picks tapes rest parts a = by (cases_eq p.node.number a)
@@ -189,7 +189,7 @@ left_of p picks tapes rest parts a = by (cases_eq p.node.number a)
     by (inr away) =
         ap (λ (es : List TapeEntry). es ++ tape_of rest a) (sym (entries_at-other a p picks away)) ∙ (parts a ∙ sym (get_or-set_other tapes p.node.number a more [] (λ same. away (sym same))))
 
--- what was taken and what is left are all
+-- the taken entries and the rest are all entries
 count_left : (picks : List Pick) (tapes rest : List (List TapeEntry)) → ((a : ℕ) → entries_at a picks ++ tape_of rest a ≡ tape_of tapes a) → length picks + count_of rest ≡ count_of tapes
 count_left [] tapes rest parts =
     let same : count_of rest ≡ count_of tapes = same_count rest tapes (λ a. ap length (sym (ap (λ (es : List TapeEntry). es ++ tape_of rest a) (nothing a)) ∙ parts a)) in

@@ -21,7 +21,7 @@ use Rattle.gb_merge.proofs.TakenLemmas.{entries_at-same, entries_at-other, nothi
 
 -- Lists.
 
--- what stands before tails of one length
+-- the element before tails of equal length
 same_at : {X : Type 0} (vs ws : List X) (u w : X) (bs ds : List X) → length bs ≡ length ds → vs ++ u ∷ bs ≡ ws ++ w ∷ ds → u ≡ w
 same_at [] [] u w bs ds len e = cc
 same_at [] (y ∷ ws) u w bs ds len e = absurd (let n : suc (length bs) ≡ suc (length (ws ++ w ∷ ds)) = ap length e in omega (arith, n, len, length-append ws (w ∷ ds)))
@@ -41,7 +41,7 @@ no_front : {X : Type 0} (xs ys : List X) → xs ++ ys ≡ [] → xs ≡ []
 no_front [] ys e = refl
 no_front (x ∷ xs) ys e = absurd (cc)
 
--- What was sent.
+-- The packets that were sent.
 
 -- an entry that was taken sent its packet
 pub in_sent : (a : ℕ) (picks : List Pick) (k : ℕ) (x : TapeEntry) (bytes : List ℕ) → slice_get (entries_at a picks) k ≡ Some x → sent_by x.answer ≡ bytes ∷ [] → In bytes (sent_with picks)
@@ -59,11 +59,11 @@ in_sent a (p ∷ picks) k x bytes there sent = by (cases_eq p.node.number a) (λ
     by (inl here) more = own k (ap (λ (es : List TapeEntry). slice_get es k) (sym (entries_at-same a p picks here)) ∙ there) more
     by (inr away) more = in_right bytes (sent_by p.entry.answer) (sent_with picks) (more k (ap (λ (es : List TapeEntry). slice_get es k) (sym (entries_at-other a p picks away)) ∙ there))
 
--- what happened at the node by then is among the entries that were taken, or all entries of its tape are
+-- the events at the node by then are among the taken entries, or all entries of its tape were taken
 abbrev Reached : List Pick → List (List TapeEntry) → List NodeStep → NodeId → Type 0
 Reached picks rest earlier a = (length (past_at a earlier) ≤ length (entries_at a.number picks)) ⊎ (tape_of rest a.number ≡ [])
 
--- a packet that an entry sent of which that holds is among those that were sent
+-- a packet that such an entry sent is among those that were sent
 sent_there : (tapes rest : List (List TapeEntry)) (picks : List Pick) (earlier : List NodeStep) (bytes : List ℕ) → ((a : ℕ) → entries_at a picks ++ tape_of rest a ≡ tape_of tapes a)
     → ((a : NodeId) → Reached picks rest earlier a) → WasSent tapes earlier bytes → In bytes (sent_with picks)
 sent_there tapes rest picks earlier bytes parts reached was = in_sent n picks was.place was.entry bytes (by (reached was.node)) was.sent
@@ -78,12 +78,12 @@ sent_there tapes rest picks earlier bytes parts reached was = in_sent n picks wa
     by (inl le) = sym (get_front (entries_at n picks) (tape_of rest n) was.place (omega (arith, le, was.before))) ∙ there
     by (inr none) = ap (λ (xs : List TapeEntry). slice_get xs was.place) (sym (append-nil (entries_at n picks)) ∙ ap (λ (xs : List TapeEntry). entries_at n picks ++ xs) (sym none)) ∙ there
 
--- no such packet is waited for
+-- no entry waits for such a packet
 not_blocked : (plan : Plan) (tapes : List (List TapeEntry)) (sent : List (List ℕ)) (earlier : List NodeStep) (a : NodeId) (event : NodeEvent) → ((bytes : List ℕ) → WasSent tapes earlier bytes → In bytes sent) → IsSentBefore plan tapes earlier a event → IsBlocked plan a sent event → ⊥
 not_blocked plan tapes sent earlier a (Came bytes) among before blocked = let at = at_in bytes sent (among bytes (before blocked.0)) in blocked.1 at.0 at.1
 not_blocked plan tapes sent earlier a event among before blocked = blocked
 
--- What comes next.
+-- The next event.
 
 pub past_of-append : (xs ys : List TapeEntry) → past_of (xs ++ ys) ≡ past_of ys ++ past_of xs
 past_of-append xs ys = ap reverse (map-append happened xs ys) ∙ reverse-append (map happened xs) (map happened ys)
@@ -91,13 +91,13 @@ past_of-append xs ys = ap reverse (map-append happened xs ys) ∙ reverse-append
 past_of-length : (xs : List TapeEntry) → length (past_of xs) ≡ length xs
 past_of-length xs = length-reverse (map happened xs) ∙ length-map xs happened
 
--- a tape's past with an entry in its midst
+-- the past of a tape with an entry in the middle
 past_of-split : (xs : List TapeEntry) (x : TapeEntry) (more : List TapeEntry) → past_of (xs ++ x ∷ more) ≡ past_of more ++ happened x ∷ past_of xs
 past_of-split xs x more =
     past_of-append xs (x ∷ more)
     ∙ (ap (λ (hs : List Happened). hs ++ past_of xs) (past_of-append (x ∷ []) more) ∙ append_assoc (past_of more) (happened x ∷ []) (past_of xs))
 
--- a step is one of the node's past
+-- a step is in the node's past
 past_at-own : (a : NodeId) (d : NodeStep) (earlier : List NodeStep) → d.node.number ≡ a.number → past_at a (d ∷ earlier) ≡ record { event = d.event; answer = d.answer } ∷ past_at a earlier
 unfolding past_at
 past_at-own a d earlier here =
@@ -112,7 +112,7 @@ past_at-none : (a : NodeId) → past_at a [] ≡ []
 unfolding past_at
 past_at-none a = refl
 
--- behind as many entries as had happened the tape's next is what happens
+-- the next entry of the tape, after as many as had happened, is what happens next
 next_is : (a : NodeId) (d : NodeStep) (run later earlier : List NodeStep) (tape : List TapeEntry) (front : List TapeEntry) (x : TapeEntry) (more : List TapeEntry) → run ≡ later ++ d ∷ earlier → d.node.number ≡ a.number
     → (l : List Happened) → past_at a run ≡ l ++ past_of tape → tape ≡ front ++ x ∷ more → length (past_at a earlier) ≡ length front → d.event ≡ x.event
 next_is a d run later earlier tape front x more is here l begins parts count =
@@ -122,7 +122,7 @@ next_is a d run later earlier tape front x more is here l begins parts count =
     begins ∙ (ap (λ (t : List TapeEntry). l ++ past_of t) parts ∙ (ap (λ (hs : List Happened). l ++ hs) (past_of-split front x more) ∙ sym (append_assoc l (past_of more) (happened x ∷ past_of front)))) in
     ap (λ (h : Happened). h.event) (same_at (past_at a later) (l ++ past_of more) (record { event = d.event; answer = d.answer }) (happened x) (past_at a earlier) (past_of front) (count ∙ sym (past_of-length front)) (sym left ∙ right))
 
--- Each node's tape is merged as far as its node came.
+-- Each node's tape is merged up to the end of what happened at its node.
 
 module _ (plan : Plan) (run : List NodeStep) (tapes : List (List TapeEntry)) (events : List Event) (part : IsClosedPart plan run tapes) (m : IsMergedFront plan tapes events) where
   waits_not : (later earlier : List NodeStep) (d : NodeStep) (a : NodeId) → run ≡ later ++ d ∷ earlier → d.node.number ≡ a.number → ((b : NodeId) → Reached m.picks m.rest earlier b) → length (past_at a earlier) ≡ length (entries_at a.number m.picks)

@@ -1,4 +1,4 @@
--- What the parts of the code yield together.
+-- The results of the parts of the code together.
 use Rattle.gb_types.specs.Common.{◌≡◌, ℕ, ◌+◌, ◌⊎◌, ◌<◌, ◌≤◌, List, [], ◌∷◌, length, Bool, true, false, Option, Some, None, inl, inr, refl, sym, ◌∙◌, ap, subst, arith, get_or, slice_get, nat_eq, nat_lt, ◌&&◌, if◌then◌else◌, is_ok, is_some, not, Result, Ok, Err, cases_lt, get_or_default, get_or_past}
 use Rattle.gb_types.specs.declared.{limits.TheConstants.NODES, node.NodeId.NodeId, plan.Plan.Plan}
 use Rattle.gb_frame.specs.declared.{fault.PacketFault.PacketFault, fault.PacketFault.TheVariants.Node}
@@ -50,7 +50,7 @@ pub strange_from : (plan : Plan) (i : ℕ) (a : NodeId) (sent : List (List ℕ))
 strange_from plan i a sent tapes t entries here is read within has =
     subst (λ (n : NodeId). HasStranger plan n sent entries) (node_of i a here) (subst (HasStranger plan (node_numbered i) sent) (sym (is ∙ (read ∙ get_or_default tapes i t [] within))) has)
 
--- one node more has none
+-- the next node has none either
 pub none_more : (P : ℕ → Type 0) (i : ℕ) → ((b : ℕ) → b < i → P b → ⊥) → (P i → ⊥) → (b : ℕ) → b < i + 1 → P b → ⊥
 none_more P i before here b within has = by (cases_lt b i)
   where

@@ -1,4 +1,4 @@
--- Entries become fewer as they are taken.
+-- The number of entries falls as they are taken.
 use Rattle.gb_types.specs.Common.{◌≡◌, ℕ, zero, suc, ◌⊎◌, ◌+◌, ◌<◌, List, [], ◌∷◌, length, inl, inr, refl, sym, ◌∙◌, ap, arith, fold, slice_set, sum_by, cases_eq, get_or-set_same, get_or-set_other}
 use Rattle.gb_node.specs.declared.tape.TapeEntry.{TapeEntry}
 use Rattle.gb_merge.specs.Interleaving.{Pick, entries_at, tape_of}
@@ -12,7 +12,7 @@ count_falls [] a x more next = absurd (cc)
 count_falls (t ∷ rest) zero x more next = let e : length t ≡ suc (length more) = ap length next in omega arith
 count_falls (t ∷ rest) (suc a) x more next = let less = count_falls rest a x more next in omega arith
 
--- by one each time
+-- by one for each entry
 pub one_less : (rest : List (List TapeEntry)) (a : ℕ) (x : TapeEntry) (more : List TapeEntry) → tape_of rest a ≡ x ∷ more → count_of rest ≡ suc (count_of (slice_set rest a more))
 unfolding count_of
 one_less [] a x more next = absurd (cc)
@@ -27,7 +27,7 @@ none_left (t ∷ rest) empty =
     let others : count_of rest ≡ 0 = none_left rest (λ a. empty (suc a)) in
     omega arith
 
--- what is left of the tapes when the first was taken
+-- the rest of the tapes after the first entry was taken
 left_so : (p : Pick) (picks : List Pick) (tapes : List (List TapeEntry)) → ((a : ℕ) → entries_at a (p ∷ picks) ≡ tape_of tapes a)
     → (a : ℕ) → entries_at a picks ≡ tape_of (slice_set tapes p.node.number (entries_at p.node.number picks)) a
 left_so p picks tapes whole a = by (cases_eq p.node.number a)
@@ -45,7 +45,7 @@ left_so p picks tapes whole a = by (cases_eq p.node.number a)
     by (inr away) =
         sym (entries_at-other a p picks away) ∙ (whole a ∙ sym (get_or-set_other tapes p.node.number a more [] (λ same. away (sym same))))
 
--- as many were taken as there are
+-- the number of taken entries is the number of all
 pub count_is : (picks : List Pick) (tapes : List (List TapeEntry)) → ((a : ℕ) → entries_at a picks ≡ tape_of tapes a) → length picks ≡ count_of tapes
 count_is [] tapes whole = sym (none_left tapes (λ a. sym (whole a) ∙ nothing a))
 count_is (p ∷ picks) tapes whole =

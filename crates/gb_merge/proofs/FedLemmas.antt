@@ -30,7 +30,7 @@ pub fed_of-refused : (x : TapeEntry) (entries : List TapeEntry) → wants_memory
 unfolding fed_of
 fed_of-refused x entries refused = ap (λ (b : Bool). if not b then x ∷ fed_of entries else fed_of entries) refused
 
--- one or the other
+-- a Boolean is true or false
 pub wants_or_not : (b : Bool) → (b ≡ true) ⊎ (b ≡ false)
 wants_or_not true = inl refl
 wants_or_not false = inr refl
@@ -40,7 +40,7 @@ tape_of-fed [] a = sym fed_of-none
 tape_of-fed (t ∷ tapes) zero = refl
 tape_of-fed (t ∷ tapes) (suc a) = tape_of-fed tapes a
 
--- what begins the entries that were not refused are those of a beginning
+-- a beginning of the entries that were not refused is that of a beginning of all entries
 pub begins : (entries front rest : List TapeEntry) → front ++ rest ≡ fed_of entries → (n : ℕ) × (fed_of (take n entries) ≡ front)
 begins entries [] rest parts = (0, fed_of-none)
 begins [] (x ∷ front) rest parts = absurd (let e = parts ∙ fed_of-none in cc)
@@ -117,7 +117,7 @@ unfolding after_from
 replay_is v [] = refl
 replay_is v (x ∷ entries) = replay_is (after_entry v x) entries ∙ (sym (after_from-last v x (past_of entries)) ∙ ap (after_from v) (sym (past_of-more x entries)))
 
--- what was refused changes no replay
+-- refused entries do not change a replay
 pub replay_fed : (v : NodeValue) (entries : List TapeEntry) → fold after_entry v (fed_of entries) ≡ fold after_entry v entries
 replay_fed v [] = ap (fold after_entry v) fed_of-none
 replay_fed v (x ∷ entries) = by (wants_or_not (wants_memory x.answer)) (replay_fed v entries) (replay_fed (after_entry v x) entries)
@@ -165,7 +165,7 @@ reply_none a g past (Asked r) (Replied (Refused OutOfMemory)) wants free = ap (�
 reply_none a g past (Asked r) (Replied reply) wants free = absurd (cc)
 reply_none a g past e x wants free = refl
 
--- what is replied rests on the past through its tenants alone
+-- a reply depends on the past only through its tenants
 reply_by_tenants : (a : NodeId) (g : Addr) (p q : List Happened) (e : NodeEvent) (x : NodeAnswer) → tenants_in p ≡ tenants_in q → reply_in a g p e x ≡ reply_in a g q e x
 reply_by_tenants a g p q (Asked r) (Replied reply) same = rw same refl
 reply_by_tenants a g p q e x same = refl
@@ -239,7 +239,7 @@ same_replies a g (h ∷ past) free =
         ∙ (ap (λ (rs : List Reply). rs ++ reply_in a g (fed_happened past) h.event h.answer) rest
         ∙ ap (λ (rs : List Reply). replies_in a g past ++ rs) (reply_by_tenants a g (fed_happened past) past h.event h.answer (same_tenants past)))
 
--- a group that had no request refused so got the replies of the run
+-- a group that had no request refused got the replies of the run
 pub replies_are : (a : NodeId) (g : Addr) (tape : List TapeEntry) (past : List Happened) → past ≡ past_of (fed_of tape) → is_fed_at a g (past_of tape) ≡ true → replies_in a g past ≡ replies_in a g (past_of tape)
 replies_are a g tape past is free = ap (replies_in a g) (is ∙ past_of-fed tape) ∙ same_replies a g (past_of tape) free
 

@@ -1,4 +1,4 @@
--- Where an entry of a tape stands among the entries that were taken.
+-- The index of an entry of a tape among the entries that were taken.
 use Rattle.gb_types.specs.Common.{◌≡◌, ℕ, zero, suc, ◌⊎◌, List, [], ◌∷◌, ◌++◌, length, take, Some, inl, inr, refl, sym, ◌∙◌, ap, subst, slice_get, cases_eq}
 use Rattle.gb_node.specs.declared.tape.TapeEntry.{TapeEntry}
 use Rattle.gb_cluster.specs.declared.event.Event.{Event}
@@ -9,7 +9,7 @@ use Rattle.gb_merge.specs.Woven.{sent_with}
 use Rattle.gb_merge.proofs.FollowingLemmas.{event_at}
 use Rattle.gb_merge.proofs.TakenLemmas.{entries_at-same, entries_at-other, nothing}
 
--- where the entry at a place of what was taken at a node stands
+-- the index, among the picks, of the entry at a place of the entries taken at a node
 pub record Found (a : ℕ) (picks : List Pick) (place : ℕ) (x : TapeEntry) : Type 0 where
   pub at : ℕ
   pub pick : Pick
@@ -52,7 +52,7 @@ found_at a (p ∷ picks) place x there = by (cases_eq p.node.number a) (λ k at.
     by (inl is) more = own a p picks x is more place (ap (λ (es : List TapeEntry). slice_get es place) (sym (entries_at-same a p picks is)) ∙ there)
     by (inr away) more = other a p picks place x away (more place (ap (λ (es : List TapeEntry). slice_get es place) (sym (entries_at-other a p picks away)) ∙ there))
 
--- there is an event at each place of what was taken
+-- there is an event for each pick
 event_there : (plan : Plan) (sent : List (List ℕ)) (picks : List Pick) (events : List Event) (i : ℕ) (p : Pick) → AreEvents plan sent picks events → slice_get picks i ≡ Some p → (e : Event) × (slice_get events i ≡ Some e)
 unfolding AreEvents
 event_there plan sent [] events i p are at = absurd (cc)

@@ -1,5 +1,5 @@
--- A run of an interleaving: as long as its answers are the tapes', each node is the replay of what was taken there. So the first entry whose answer the run does not
--- give has an answer that is not its replay's.
+-- A run of an interleaving: as long as its answers are the tapes', each node is the replay of the entries taken there. So the first entry whose
+-- answer the run does not give has an answer that is not its replay's.
 use Rattle.gb_types.specs.Common.{◌≡◌, ℕ, zero, suc, ◌+◌, ◌⊎◌, ◌<◌, List, [], ◌∷◌, ◌++◌, length, map, take, drop, Bool, false, Some, inl, inr, refl, sym, ◌∙◌, ap, subst, arith, append_assoc, get_or, slice_get, reverse, if◌then◌else◌, cases_eq, append-nil, map-append, reverse-append, take_more, fold-append}
 use Rattle.gb_types.specs.declared.{node.NodeId.NodeId, plan.Plan.Plan}
 use Rattle.gb_types.proofs.SameLemmas.{same_number}
@@ -22,13 +22,13 @@ use Rattle.gb_merge.proofs.TakenLemmas.{entries_at-same, entries_at-other, entri
 run_of-push : (done : List Pick) (p : Pick) → run_of (done ++ p ∷ []) ≡ did p ∷ run_of done
 run_of-push done p = ap reverse (map-append did done (p ∷ [])) ∙ reverse-append (map did done) (did p ∷ [])
 
--- the cluster stands for what was taken
+-- the cluster is the state after the entries that were taken
 pub record Stands (plan : Plan) (done : List Pick) (v : ClusterValue) : Type 0 where
   pub comes : ComesTo plan (run_of done) v
   pub node : (a : NodeId) → a.number < plan.nodes → node_at v a ≡ replay plan a (entries_at a.number done)
   pub sent : texts v.packets ≡ sent_with done
 
--- nothing was taken yet
+-- no entry was taken yet
 pub stands_first : (plan : Plan) (v : ClusterValue) → ComesTo plan [] v → Stands plan [] v
 unfolding sent_with entries_at ComesTo NodeComesTo past_at
 stands_first plan v comes = record {
@@ -37,14 +37,14 @@ stands_first plan v comes = record {
   sent = ap (λ (w : ClusterValue). texts w.packets) comes.1;
 }
 
--- what the event comes to
+-- the result of the event
 record Goes (plan : Plan) (done : List Pick) (w : ClusterValue) (p : Pick) (x : Answer) (new : ClusterValue) : Type 0 where
   acted : Acted w p.node p.entry.event x new
   told_so : told new.packets x ≡ Some acted.own
   given : acted.own ≡ node_answer (node_at w p.node) p.entry.event
   after : acted.acts.node ≡ node_after (node_at w p.node) p.entry.event
 
--- what holds of every node
+-- the laws of every node
 pub record NodeLaws : Type 0 where
   pub pasts : PastsSay
   pub senders : SendersRun
@@ -57,7 +57,7 @@ goes laws honest plan done w p e x new stands within is step fed =
     let both = turned laws.starved (node_at w p.node) p.entry.event does.own does.acts.node does.acts.turn (fed_is new.packets x does.own told_so fed) in
     record { acted = does; told_so = told_so; given = both.0; after = both.1 }
 
--- it goes on, where the entry's answer is what the node gave
+-- the run continues if the entry's answer is what the node gave
 stands_on : SendersRun → (plan : Plan) (done : List Pick) (w : ClusterValue) (p : Pick) (x : Answer) (new : ClusterValue) (g : Goes plan done w p x new) → Stands plan done w → p.node.number < plan.nodes → g.acted.own ≡ p.entry.answer → wants_memory p.entry.answer ≡ false → Stands plan (done ++ p ∷ []) new
 unfolding ComesTo
 stands_on sends plan done w p x new g stands within same fed = record {
@@ -184,7 +184,7 @@ fault_of laws honest plan events picks i w p e Stuck are placed p_at e_at at is 
 fault_of laws honest plan events picks i w p e Differs are placed p_at e_at at is = is_wrong laws honest plan events picks i w p e are placed p_at e_at at is
 fault_of laws honest plan events picks i w p e OutOfMemory are placed p_at e_at at is = tt
 
--- the event is one of the cluster's
+-- the event is at one of the cluster's nodes
 pub goes_there : (plan : Plan) (events : List Event) (picks : List Pick) (i : ℕ) (w : ClusterValue) (p : Pick) (e : Event) → AreEvents plan [] picks events → ArePlaced plan.nodes picks → slice_get picks i ≡ Some p → slice_get events i ≡ Some e → IsAt plan events picks i w → IsPlaced (length w.nodes) e
 goes_there plan events picks i w p e are placed p_at e_at at =
     let within = placed_at plan.nodes picks i p placed p_at in

@@ -10,21 +10,21 @@ use Rattle.gb_merge.proofs.CodeLemmas.{none_more}
 use Rattle.gb_merge.proofs.GoingLemmas.{node_of}
 
 module _ (plan : Plan) (ended : List Bool) where
-  -- an entry that is one
+  -- this entry is such a packet
   pub forged_here : (a : NodeId) (sent : List (List ℕ)) (entries : List TapeEntry) (i : ℕ) (x : TapeEntry) → i < length entries → x ≡ get_or entries i x → IsBlocked plan a sent x.event × NamesEnded plan ended x.event → IsForgedIn plan ended a sent entries i
   forged_here a sent entries i x lt is both = (x, slice_get_read entries (length entries) i x refl lt is, both.0, both.1)
 
-  -- and it is that entry
+  -- the packet is this entry
   pub forged_there : (a : NodeId) (sent : List (List ℕ)) (entries : List TapeEntry) (i : ℕ) (x : TapeEntry) → x ≡ get_or entries i x → IsForgedIn plan ended a sent entries i → IsBlocked plan a sent x.event × NamesEnded plan ended x.event
   forged_there a sent entries i x is forged =
       let same : forged.0 ≡ x = sym (get_or_from_slice_get entries i forged.0 x forged.1) ∙ sym is in
       subst (λ (e : TapeEntry). IsBlocked plan a sent e.event × NamesEnded plan ended e.event) same (forged.2, forged.3)
 
-  -- none is behind the last entry
+  -- there is none after the last entry
   pub none_in : (a : NodeId) (sent : List (List ℕ)) (entries : List TapeEntry) (n : ℕ) → ((k : ℕ) → k < n → IsForgedIn plan ended a sent entries k → ⊥) → length entries ≤ n → (k : ℕ) → IsForgedIn plan ended a sent entries k → ⊥
   none_in a sent entries n before le k forged = before k (let within = slice_get_within entries k forged.0 forged.1 in omega (arith, within, le)) forged
 
-  -- from a tape that is read to the tape at its place
+  -- a tape that is read is the tape at its index
   pub forged_to : (i : ℕ) (a : NodeId) (sent : List (List ℕ)) (tapes : List (List TapeEntry)) (t entries : List TapeEntry) (place : ℕ) → a.number ≡ i → entries ≡ t → t ≡ get_or tapes i t → i < length tapes → sent ≡ all_sent tapes
       → IsForgedIn plan ended a sent entries place → IsForgedAt plan tapes ended i place
   forged_to i a sent tapes t entries place here is read within all forged =
@@ -37,7 +37,7 @@ module _ (plan : Plan) (ended : List Bool) where
       subst (λ (es : List TapeEntry). IsForgedIn plan ended a sent es place) (sym (is ∙ (read ∙ get_or_default tapes i t [] within)))
       (subst (λ (s : List (List ℕ)). IsForgedIn plan ended a s (tape_of tapes i) place) (sym all) (subst (λ (n : NodeId). IsForgedIn plan ended n (all_sent tapes) (tape_of tapes i) place) (node_of i a here) forged))
 
-  -- one node more has none
+  -- the next node has none either
   pub none_at_more : (tapes : List (List TapeEntry)) (i : ℕ) → ((b : ℕ) → b < i → (place : ℕ) → IsForgedAt plan tapes ended b place → ⊥) → ((place : ℕ) → IsForgedAt plan tapes ended i place → ⊥) → (b : ℕ) → b < i + 1 → (place : ℕ) → IsForgedAt plan tapes ended b place → ⊥
   none_at_more tapes i before here b lt place forged =
       none_more (λ (n : ℕ). (k : ℕ) × IsForgedAt plan tapes ended n k) i (λ n below has. before n below has.0 has.1) (λ has. here has.0 has.1) b lt (place, forged)

@@ -1,4 +1,4 @@
--- Whether a packet that came in can go.
+-- The test if a packet that arrived can be taken.
 use Rattle.gb_types.specs.Common.{◌≡◌, ℕ, zero, suc, ◌+◌, ◌-◌, ◌<◌, List, true, Option, Some, None, inl, refl, sym, ◌∙◌, ap, subst, arith, slice_get, position, option_map}
 use Rattle.std.specs.Str.{bytes_eq}
 use Rattle.gb_types.specs.declared.{node.NodeId.NodeId, plan.Plan.Plan}
@@ -25,7 +25,7 @@ arrival_is plan sent a k x bytes is good at = subst (λ (y : NodeEvent). IsEvent
         let last : k - 1 ≡ i = omega arith in
         inl (k, refl, text_numbered_is sent k (omega arith) ∙ (ap (slice_get sent) last ∙ found sent bytes i place), good)
 
--- one that was not
+-- a packet for the node that was not sent
 pub blocked_is : (plan : Plan) (sent : List (List ℕ)) (a : NodeId) (x : NodeEvent) (bytes : List ℕ) → x ≡ Packet bytes → is_good plan a bytes ≡ true → None ≡ option_map (λ i. i + 1) (position (bytes_eq bytes) sent) → IsBlocked plan a sent x
 blocked_is plan sent a x bytes is good at = subst (IsBlocked plan a sent) (sym is) (good, λ k there. absent sent bytes k (by (position (bytes_eq bytes) sent) at) there)
   where
@@ -33,7 +33,7 @@ blocked_is plan sent a x bytes is good at = subst (IsBlocked plan a sent) (sym i
     by None at = refl
     by (Some i) at = absurd (cc)
 
--- one that was is not blocked
+-- a packet that was sent is not blocked
 pub sent_free : (plan : Plan) (sent : List (List ℕ)) (a : NodeId) (k : ℕ) (x : NodeEvent) (bytes : List ℕ) → x ≡ Packet bytes → Some k ≡ option_map (λ i. i + 1) (position (bytes_eq bytes) sent) → IsBlocked plan a sent x → ⊥
 sent_free plan sent a k x bytes is at blocked = by (position (bytes_eq bytes) sent) refl at
   where
@@ -44,6 +44,6 @@ sent_free plan sent a k x bytes is at blocked = by (position (bytes_eq bytes) se
     by None place number = absurd (cc)
     by (Some i) place number = here.1 i (found sent bytes i place)
 
--- the node of a place
+-- the node of an index
 pub node_of : (i : ℕ) (a : NodeId) → a.number ≡ i → node_numbered i ≡ a
 node_of i a is = let b = a.below in same_number (node_numbered i) a (omega arith)

@@ -1,4 +1,4 @@
--- If no node can go and entries are left, no interleaving exists: an entry that can go is never held up by what goes before it.
+-- If no node's entry can be taken and entries are left, no interleaving exists: an entry that can be taken is never held up by earlier ones.
 use Rattle.gb_types.specs.Common.{◌≡◌, ℕ, zero, suc, ◌⊎◌, List, [], ◌∷◌, ◌++◌, Some, inl, inr, refl, sym, ◌∙◌, subst, cases_eq}
 use Rattle.gb_types.specs.declared.{node.NodeId.NodeId, plan.Plan.Plan}
 use Rattle.gb_node.specs.Common.{node_numbered}
@@ -17,7 +17,7 @@ pub numbered_in : (b : List ℕ) (xs : List (List ℕ)) (k : ℕ) → text_numbe
 numbered_in b xs zero at = absurd (cc)
 numbered_in b xs (suc k) at = in_at b xs k at
 
--- an entry that is an event where fewer packets were sent can go
+-- an entry that is an event when fewer packets were sent can be taken
 pub not_blocked : (plan : Plan) (a : NodeId) (before sent : List (List ℕ)) (x : NodeEvent) (e : Event) → ((b : List ℕ) → In b before → In b sent) → IsEventOf plan a before x e → IsBlocked plan a sent x → ⊥
 not_blocked plan a before sent (Request request) e fewer is blocked = blocked
 not_blocked plan a before sent (Pack b) e fewer is blocked = blocked
@@ -28,13 +28,13 @@ not_blocked plan a before sent Stop e fewer is blocked = blocked
 not_blocked plan a before sent (Packet bytes) e fewer (inl came) blocked = let at = at_in bytes sent (fewer bytes (numbered_in bytes before came.0 came.2)) in blocked.1 at.0 at.1
 not_blocked plan a before sent (Packet bytes) e fewer (inr noise) blocked = let yes = blocked.0 in let none = noise.1 in cc
 
--- what another interleaving has still to take at a node: some that was taken here, then what is left
+-- the entries that another interleaving has still to take at a node: some that were taken here, then the rest
 record IsAhead (sent : List (List ℕ)) (left entries : List TapeEntry) : Type 0 where
   taken : List TapeEntry
   parts : entries ≡ taken ++ left
   known : (b : List ℕ) → In b (sent_of taken) → In b sent
 
--- after its next entry, which was taken here
+-- the same after its next entry, which was taken here
 record Goes_on (sent : List (List ℕ)) (left : List TapeEntry) (x : TapeEntry) (entries : List TapeEntry) : Type 0 where
   ahead : IsAhead sent left entries
   known : (b : List ℕ) → In b (sent_by x.answer) → In b sent
@@ -53,7 +53,7 @@ next plan a before sent left x entries e fewer held is ahead = by ahead.taken ah
           known = λ b there. known b (in_left b (sent_by y.answer) (sent_of taken) (subst (λ (z : TapeEntry). In b (sent_by z.answer)) same there));
         }
 
--- the whole of another interleaving: nothing is left anywhere
+-- the whole of another interleaving leaves no entry anywhere
 no_rest : (plan : Plan) (rest : List (List TapeEntry)) (sent : List (List ℕ)) → AreHeld plan sent rest → (before : List (List ℕ)) (picks : List Pick) (events : List Event) → AreEvents plan before picks events → ((b : List ℕ) → In b before → In b sent)
     → ((a : ℕ) → IsAhead sent (tape_of rest a) (entries_at a picks)) → (a : ℕ) → tape_of rest a ≡ []
 unfolding AreEvents entries_at
@@ -84,7 +84,7 @@ no_rest plan rest sent held before (p ∷ picks) (e ∷ events) are fewer ahead 
     others : (c : ℕ) → IsAhead sent (tape_of rest c) (entries_at c picks)
     others c = by c (cases_eq p.node.number c)
 
--- so the tapes have none
+-- so the tapes have no interleaving
 pub stuck : (plan : Plan) (tapes rest : List (List TapeEntry)) (picks : List Pick) (events : List Event) (a : ℕ) → IsWoven plan tapes rest picks events → AreHeld plan (sent_with picks) rest → (tape_of rest a ≡ [] → ⊥) → IsStuck plan tapes
 unfolding In
 stuck plan tapes rest picks events a woven held left run other =

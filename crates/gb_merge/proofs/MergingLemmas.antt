@@ -1,4 +1,4 @@
--- What merging results in.
+-- The result of merging.
 use Rattle.gb_types.specs.Common.{◌≡◌, ℕ, suc, ◌⊎◌, ◌<◌, ◌≤◌, List, [], ◌∷◌, ◌++◌, length, map, take, Bool, true, false, Some, inl, inr, refl, sym, ◌∙◌, ap, subst, arith, append_assoc, slice_get, if◌then◌else◌, nat_eq, ◌≢◌, cases_lt, append-nil, get_or_past, reverse-append, take-append_seam}
 use Rattle.gb_types.specs.declared.{node.NodeId.NodeId, plan.Plan.Plan}
 use Rattle.gb_node.specs.Common.{Happened}
@@ -21,7 +21,7 @@ whole_of plan tapes rest picks events woven empty = record {
   whole = λ a. sym (append-nil (entries_at a picks)) ∙ (ap (λ (xs : List TapeEntry). entries_at a picks ++ xs) (sym (empty a)) ∙ woven.parts a);
 }
 
--- where in its tape an entry stands, with what was taken after it and what was left there
+-- the index of an entry in its tape, and the entries taken after it and left there
 split : (tapes : List (List TapeEntry)) (left : ℕ → List TapeEntry) (done picks : List Pick) (p : Pick) → ((a : ℕ) → entries_at a (done ++ p ∷ picks) ++ left a ≡ tape_of tapes a)
     → tape_of tapes p.node.number ≡ entries_at p.node.number done ++ p.entry ∷ (entries_at p.node.number picks ++ left p.node.number)
 split tapes left done picks p parts =
@@ -29,7 +29,7 @@ split tapes left done picks p parts =
     ∙ (ap (λ (xs : List TapeEntry). xs ++ left p.node.number) (entries_at-append p.node.number done (p ∷ picks) ∙ ap (λ (xs : List TapeEntry). entries_at p.node.number done ++ xs) (entries_at-same p.node.number p picks refl))
     ∙ append_assoc (entries_at p.node.number done) (p.entry ∷ entries_at p.node.number picks) (left p.node.number))
 
--- where all was taken nothing was left
+-- if all entries were taken none is left
 pub all_taken : (tapes : List (List TapeEntry)) (picks : List Pick) → ((a : ℕ) → entries_at a picks ≡ tape_of tapes a) → (a : ℕ) → entries_at a picks ++ [] ≡ tape_of tapes a
 all_taken tapes picks whole a = append-nil (entries_at a picks) ∙ whole a
 
@@ -98,7 +98,7 @@ front_faulty plan tapes rest picks Stuck parts is = absurd is
 front_faulty plan tapes rest picks Differs parts is = different plan tapes (tape_of rest) picks parts is
 front_faulty plan tapes rest picks OutOfMemory parts is = is
 
--- What happened at a node.
+-- The events at a node.
 
 pub past_at-append : (a : NodeId) (run more : List NodeStep) → past_at a (run ++ more) ≡ past_at a run ++ past_at a more
 unfolding past_at

@@ -1,4 +1,4 @@
--- A cluster that is given merged events again, and refuses nothing for lack of memory, gives the entries' answers.
+-- A cluster that runs merged events again, and refuses nothing for lack of memory, gives the entries' answers.
 use Rattle.gb_types.specs.Common.{◌≡◌, ℕ, zero, suc, ◌+◌, ◌<◌, List, [], ◌∷◌, ◌++◌, length, map, true, false, Option, Some, None, inl, inr, refl, sym, ◌∙◌, ap, ap₂, subst, append_assoc, slice_get, slice_set, option_map, append-nil, map-append, reverse-append, length-append, length-map}
 use Rattle.gb_types.specs.declared.{node.NodeId.NodeId, plan.Plan.Plan}
 use Rattle.gb_types.proofs.SameLemmas.{same_number}
@@ -18,7 +18,7 @@ use Rattle.gb_merge.specs.Rerun.{Leads, AreTold, answers_to, IsRerun}
 use Rattle.gb_merge.specs.Woven.{is_refused, ArePlaced}
 use Rattle.gb_merge.proofs.ActingLemmas.{text_of, texts, text_got, goal_is, acts, turned, fed_is, posted_is, told_own}
 
--- Packets that stay where they are.
+-- Packets that keep their numbers.
 
 got_more : (packets more : List Posted) (k : ℕ) (p : Posted) → slice_get packets k ≡ Some p → slice_get (packets ++ more) k ≡ Some p
 got_more [] more k p at = absurd (cc)
@@ -74,13 +74,13 @@ of_event honest plan run w a (Came bytes) g e comes (inl came) = subst (λ (x : 
 
 -- One step of both runs.
 
--- what holds of every node
+-- the laws of every node
 pub record NodeLaws : Type 0 where
   pub pasts : PastsSay
   pub senders : SendersRun
   pub starved : StarvedSays
 
--- a step is a merged entry, which was answered so in the merging too
+-- a step is a merged entry, which had the same answer in the merging
 record IsEntry (w : ClusterValue) (p : Pick) (e : Event) (y : Answer) (next theirs : ClusterValue) : Type 0 where
   acts : NodeActs w p.node p.entry.event p.entry.answer next
   sent : IsSent w p.node p.entry.event
@@ -94,7 +94,7 @@ record IsEntry (w : ClusterValue) (p : Pick) (e : Event) (y : Answer) (next thei
 some_in : {x y : NodeAnswer} → Some x ≡ Some y → x ≡ y
 some_in e = cc
 
--- nodes that do the same are the same
+-- nodes after the same steps are equal
 after_same : (w next theirs : ClusterValue) (a : NodeId) (n : NodeEvent) (g h : NodeAnswer) (mine : NodeActs w a n g next) (other : NodeActs w a n h theirs) → g ≡ h → mine.node ≡ other.node → next ≡ theirs
 after_same w next theirs a n g h mine other answers nodes =
     mine.after ∙ (ap₂ (λ (v : NodeValue) (y : NodeAnswer). cluster w.plan (slice_set w.nodes a.number v) (w.packets ++ posted n y)) nodes answers ∙ sym other.after)
@@ -184,7 +184,7 @@ begins : (plan : Plan) (run : List NodeStep) (v : ClusterValue) → ComesTo plan
 unfolding ComesTo
 begins plan run v comes = ((stays plan run v comes).right, refl)
 
--- merged events that are answered again, without a refusal, are answered as the entries say
+-- merged events that are answered again, without a refusal, have the entries' answers
 pub rerun : NodeLaws → PacketsAreHonest → (plan : Plan) (tapes : List (List TapeEntry)) (events : List Event) (m : IsMergedFront plan tapes events) (answers : List Answer) (v : ClusterValue) → Leads (new_cluster plan) events answers v → IsRerun plan tapes events m answers v
 rerun laws honest plan tapes events m answers v leads =
     let all =

@@ -1,4 +1,4 @@
--- A packet that was not sent, among the entries that are left.
+-- A packet that was not sent, among the rest of the entries.
 use Rattle.gb_types.specs.Common.{◌≡◌, ℕ, zero, suc, List, [], ◌∷◌, ◌++◌, Some, refl, ◌∙◌, ap, subst, append_assoc, slice_get}
 use Rattle.gb_types.specs.declared.{node.NodeId.NodeId, plan.Plan.Plan}
 use Rattle.gb_node.specs.declared.tape.TapeEntry.{TapeEntry}
@@ -23,7 +23,7 @@ module _ (plan : Plan) (a : NodeId) (sent : List (List ℕ)) where
       by zero there = absurd (let same : has.entry ≡ x = cc in free (subst (λ (y : TapeEntry). IsBlocked plan a sent y.event) same has.stranger))
       by (suc k) there = record { place = k; entry = has.entry; there = there; stranger = has.stranger }
 
--- what was sent so far, with what is left
+-- the packets sent so far, with the rest
 pub sent_on : (first sent after : List (List ℕ)) (x : TapeEntry) (left whole : List TapeEntry) → after ≡ sent ++ sent_by x.answer → sent ++ sent_of (x ∷ left) ≡ first ++ sent_of whole → after ++ sent_of left ≡ first ++ sent_of whole
 unfolding sent_of
 sent_on first sent after x left whole is all = ap (λ (ps : List (List ℕ)). ps ++ sent_of left) is ∙ (append_assoc sent (sent_by x.answer) (sent_of left) ∙ all)

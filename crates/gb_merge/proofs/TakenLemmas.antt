@@ -43,7 +43,7 @@ pub nothing : (a : ℕ) → entries_at a [] ≡ []
 unfolding entries_at
 nothing a = refl
 
--- what is left at each node, and what was taken there
+-- the rest at each node, and the entries taken there
 parts-push : (tapes rest : List (List TapeEntry)) (picks : List Pick) (p : Pick) (more : List TapeEntry) → p.node.number < length rest → tape_of rest p.node.number ≡ p.entry ∷ more → ((a : ℕ) → entries_at a picks ++ tape_of rest a ≡ tape_of tapes a)
     → (a : ℕ) → entries_at a (picks ++ p ∷ []) ++ tape_of (slice_set rest p.node.number more) a ≡ tape_of tapes a
 parts-push tapes rest picks p more within next parts a = by (cases_eq p.node.number a)
@@ -59,7 +59,7 @@ parts-push tapes rest picks p more within next parts a = by (cases_eq p.node.num
         let left : tape_of (slice_set rest p.node.number more) a ≡ tape_of rest a = get_or-set_other rest p.node.number a more [] (λ e. away (sym e)) in
         ap (λ (xs : List TapeEntry). xs ++ tape_of (slice_set rest p.node.number more) a) taken ∙ (ap (λ (xs : List TapeEntry). entries_at a picks ++ xs) left ∙ parts a)
 
--- one more
+-- one more entry
 pub woven-push : (plan : Plan) (tapes rest others : List (List TapeEntry)) (picks all : List Pick) (events run : List Event) (p : Pick) (more : List TapeEntry) (e : Event) → IsWoven plan tapes rest picks events → p.node.number < length rest → tape_of rest p.node.number ≡ p.entry ∷ more
     → IsEventOf plan p.node (sent_with picks) p.entry.event e → others ≡ slice_set rest p.node.number more → all ≡ picks ++ p ∷ [] → run ≡ events ++ e ∷ [] → IsWoven plan tapes others all run
 woven-push plan tapes rest others picks all events run p more e woven within next is others_are all_are run_is =
@@ -72,7 +72,7 @@ woven-push plan tapes rest others picks all events run p more e woven within nex
       count = length-set rest p.node.number more ∙ woven.count;
     })))
 
--- what a node took is among what was taken
+-- the packets that a node's taken entries sent are among all that were sent
 pub sent_at : (a : ℕ) (b : List ℕ) (picks : List Pick) → In b (sent_of (entries_at a picks)) → In b (sent_with picks)
 unfolding entries_at sent_of sent_with
 sent_at a b [] there = there
@@ -90,7 +90,7 @@ no_events : (plan : Plan) → AreEvents plan [] [] []
 unfolding AreEvents
 no_events plan = tt
 
--- none
+-- no entry
 pub woven-begins : (plan : Plan) (tapes rest : List (List TapeEntry)) (picks : List Pick) (events : List Event) → rest ≡ tapes → picks ≡ [] → events ≡ [] → IsWoven plan tapes rest picks events
 woven-begins plan tapes rest picks events rest_is picks_is events_is = subst (λ (r : List (List TapeEntry)). IsWoven plan tapes r picks events) (sym rest_is) (subst (λ (ps : List Pick). IsWoven plan tapes tapes ps events) (sym picks_is) (subst (IsWoven plan tapes tapes []) (sym events_is) first))
   where

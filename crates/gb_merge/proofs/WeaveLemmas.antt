@@ -9,14 +9,14 @@ use Rattle.gb_merge.specs.Woven.{AreHeld, CanGo, IsWoven, sent_with}
 use Rattle.gb_merge.proofs.HoldingLemmas.{stuck}
 use Rattle.gb_merge.proofs.TakenLemmas.{woven-push, sent_with-push}
 
--- what was found
+-- the node and event that were found
 pub can_go : (plan : Plan) (o : Option (NodeId × Event)) (a : NodeId) (e : Event) (seen rest : List (List TapeEntry)) (sent : List (List ℕ)) → o ≡ Some (a, e) → seen ≡ rest → MatchOption o (AreHeld plan sent seen) (λ r. CanGo plan seen sent r.0 r.1) → CanGo plan rest sent a e
 can_go plan o a e seen rest sent is same found = subst (λ (r : List (List TapeEntry)). CanGo plan r sent a e) same (subst (λ p. MatchOption p (AreHeld plan sent seen) (λ r. CanGo plan seen sent r.0 r.1)) is found)
 
 pub none_goes : (plan : Plan) (o : Option (NodeId × Event)) (seen rest : List (List TapeEntry)) (sent : List (List ℕ)) → o ≡ None → seen ≡ rest → MatchOption o (AreHeld plan sent seen) (λ r. CanGo plan seen sent r.0 r.1) → AreHeld plan sent rest
 none_goes plan o seen rest sent is same found = subst (AreHeld plan sent) same (subst (λ p. MatchOption p (AreHeld plan sent seen) (λ r. CanGo plan seen sent r.0 r.1)) is found)
 
--- what was read there is the tape's rest
+-- the tape that was read there is the rest
 pub read_is : (rest : List (List TapeEntry)) (a : ℕ) (read : List TapeEntry) (x : TapeEntry) (left : List TapeEntry) → a < length rest → read ≡ get_or rest a read → read ≡ x ∷ left → tape_of rest a ≡ x ∷ left
 read_is rest a read x left within is next = sym (get_or_default rest a read [] within) ∙ (sym is ∙ next)
 

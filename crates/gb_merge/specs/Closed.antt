@@ -1,4 +1,4 @@
--- Tapes of running nodes, each as far as it was written: they merge whole.
+-- Tapes of running nodes, each as far as it was written, merge completely.
 use Rattle.std.specs.Prelude.{ℕ, ◌≡◌, ◌<◌, ◌≤◌, true, List, [], ◌∷◌, ◌++◌, length, slice_get, sum_by, Some}
 use Rattle.gb_types.specs.declared.{limits.TheConstants.NODES, node.NodeId.NodeId, plan.Plan.Plan}
 use Rattle.gb_node.specs.Common.{Happened}
@@ -9,7 +9,7 @@ use Rattle.gb_merge.specs.Front.{IsMergedFront}
 use Rattle.gb_merge.specs.Interleaving.{entries_at, is_good, sent_by, tape_of}
 use Rattle.gb_merge.specs.Merged.{past_of}
 
--- an entry of a node's tape, of those that had happened by then, sent the packet
+-- an entry of a node's tape, at an index below the number of the node's earlier events, sent the packet
 pub record WasSent (tapes : List (List TapeEntry)) (earlier : List NodeStep) (bytes : List ℕ) : Type 0 where
   pub node : NodeId
   pub place : ℕ
@@ -23,8 +23,8 @@ abbrev pub IsSentBefore : Plan → List (List TapeEntry) → List NodeStep → N
 IsSentBefore plan tapes earlier a (Came bytes) = is_good plan a bytes ≡ true → WasSent tapes earlier bytes
 IsSentBefore plan tapes earlier a event = Unit {0}
 
--- Each tape is a beginning of what happened at its node in the run. Each packet that one of its entries took had been sent by an entry of a tape, as where an
--- entry is written before its packet leaves.
+-- Each tape is a beginning of the events at its node in the run. Each packet that one of its entries took had been sent by an entry of a tape. This
+-- is so if an entry is written before its packet leaves.
 pub record IsClosedPart (plan : Plan) (run : List NodeStep) (tapes : List (List TapeEntry)) : Type 0 where
   pub few : length tapes ≤ NODES
   pub begins : (a : NodeId) → (later : List Happened) × (past_at a run ≡ later ++ past_of (tape_of tapes a.number))
@@ -35,8 +35,8 @@ pub record IsWholeFront (plan : Plan) (tapes : List (List TapeEntry)) (events : 
   pub each : (a : ℕ) → entries_at a m.picks ≡ tape_of tapes a
   pub count : length events ≡ sum_by length tapes
 
--- of tapes that are beginnings of what happened at their nodes in one run, and have each sending before its arrival, nothing is left
--- when their first entries are merged
+-- If the tapes are beginnings of the events at their nodes in one run, and have each packet's sending before its arrival, all of their entries are
+-- merged.
 abbrev pub ClosedTapesMergeWhole : Type 0
 ClosedTapesMergeWhole =
     (plan : Plan) (run : List NodeStep) (tapes : List (List TapeEntry)) (events : List Event) → IsClosedPart plan run tapes → (m : IsMergedFront plan tapes events) → IsWholeFront plan tapes events m

@@ -1,4 +1,4 @@
--- The names that files of crates above cite, passed on from one place. Declares nothing.
+-- The names that files of crates above cite, passed on in one file. Declares nothing.
 pub use Rattle.gb_merge.specs.Alike.{AlikeTapesMergeAlike, AreAlike, IsAlike, IsSameFront}
 pub use Rattle.gb_merge.specs.Faults.{IsDifferent, IsFault, after_entry, replay}
 unfoldable pub use Rattle.gb_merge.specs.Faults.{node_after, node_answer}

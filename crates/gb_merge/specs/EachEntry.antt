@@ -7,8 +7,8 @@ use Rattle.gb_merge.specs.Interleaving.{Pick, entries_at, tape_of, IsEventOf}
 use Rattle.gb_merge.specs.Merged.{IsMerged}
 use Rattle.gb_merge.specs.Woven.{sent_with}
 
--- The entry at this place of a node's tape was taken. The number of entries of this tape that were taken before it is its place in the tape, and
--- its event stands in the list where it was taken.
+-- The entry at the index `place` of a node's tape was taken. The number of entries of this tape that were taken before it is `place`, and its event
+-- is in the list at the same index as its pick.
 pub record IsTaken (plan : Plan) (picks : List Pick) (events : List Event) (a place : ℕ) (x : TapeEntry) : Type 0 where
   pub at : ℕ
   pub pick : Pick

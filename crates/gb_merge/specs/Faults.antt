@@ -1,4 +1,4 @@
--- Why tapes are not merged.
+-- The reasons why tapes are not merged.
 use Rattle.std.specs.Prelude.{ℕ, ◌≡◌, ◌≢◌, ◌⊎◌, true, List, [], ◌∷◌, ◌++◌, slice_get, Some, take, fold, if◌then◌else◌}
 use Rattle.gb_types.specs.declared.{node.NodeId.NodeId, plan.Plan.Plan}
 use Rattle.gb_node.specs.Common.{turn, NodeValue, new_node}
@@ -37,14 +37,14 @@ pub record IsStranger (plan : Plan) (tapes : List (List TapeEntry)) : Type 0 whe
 abbrev pub IsStuck : Plan → List (List TapeEntry) → Type 0
 IsStuck plan tapes = (events : List Event) → IsInterleaving plan tapes events → ⊥
 
--- what a node that has memory answers, and what it is then
+-- the answer of a node that has memory
 unfoldable pub node_answer : NodeValue → NodeEvent → NodeAnswer
 node_answer v event = (turn v event).answer
 
 unfoldable pub node_after : NodeValue → NodeEvent → NodeValue
 node_after v event = (turn v event).value
 
--- a node after an entry: one that was refused for lack of memory leaves it as it was
+-- the node after an entry: a refusal for lack of memory does not change it
 abbrev pub after_entry : NodeValue → TapeEntry → NodeValue
 after_entry v x = if wants_memory x.answer then v else node_after v x.event
 
@@ -60,7 +60,7 @@ pub record IsDifferent (plan : Plan) (tapes : List (List TapeEntry)) : Type 0 wh
   pub there : slice_get (tape_of tapes node.number) place ≡ Some entry
   pub differs : (wants_memory entry.answer ≡ true) ⊎ (entry.answer ≢ node_answer (replay plan node (take place (tape_of tapes node.number))) entry.event)
 
--- what each fault means; a stranger is reported before other faults
+-- the meaning of each fault; a stranger is reported before other faults
 abbrev pub IsFault : Plan → List (List TapeEntry) → AuditFault → Type 0
 IsFault plan tapes Stranger = IsStranger plan tapes
 IsFault plan tapes Stuck = IsStuck plan tapes × (IsStranger plan tapes → ⊥)

@@ -1,4 +1,4 @@
--- Tapes without the entries that were refused for lack of memory, and what merging them yields.
+-- Tapes without the entries that were refused for lack of memory, and the result of merging them.
 use Rattle.std.specs.Prelude.{ℕ, ◌≡◌, ◌<◌, ◌&&◌, not, Bool, true, false, List, [], ◌∷◌, map, filter, take}
 use Rattle.gb_types.specs.declared.{address.Addr.Addr, node.NodeId.NodeId, plan.Plan.Plan}
 use Rattle.gb_node.specs.Common.{IsTurn, NodeValue, Happened}
@@ -24,18 +24,18 @@ unfoldable pub is_fed_at : NodeId → Addr → List Happened → Bool
 is_fed_at a g [] = true
 is_fed_at a g (h ∷ past) = not (is_starved_by a g past h.event h.answer) && is_fed_at a g past
 
--- The first entries of a tape happened, without those that were refused for lack of memory.
+-- The first entries of a node's tape happened, without those that were refused for lack of memory.
 pub record IsBegun (plan : Plan) (tapes : List (List TapeEntry)) (events : List Event) (m : IsMergedFront plan (fed_tapes tapes) events) (a : NodeId) : Type 0 where
-  -- this many entries
+  -- the number of these first entries
   pub count : ℕ
   pub entries : fed_of (take count (tape_of tapes a.number)) ≡ entries_at a.number m.picks
-  -- the refused entries changed nothing: the node ends as the replay of these entries, in which a refused entry leaves the node as it was
+  -- the refused entries changed nothing: the node ends as the replay of these entries, in which a refused entry does not change the node
   pub node : a.number < plan.nodes → node_at m.last a ≡ replay plan a (take count (tape_of tapes a.number))
-  -- a group of which none of them is a request that was refused for lack of memory got there the replies of the run
+  -- if no request of a group among them was refused for lack of memory, the group got the replies of the run there
   pub replies : (g : Addr) → is_fed_at a g (past_of (take count (tape_of tapes a.number))) ≡ true → replies_in a g (past_at a (run_of m.picks)) ≡ replies_in a g (past_of (take count (tape_of tapes a.number)))
 
--- The merged events are a run of a cluster: at each node the first entries of its tape happened that were not refused for lack of memory, and each group in the
--- run is what it is alone.
+-- The merged events are a run of a cluster: at each node the first entries of its tape happened that were not refused for lack of memory, and each
+-- group is isolated in the run.
 pub record IsOneRunOfFed (plan : Plan) (tapes : List (List TapeEntry)) (events : List Event) (m : IsMergedFront plan (fed_tapes tapes) events) : Type 0 where
   pub begun : (a : NodeId) → IsBegun plan tapes events m a
   pub pasts : (a : NodeId) → past_at a (run_of m.picks) ≡ past_of (entries_at a.number m.picks)
@@ -44,11 +44,11 @@ pub record IsOneRunOfFed (plan : Plan) (tapes : List (List TapeEntry)) (events :
 abbrev pub FedIsOneRun : Type 0
 FedIsOneRun = (plan : Plan) (tapes : List (List TapeEntry)) (events : List Event) (m : IsMergedFront plan (fed_tapes tapes) events) → IsOneRunOfFed plan tapes events m
 
--- a node that refuses for lack of memory is as it was, whatever the event was
+-- a node that refuses for lack of memory does not change, whatever the event was
 abbrev pub RefusalsLeaveNodes : Type 0
 RefusalsLeaveNodes = (old new : NodeValue) (event : NodeEvent) (answer : NodeAnswer) → IsTurn old event answer new → wants_memory answer ≡ true → new ≡ old
 
--- Reading them.
+-- Reading the entries.
 
 -- the entries that are read: all of them, or those that were not refused for lack of memory
 abbrev pub kept : Bool → List TapeEntry → List TapeEntry

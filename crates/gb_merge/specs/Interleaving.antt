@@ -34,13 +34,13 @@ text_numbered sent (suc k) = slice_get sent k
 unfoldable pub is_good : Plan → NodeId → List ℕ → Bool
 is_good plan a bytes = is_ok (read_at (new_node (node_plan plan a)) bytes)
 
--- An entry's event at a node is this event of the cluster, after these packets were sent. Bytes that are a packet for the node are the arrival of an equal packet
--- that was sent, other bytes are noise, and each other event is itself.
+-- The event of the cluster for an entry's event at a node, after these packets were sent. Bytes that are a packet for the node are the arrival of an
+-- equal packet that was sent, other bytes are noise, and each other event is itself.
 abbrev pub IsEventOf : Plan → NodeId → List (List ℕ) → NodeEvent → Event → Type 0
 IsEventOf plan a sent (Came bytes) e = ((k : ℕ) × (e ≡ Arrive k) × (text_numbered sent k ≡ Some bytes) × (is_good plan a bytes ≡ true)) ⊎ ((e ≡ At a (Came bytes)) × (is_good plan a bytes ≡ false))
 IsEventOf plan a sent event e = e ≡ At a event
 
--- the events are those of the entries, in order, after these packets were sent; the entries' answers say what is sent further
+-- the events are those of the entries, in order, after these packets were sent; the entries' answers send the further packets
 unfoldable pub AreEvents : Plan → List (List ℕ) → List Pick → List Event → Type 0
 AreEvents plan sent [] [] = Unit {0}
 AreEvents plan sent (p ∷ picks) (e ∷ events) = IsEventOf plan p.node sent p.entry.event e × AreEvents plan (sent ++ sent_by p.entry.answer) picks events

@@ -1,4 +1,4 @@
--- A cluster that is given merged events again.
+-- A cluster that runs merged events again.
 use Rattle.std.specs.Prelude.{ℕ, ◌≡◌, ◌+◌, false, List, [], ◌∷◌, length, Some}
 use Rattle.gb_types.specs.declared.plan.Plan.{Plan}
 use Rattle.gb_node.specs.declared.tape.TapeEntry.{TapeEntry}
@@ -9,15 +9,15 @@ use Rattle.gb_merge.specs.Interleaving.{Pick, sent_by}
 use Rattle.gb_merge.specs.Merged.{told, did}
 use Rattle.gb_merge.specs.Woven.{is_refused}
 
--- The events take a cluster from one value to another, and each is answered with the answer at its place. No answer refuses for lack of memory.
+-- The events take a cluster from one value to another, each with the answer at its index. No answer refuses for lack of memory.
 unfoldable pub Leads : ClusterValue → List Event → List Answer → ClusterValue → Type 0
 Leads w [] [] v = v ≡ w
 Leads w (e ∷ events) (y ∷ answers) v = (next : ClusterValue) × IsStep w e y next × (is_refused y ≡ false) × Leads next events answers v
 Leads w [] (y ∷ answers) v = ⊥
 Leads w (e ∷ events) [] v = ⊥
 
--- Each event happens at its entry's node and is the entry's: a packet that arrives is its bytes there. Each answer is the entry's, where the entry has a packet's
--- bytes in place of its number.
+-- Each event happens at its entry's node and is the entry's event: an arriving packet has its bytes. Each answer is the entry's answer, with the
+-- packet's number instead of its bytes.
 unfoldable pub AreTold : List Posted → List Event → List Answer → List Pick → Type 0
 AreTold packets [] [] [] = Unit {0}
 AreTold packets (e ∷ events) (y ∷ answers) (p ∷ picks) = IsOf packets e (did p) × (told packets y ≡ Some p.entry.answer) × AreTold packets events answers picks
@@ -26,7 +26,7 @@ AreTold packets [] (y ∷ answers) picks = ⊥
 AreTold packets (e ∷ events) [] picks = ⊥
 AreTold packets (e ∷ events) (y ∷ answers) [] = ⊥
 
--- the answers of merged entries, once this number of packets was sent; packets are numbered as they are sent
+-- the answers of merged entries, after this number of packets was sent; packets are numbered as they are sent
 unfoldable pub answers_to : ℕ → List Pick → List Answer
 answers_to count [] = []
 answers_to count (p ∷ picks) = answer_of count p.entry.answer ∷ answers_to (count + length (sent_by p.entry.answer)) picks

@@ -34,16 +34,16 @@ abbrev pub IsOther : Plan → NodeId → NodeEvent → Type 0
 IsOther plan a (Came bytes) = is_good plan a bytes ≡ false
 IsOther plan a event = Unit {0}
 
--- nothing is left, or the next entry cannot go
+-- no entry is left, or the next entry cannot be taken
 abbrev pub IsHeld : Plan → ℕ → List (List ℕ) → List TapeEntry → Type 0
 IsHeld plan a sent [] = Unit {0}
 IsHeld plan a sent (x ∷ entries) = IsBlocked plan (node_numbered a) sent x.event
 
--- no node can go
+-- no node's next entry can be taken
 abbrev pub AreHeld : Plan → List (List ℕ) → List (List TapeEntry) → Type 0
 AreHeld plan sent rest = (a : ℕ) → IsHeld plan a sent (tape_of rest a)
 
--- the nodes that are marked cannot go
+-- the next entries of the marked nodes cannot be taken
 abbrev pub AreMarked : Plan → List Bool → List (List ℕ) → List (List TapeEntry) → Type 0
 AreMarked plan marks sent rest = (a : ℕ) → slice_index_or marks a false ≡ true → IsHeld plan a sent (tape_of rest a)
 
@@ -56,14 +56,14 @@ AwaitsOther bytes (x ∷ entries) = x.event ≢ Came bytes
 abbrev pub AreWoken : List Bool → List (List TapeEntry) → NodeAnswer → List Bool → Type 0
 AreWoken old rest answer new = (a : ℕ) → slice_index_or new a false ≡ true → (slice_index_or old a false ≡ true) × ((bytes : List ℕ) → sent_by answer ≡ bytes ∷ [] → AwaitsOther bytes (tape_of rest a))
 
--- the node has a next entry, and it can go, as this event
+-- the node has a next entry, and it can be taken, as this event
 pub record IsNext (plan : Plan) (a : NodeId) (sent : List (List ℕ)) (left : List TapeEntry) (e : Event) : Type 0 where
   pub entry : TapeEntry
   pub more : List TapeEntry
   pub next : left ≡ entry ∷ more
   pub is : IsEventOf plan a sent entry.event e
 
--- the node's tape has a next entry, and it can go, as this event
+-- the node's tape has a next entry, and it can be taken, as this event
 pub record CanGo (plan : Plan) (rest : List (List TapeEntry)) (sent : List (List ℕ)) (a : NodeId) (e : Event) : Type 0 where
   pub within : a.number < length rest
   pub entry : TapeEntry
@@ -105,14 +105,14 @@ is_refused (AnswerTicked ticked) = wants_memory (Ticked ticked)
 is_refused (AnswerHalted halted) = wants_memory (Halted halted)
 is_refused answer = false
 
--- an event is answered by the cluster as the entry says
+-- the cluster gives the entry's answer to the event
 pub record IsTold (old : ClusterValue) (e : Event) (given : NodeAnswer) (new : ClusterValue) : Type 0 where
   pub answer : Answer
   pub step : IsStep old e answer new
   pub told_is : told new.packets answer ≡ Some given
   pub fed : is_refused answer ≡ false
 
--- the event is answered otherwise, and not refused for lack of memory
+-- the cluster gives another answer to the event, which does not refuse for lack of memory
 pub record IsUntold (old : ClusterValue) (e : Event) (given : NodeAnswer) : Type 0 where
   pub answer : Answer
   pub new : ClusterValue
@@ -131,7 +131,7 @@ pub record IsFollowed (plan : Plan) (events : List Event) (picks : List Pick) (v
   pub fed : AreFed picks
   pub comes : ComesTo plan (run_of picks) v
 
--- the answer of an entry is not its node's
+-- an entry's answer refuses for lack of memory, or is not its node's
 pub record IsWrong (plan : Plan) (picks : List Pick) : Type 0 where
   pub done : List Pick
   pub pick : Pick

@@ -1,12 +1,12 @@
-//! Why tapes are not merged.
+//! The reasons why tapes are not merged.
 use gb_types::OutOfMemory;
 use std::alloc::{AllocError, AllocFailed};
 use thiserror::Error;
 
-/// Why tapes are not merged.
+/// The reason why tapes are not merged.
 #[derive(Clone, Copy, Debug, PartialEq, Eq, Error)]
 pub enum AuditFault {
-    /// A packet for a node came to it, and no tape sent that packet.
+    /// A packet for a node arrived there, and no tape sent that packet.
     #[error("a packet came that no tape sent")]
     Stranger,
     /// The tapes have no interleaving: nodes wait for one another's packets.
@@ -15,7 +15,7 @@ pub enum AuditFault {
     /// An answer in a tape is not its replay's, or refuses for lack of memory.
     #[error("an answer in a tape is not its replay's")]
     Differs,
-    /// A request for memory was refused here. Nothing is said of the tapes.
+    /// A request for memory was refused here. This says nothing about the tapes.
     #[error("out of memory")]
     OutOfMemory,
 }

@@ -49,7 +49,7 @@ fn is_numbered(packets: &[Posted], number: u64, bytes: &[u8]) -> bool
     }
 }
 
-/// Returns true if what the cluster sent is what the node sent. Packets are compared by their bytes.
+/// Returns true if the cluster sent what the node sent. Packets are compared by their bytes.
 fn is_sent(packets: &[Posted], sending: &Sending, sent: &Sent) -> bool
     ensures { IsTrue result ↔ (told packets.now (Answer.Sent sending.now) ≡ Some (NodeAnswer.Sent sent.now)) }
 {
@@ -89,8 +89,8 @@ fn is_told(packets: &[Posted], answer: Answer, given: &NodeAnswer) -> bool
     }
 }
 
-/// Makes one event happen in the cluster. `Err` with `Differs` if its answer is not `given`, and with `OutOfMemory` if it
-/// refuses for lack of memory or the cluster cannot be kept.
+/// Executes one event in the cluster. `Err` with `Differs` if its answer is not `given`, and with `OutOfMemory` if it refuses for lack of
+/// memory or the cluster cannot be kept.
 fn happen(cluster: &mut Cluster, event: &Event, given: &NodeAnswer) -> Result<(), AuditFault>
     requires { IsPlaced (length cluster.old.nodes) event.now }
     ensures ok { OnOk result (IsTold cluster.old event.now given.now cluster.new) }
@@ -107,8 +107,7 @@ fn happen(cluster: &mut Cluster, event: &Event, given: &NodeAnswer) -> Result<()
     Ok(())
 }
 
-/// Runs the events in a cluster in which nothing has happened. `Err` at the first that is not answered as its entry says, or for
-/// which there is no memory.
+/// Runs the events in a new cluster. `Err` at the first event whose answer is not its entry's, or for which there is no memory.
 pub(crate) fn follow(
     cluster: &mut Cluster,
     events: &[Event],

@@ -13,12 +13,12 @@ use gb_node::{NodeEvent, Tape, TapeEntry};
 use gb_types::{NodeId, OutOfMemory, Plan};
 use std::alloc::Global;
 
-/// Where a forged packet came.
+/// The entry in which a forged packet arrived.
 #[derive(Clone, Copy, Debug, PartialEq, Eq)]
 pub struct Forged {
-    /// The number of the node to which it came.
+    /// The number of the node at which it arrived.
     pub node: usize,
-    /// How many entries the node's tape has before it.
+    /// The number of entries before it in the node's tape.
     pub place: usize,
 }
 
@@ -55,7 +55,7 @@ fn is_forged(reader: &Reader, ended: &[bool], a: NodeId, event: &NodeEvent, sent
     names_ended(reader, ended, event)
 }
 
-// Returns the place of the first entry that is such a packet. `None` if there is none.
+// Returns the index of the first entry that is such a packet. `None` if there is none.
 fn forged_in(
     reader: &Reader,
     ended: &[bool],
@@ -75,7 +75,7 @@ fn forged_in(
     None
 }
 
-// Returns where the first such packet is, at the lowest-numbered node that has one. `None` if no tape has one.
+// Returns the node and the index of the first such packet, at the lowest-numbered node that has one. `None` if no tape has one.
 fn first_forged(reader: &Reader, ended: &[bool], tapes: &[Tape], sent: &Mail) -> Option<Forged>
     requires few { length tapes.now ≤ NODES }
     requires sent { sent.now ≡ all_sent tapes.now }
@@ -91,9 +91,9 @@ fn first_forged(reader: &Reader, ended: &[bool], tapes: &[Tape], sent: &Mail) ->
     None
 }
 
-/// Returns where a packet for its node came that no tape sent, although its sender's tape ends: the first such place at the
-/// lowest-numbered node that has one. `ended` says by the nodes' numbers whose tapes end. `None` if no tape has such a packet. Takes
-/// memory for a list of the packets sent. `Err` if memory runs out.
+/// Returns the node and the index of the first entry that is a packet for its node which no tape sent, although its sender's tape ends, at
+/// the lowest-numbered node that has one. `ended` has for each node's number true if its tape ends. `None` if no tape has such a packet.
+/// Takes memory for a list of the packets sent. `Err` if memory runs out.
 pub fn find_forged(
     alloc: Global,
     plan: &Plan,

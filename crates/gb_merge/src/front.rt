@@ -14,10 +14,10 @@ use gb_node::Tape;
 use gb_types::Plan;
 use std::alloc::Global;
 
-/// Merges the first entries of each tape, as many as possible, and returns the events of the cluster. It passes over the entries that
-/// were refused for lack of memory: they changed nothing at their nodes. Of the others an entry is left out exactly if it, or one
-/// before it in its tape, is a packet for the node that no merged entry has sent. For a missing tape the caller passes an empty one.
-/// `Err` with `Differs` if an answer among these entries is not its replay's, and with `OutOfMemory` if memory is refused here.
+/// Merges the first entries of each tape, as many as possible, and returns the events of the cluster. It skips the entries that were
+/// refused for lack of memory: they changed nothing at their nodes. Of the others an entry is left out exactly if it, or one before it in
+/// its tape, is a packet for the node that no merged entry has sent. For a missing tape the caller passes an empty one. `Err` with
+/// `Differs` if an answer among these entries is not its replay's, and with `OutOfMemory` if memory is refused here.
 pub fn merge_front(alloc: Global, plan: &Plan, tapes: &[Tape]) -> Result<Vec<Event>, AuditFault>
     requires plan { IsClusterPlan plan.now }
     requires one_each { length tapes.now ≡ plan.now.nodes }

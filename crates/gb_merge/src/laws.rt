@@ -6,9 +6,9 @@ ghost use Rattle.gb_merge.specs.Merged.{MergedIsOneRun};
 
 use gb_isolation::laws::{ample_runs_feed_all, groups_are_isolated};
 
-/// A law: the events that `merge` returns are one run of a cluster, in which at each node happened what its tape says. So each law
-/// of every run holds of what the running nodes did. No answer in the run refuses for lack of memory, so each group in it does what
-/// it does by itself, whatever other tenants did. The function does nothing when it runs; its contract is the law.
+/// A law: the events that `merge` returns are one run of a cluster, in which the events of each node are those of its tape. So each law of
+/// every run is a law of what the running nodes did. No answer in the run refuses for lack of memory, so each group in it does what it does
+/// by itself, whatever other tenants did. The function does nothing when it runs; its contract is the law.
 pub fn merged_is_one_run()
     ensures { MergedIsOneRun }
 {
@@ -16,21 +16,22 @@ pub fn merged_is_one_run()
     ample_runs_feed_all();
 }
 
-/// A law: the events that `merge` returns are those of all entries of all tapes and no others, each at its place among those of its
-/// tape. The function does nothing when it runs; its contract is the law.
+/// A law: the events that `merge` returns are those of all entries of all tapes and no others, those of each tape in the order of the tape.
+/// The function does nothing when it runs; its contract is the law.
 pub fn merged_has_each_entry()
     ensures { MergedHasEachEntry }
 {}
 
-/// A law: of tapes that are beginnings of what happened at their nodes in one run, and that have each packet's sending before its
-/// coming, as where a node writes an entry before its packet leaves, `merge_front` leaves nothing, wherever each tape ends. The
+/// A law: if the tapes are beginnings of the events at their nodes in one run, and have each packet's sending before its arrival,
+/// `merge_front` merges all entries, wherever each tape ends. The tapes have this if a node writes an entry before its packet leaves. The
 /// function does nothing when it runs; its contract is the law.
 pub fn closed_tapes_merge_whole()
     ensures { ClosedTapesMergeWhole }
 {}
 
-/// A law: of tapes whose entries have the same answers and wait for the same packets `merge_front` merges the same first entries of each
-/// node, in whatever order. So what it merges depends on the tapes alone. The function does nothing when it runs; its contract is the law.
+/// A law: if two lists of tapes have entries with the same answers that wait for the same packets, `merge_front` merges the same first
+/// entries of each node for both, in whatever order. So the entries that it merges depend on the tapes alone. The function does nothing
+/// when it runs; its contract is the law.
 pub fn alike_tapes_merge_alike()
     ensures { AlikeTapesMergeAlike }
 {}

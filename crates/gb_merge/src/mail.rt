@@ -12,7 +12,7 @@ use std::marker::Model;
 #[derive(Drop)]
 pub(crate) struct Mail<'a> {
     packets: Vec<&'a [u8]>,
-    /// For the bytes of each packet, the place of the first packet that has them.
+    /// For the bytes of each packet, the index of the first packet that has them.
     firsts: IndexMap<&'a [u8], usize>,
 }
 
@@ -28,7 +28,7 @@ impl<'a> Model for Mail<'a> {
     ghost invariant = { λ m. (q : List ℕ) → get_by (λ k. bytes_eq q k.now) m.firsts ≡ position (bytes_eq q) (map (λ p. p.now) m.packets.items) };
 }
 
-/// Notes the place of a packet, unless an equal packet is known.
+/// Records the index of a packet, unless an equal packet is known.
 fn note<'a>(
     firsts: &mut IndexMap<&'a [u8], usize>,
     bytes: &'a [u8],

@@ -1,4 +1,4 @@
-//! Merging the tapes of a cluster's nodes (what happened at each, with its answers) into one run of the cluster.
+//! Merging the tapes of a cluster's nodes (the events at each, with its answers) into one run of the cluster.
 ghost use Rattle.std.specs.Prelude.{◌≡◌, length, IfOk, IfErr};
 ghost use Rattle.gb_cluster.specs.Common.{IsClusterPlan};
 ghost use Rattle.gb_merge.specs.Faults.{IsFault};
@@ -19,12 +19,12 @@ use std::alloc::Global;
 /// each node's events are the entries of its tape, in order, and whose run from the start has the tapes' answers. Bytes that are no
 /// packet for the node are noise. Takes memory, for the events above all.
 ///
-/// `Err` with `Stranger` if a packet came to a node that no tape sent; else with `Stuck` if the tapes are no run since nodes wait
-/// for one another's packets, or with `Differs` if an answer is not its replay's or refuses for lack of memory. `Err` with
-/// `OutOfMemory` if memory is refused here.
+/// `Err` with `Stranger` if a packet arrived at a node that no tape sent; otherwise with `Stuck` if the tapes are no run since nodes wait
+/// for one another's packets, or with `Differs` if an answer is not its replay's or refuses for lack of memory. `Err` with `OutOfMemory` if
+/// memory is refused here.
 ///
-/// It takes, again and again, the next entry of the lowest-numbered node whose next entry can go. A packet for the node can go once
-/// an equal one was sent, and becomes the arrival of the first equal one. Each other entry can go at once.
+/// It repeatedly takes the next entry of the lowest-numbered node whose next entry can be taken. A packet for the node can be taken once an
+/// equal one was sent, and becomes the arrival of the first equal one. Each other entry can be taken at once.
 pub fn merge(alloc: Global, plan: &Plan, tapes: &[Tape]) -> Result<Vec<Event>, AuditFault>
     requires plan { IsClusterPlan plan.now }
     requires one_each { length tapes.now ≡ plan.now.nodes }
@@ -35,7 +35,7 @@ pub fn merge(alloc: Global, plan: &Plan, tapes: &[Tape]) -> Result<Vec<Event>, A
     merge_entries(alloc, plan, tapes)
 }
 
-/// Merges what is left of tapes, as `merge` merges whole tapes.
+/// Merges the rest of tapes, as `merge` merges whole tapes.
 fn merge_entries(alloc: Global, plan: &Plan, tapes: Vec<Rest>) -> Result<Vec<Event>, AuditFault>
     requires plan { IsClusterPlan plan.now }
     requires one_each { length tapes.items ≡ plan.now.nodes }

@@ -1,4 +1,4 @@
-//! Which bytes are packets for a node of a cluster.
+//! The test of the bytes that are packets for a node of a cluster.
 ghost use Rattle.std.specs.Prelude.{◌≡◌, true, MatchOption};
 ghost use Rattle.gb_merge.specs.Forged.{sender_in};
 ghost use Rattle.gb_merge.specs.Interleaving.{is_good};
@@ -60,7 +60,7 @@ impl Reader {
         }
     }
 
-    /// Returns the bytes that came to the node if they are a packet of the cluster for it, otherwise `None`.
+    /// Returns the bytes that arrived at the node if they are a packet of the cluster for it, otherwise `None`.
     pub(crate) fn packet<'e>(&self, a: NodeId, event: &'e NodeEvent) -> Option<&'e [u8]>
         ensures { MatchOption result (IsOther self.now a event.now) (λ b. (event.now ≡ NodeEvents.Packet b.now) × (is_good self.now a b.now ≡ true)) }
     {

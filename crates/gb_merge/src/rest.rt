@@ -1,4 +1,4 @@
-//! What is left of tapes, and what was taken of them.
+//! The rest of a tape, and the entries that were taken from it.
 ghost use Rattle.std.specs.Prelude.{◌≡◌, ◌↔◌, ◌∷◌, ◌++◌, [], List, IsTrue, MatchOption, OnOk};
 ghost use Rattle.gb_node.specs.declared.tape.TapeEntry.{TapeEntry as Entry};
 ghost use Rattle.gb_isolation.specs.Isolation.{wants_memory};
@@ -51,7 +51,7 @@ fn after_skipped(skips: bool, entries: &[TapeEntry]) -> &[TapeEntry]
     }
 }
 
-/// What is left of a tape: all its entries, or those that were not refused for lack of memory. Contracts see the list.
+/// The rest of a tape: all its entries, or those that were not refused for lack of memory. Contracts see the list.
 #[derive(Drop)]
 pub(crate) struct Rest<'a> {
     entries: &'a [TapeEntry],
@@ -74,7 +74,7 @@ impl<'a> Model for Rest<'a> {
 }
 
 impl<'a> Rest<'a> {
-    /// Returns a rest that has all entries.
+    /// Returns a rest with all entries.
     pub(crate) fn new(entries: &'a [TapeEntry]) -> Rest<'a>
         ensures { result ≡ entries.now }
     {
@@ -84,7 +84,7 @@ impl<'a> Rest<'a> {
         }
     }
 
-    /// Returns a rest that has the entries that were not refused for lack of memory.
+    /// Returns a rest with the entries that were not refused for lack of memory.
     pub(crate) fn fed(entries: &'a [TapeEntry]) -> Rest<'a>
         ensures { result ≡ fed_of entries.now }
     {

@@ -64,7 +64,7 @@ fn has_stranger(reader: &Reader, a: NodeId, mut left: Rest, sent: &Mail) -> bool
     false
 }
 
-/// Returns true if to some node a packet for it came that is not among `sent`.
+/// Returns true if a packet for some node arrived there that is not among `sent`.
 fn any_stranger(reader: &Reader, tapes: &[Rest], sent: &Mail) -> bool
     requires { length tapes.now ≤ NODES }
     ensures some { IsTrue result → (a : ℕ) × HasStranger reader.now (node_numbered a) sent.now (tape_of tapes.now a) }
@@ -79,7 +79,7 @@ fn any_stranger(reader: &Reader, tapes: &[Rest], sent: &Mail) -> bool
     false
 }
 
-/// Returns true if to some node a packet for it came that no tape sent.
+/// Returns true if a packet for some node arrived there that no tape sent.
 pub(crate) fn have_stranger(
     alloc: Global,
     reader: &Reader,

@@ -9,7 +9,7 @@ use Rattle.gb_node.specs.Frames.{frame_of, window_of}
 use Rattle.gb_node.specs.NodeStep.{frame_done, without_done}
 use Rattle.gb_node.proofs.FrameLemmas.{Text}
 
--- frames ascend by their numbers alone
+-- the frames keep their ascending numbers with items instead of texts
 ascending_frame : (version : Version) (low : ℕ) (us : List Text) → AreAscending low us → AreAscending low (map (frame_of version) us)
 ascending_frame version low [] h = tt
 ascending_frame version low (u ∷ us) h = (h.0, ascending_frame version (u.0 + 1) us h.1)
@@ -22,7 +22,7 @@ pub window_frame : (version : Version) (w : SendWindow (Vec ℕ Global)) → IsW
 window_frame version w h = record { started = h.started; last = h.last; ascending = ascending_frame version 1 w.undone h.ascending; recent = recent_frame version w.next w.undone h.recent }
 
 module _ {F : Type 0} where
-  -- all that pass are no more than all
+  -- there are at most as many frames that pass as frames
   filter_few : (test : ℕ × F → Bool) (us : List (ℕ × F)) → length (filter test us) ≤ length us
   filter_few test [] = omega arith
   filter_few test (x ∷ us) = let most = filter_few test us in elim (test x) as (λ b. length (cond b (x ∷ filter test us) (filter test us)) ≤ length (x ∷ us)) [ true ↦ omega arith | false ↦ omega arith ]
@@ -40,7 +40,7 @@ module _ {F : Type 0} where
   pub freed_few : (w : SendWindow F) (base mask : ℕ) → IsWindow w → length (freed w base mask) ≤ 64
   freed_few w base mask h = let all = undone_few w.next w.undone h.ascending h.recent in let some = filter_few (λ u. covers base mask u.0) w.undone in omega (arith, all, some)
 
-  -- those that do not pass stay
+  -- removing the first frame that passes keeps those that do not pass
   left_same : (test : ℕ × F → Bool) (us : List (ℕ × F)) → filter (λ u. not (test u)) (without_first test us) ≡ filter (λ u. not (test u)) us
   left_same test [] = refl
   left_same test (x ∷ us) =
@@ -49,7 +49,7 @@ module _ {F : Type 0} where
         | inr h ↦ rw (h, h) (ap (λ (vs : List (ℕ × F)). x ∷ vs) (left_same test us))
       ]
 
-  -- where none passes all stay
+  -- where no frame passes, all stay
   none_left : (test : ℕ × F → Bool) (us : List (ℕ × F)) → filter test us ≡ [] → without_first test us ≡ filter (λ u. not (test u)) us
   none_left test [] none = refl
   none_left test (x ∷ us) none =
@@ -58,15 +58,15 @@ module _ {F : Type 0} where
         | inr h ↦ let rest : filter test us ≡ [] = sym (ap (λ b. cond b (x ∷ filter test us) (filter test us)) h) ∙ none in rw h (ap (λ (vs : List (ℕ × F)). x ∷ vs) (none_left test us rest))
       ]
 
--- the windows before and after one more frame is done lead to the same
+-- the windows before and after one more frame is done lead to the same window
 pub acked_goes : (w x : SendWindow (List Item)) (base mask : ℕ) → x ≡ acknowledged w base mask → without_done base mask x ≡ without_done base mask w
 acked_goes w x base mask is = ap (without_done base mask) is ∙ ap (λ us. record { next = w.next; undone = us }) (left_same (λ u. covers base mask u.0) w.undone)
 
--- where no frame is left to be done
+-- the window is complete where no covered frame is left
 pub acked_ends : (w x : SendWindow (List Item)) (base mask : ℕ) → x ≡ acknowledged w base mask → freed w base mask ≡ [] → x ≡ without_done base mask w
 acked_ends w x base mask is none = is ∙ ap (λ us. record { next = w.next; undone = us }) (none_left (λ u. covers base mask u.0) w.undone none)
 
--- one more frame is done
+-- the count of done frames grows by one with each
 pub freed_count : (w x : SendWindow (List Item)) (base mask n : ℕ) (u : ℕ × List Item) (whole : ℕ) → freed w base mask ≡ u ∷ freed x base mask → n + length (freed w base mask) ≡ whole → n + 1 + length (freed x base mask) ≡ whole
 freed_count w x base mask n u whole first so = let e = ap length first in omega (arith, e, so)
 

@@ -1,4 +1,4 @@
--- Which nodes have acknowledged each own message for good: the slot keeps what the past says of acknowledgements.
+-- Which nodes have acknowledged each own message for good: the slot and the past agree on the acknowledgements.
 use Rattle.gb_types.specs.Common.{◌≡◌, ℕ, ◌+◌, ◌-◌, ◌<◌, ◌≤◌, List, [], ◌∷◌, ◌++◌, length, get_or, Bool, true, false, ◌&&◌, ◌||◌, ◌⊎◌, inl, inr, refl, sym, ◌∙◌, ap, arith, nat_eq, nat_le, length-append, if◌then◌else◌, nat_cmp, get_or-append_seam, cases_lt, nat_tests, get_or_append_left, and-false, or-false}
 use Rattle.std.specs.FinSet as set
 use Rattle.gb_types.specs.declared.{message.MsgId.MsgId, node.NodeId.NodeId}
@@ -12,7 +12,7 @@ use Rattle.gb_node.proofs.SlotGroups.{AcksAgree, SlotTold}
 abbrev Acks : Type 0
 Acks = List (set.FinSet nat_cmp)
 
--- A message is said, which this node alone has.
+-- A message is said; this node alone has it.
 pub acks_said : (me : ℕ) (acks : Acks) (acknowledged : ℕ → ℕ → Bool) → AcksAgree me acks acknowledged → AcksAgree me (acks ++ set.insert set.empty me ∷ []) acknowledged
 acks_said me acks acknowledged was = record {
   each = λ k b low. go k b low (cases_lt k (length acks));
@@ -48,7 +48,7 @@ done_one b m s me k c here low = go (nat_eq m.origin.number s.me.number) refl
 pub acks_done : (me from : NodeId) (m : MsgId) (s : SlotState) (t : Told) → SlotTold me s t → AcksAgree me.number (slot_done from m s).acknowledged (acknowledged_with me.number from m t)
 acks_done me from m s t h = record { each = each; beyond = beyond }
   where
-    -- as many messages are kept of as were said
+    -- the slot keeps acknowledgements for as many messages as were said
     said : length s.acknowledged ≡ said_in t.calls
     said = h.stands.acknowledged ∙ h.stands.said
 

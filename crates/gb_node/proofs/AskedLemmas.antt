@@ -1,4 +1,4 @@
--- What a request that was done says of the groups and tenants of a table.
+-- The state of the groups and tenants of a table in which a request was done.
 use Rattle.gb_types.specs.Common.{◌≡◌, ℕ, List, Option, Some, None, true, false, refl, Bool, is_some, option_map, All, if◌then◌else◌}
 use Rattle.gb_types.specs.declared.{address.Addr.Addr, refusal.Refusal.TheVariants.Denied, reply.Reply.Reply, request.Action.TheVariants.AddTenant, request.Action.TheVariants.Group, request.GroupCommand.TheVariants.Make, request.GroupCommand.TheVariants.Drop, request.Request.Request, spec.Spec.Spec, spec.TenantRow.TenantRow}
 use Rattle.gb_types.specs.declared.reply.Reply.TheVariants.{Done, Said, Log, Refused}
@@ -12,14 +12,14 @@ use Rattle.gb_table.proofs.{RequestLemmas.not_some, TenantLemmas.tenant_done, Te
 abbrev pub AreWithinLimits : List TenantRow → Type 0
 AreWithinLimits tenants = All (λ row. is_over_limits row ≡ false) tenants
 
--- where what is done changes nothing, nothing changes whatever the reply is
+-- where doing a request changes nothing, nothing changes whatever the reply is
 pub if_same : {A : Type 0} (reply : Reply) (x y : A) → x ≡ y → if_done reply x y ≡ y
 if_same Done x y same = same
 if_same (Said seq) x y same = refl
 if_same (Log entries) x y same = refl
 if_same (Refused why) x y same = refl
 
--- a request that was done, or was said under a number, was admitted
+-- a request that was done, or got a number for its message, was admitted
 pub done_is : (r : Request) (t : TableValue) → Done ≡ table_reply r t → Done ≡ admitted_reply r.what t
 done_is r t e = by (is_admitted r t) e
   where

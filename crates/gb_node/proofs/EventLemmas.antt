@@ -1,4 +1,4 @@
--- What each event changes in a node, as its past will say.
+-- The changes that each event makes in a node, in terms of its past.
 use Rattle.gb_types.specs.Common.{◌≡◌, ℕ, false, ◌||◌, List, [], ◌++◌, inl, inr, length, map, refl, sym, ap, subst, ◌∙◌, arith, ◌⊎◌, filter, not, Option, nat_cmp, list_any, append-nil, slice_index_or}
 use Rattle.std.specs.FinSet as set
 use Rattle.gb_types.specs.declared.{address.Addr.Addr, refusal.Refusal.TheVariants.OutOfMemory, reply.Reply.Reply, request.Request.Request, request.Action.Action, request.Action.TheVariants.AddTenant, request.Action.TheVariants.Group}
@@ -25,14 +25,14 @@ pub record IsStill (key : List ℕ) (e : NodeEvent) (a : NodeAnswer) : Type 0 wh
   pub none_packed : (b : ℕ) → packed_for key b e a ≡ []
   pub none_taken : (b n : ℕ) → is_taken_by key b n e a ≡ false
 
--- and nothing else happens either
+-- a step at which nothing happens at all
 pub record IsNoOp (key : List ℕ) (e : NodeEvent) (a : NodeAnswer) : Type 0 where
   pub still : IsStill key e a
   pub no_tick : ticks e a ≡ []
   pub none_added : added e a ≡ []
   pub no_stop : stops e a ≡ false
 
--- then the links stay
+-- after a step that takes and packs no packet the links stay
 pub still_moved : (key : List ℕ) (e : NodeEvent) (a : NodeAnswer) (v w : NodeValue) → IsStill key e a → w.key ≡ v.key → w.table.me ≡ v.table.me → w.table.nodes ≡ v.table.nodes → w.table.version ≡ v.table.version → w.table.places ≡ v.table.places → w.table.admin_key ≡ v.table.admin_key → w.room ≡ v.room
     → w.stopped ≡ (stops e a || v.stopped) → w.watch ≡ replay v.watch (ticks e a) → w.table.tenants ≡ v.table.tenants ++ added e a → w.windows ≡ v.windows → w.receivers ≡ v.receivers → Moved key e a v w
 unfolding numbered
@@ -80,7 +80,7 @@ unsent_no_op key (Ack x) = record { still = record { none_came = refl; none_pack
 unsent_no_op key Tick = record { still = record { none_came = refl; none_packed = λ b. refl; none_taken = λ b n. refl }; no_tick = refl; none_added = refl; no_stop = refl }
 unsent_no_op key Stop = record { still = record { none_came = refl; none_packed = λ b. refl; none_taken = λ b n. refl }; no_tick = refl; none_added = refl; no_stop = refl }
 
--- want of memory is told as that
+-- lack of memory is reported as such
 pub starved_says : StarvedSays
 starved_says (Asked r) (Replied should) answer starved = inr (r, refl, starved.0)
 starved_says (Asked r) (Taken should) answer starved = absurd starved
@@ -178,11 +178,11 @@ asked_moved key r reply v =
 
 -- Groups.
 
--- nothing is made of a group, nothing is told to it, and as many of its room live
+-- the event neither makes the group nor calls it, and as many generations of its room live
 abbrev pub LeavesGroup : NodePlan → Addr → List Happened → NodeEvent → NodeAnswer → Type 0
 LeavesGroup plan g past e a = ((o : Option (Option SlotState)) → o ≡ group_after plan g past e a o) × ((t : Option (Option Told)) → t ≡ told_after plan g past e a t) × ((n : ℕ) → n ≡ living_after g e a n)
 
--- so by a stopped node
+-- every event at a stopped node leaves the group
 pub stopped_group : (plan : NodePlan) (g : Addr) (past : List Happened) (e : NodeEvent) → LeavesGroup plan g past e (stopped_answer e)
 stopped_group plan g past (Asked r) = (λ o. refl, λ t. refl, λ n. refl)
 stopped_group plan g past (Came bytes) = (λ o. refl, λ t. refl, λ n. refl)
@@ -201,7 +201,7 @@ unsent_group plan g past (Ack x) = (λ o. refl, λ t. refl, λ n. refl)
 unsent_group plan g past Tick = (λ o. refl, λ t. refl, λ n. refl)
 unsent_group plan g past Stop = (λ o. refl, λ t. refl, λ n. refl)
 
--- and for want of memory
+-- an event refused for lack of memory leaves the group
 pub starved_group : (plan : NodePlan) (g : Addr) (past : List Happened) (e : NodeEvent) (should answer : NodeAnswer) → IsStarved e should answer → LeavesGroup plan g past e answer
 starved_group plan g past e should answer starved = by (starved_says e should answer starved)
   where

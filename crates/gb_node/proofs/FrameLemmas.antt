@@ -30,7 +30,7 @@ without_frame version test (u ∷ us) = elim (test u.0) as (λ b. cond b (map (f
   | false ↦ ap (λ xs. frame_of version u ∷ xs) (without_frame version test us)
 ]
 
--- the first one
+-- the first frame with its items
 first_frame : (version : Version) (us : List Text) → slice_get (map (frame_of version) us) 0 ≡ option_map (frame_of version) (slice_get us 0)
 first_frame version [] = refl
 first_frame version (u ∷ us) = refl
@@ -95,7 +95,7 @@ again_some version w n k texts all kept found = (again_frame version w n ∙ ap 
 pub again_none : (version : Version) (w : SendWindow (Vec ℕ Global)) (n : ℕ) → None ≡ frame_again w n → frame_again (window_of version w) n ≡ None
 again_none version w n none = again_frame version w n ∙ ap (option_map (frame_of version)) (sym none)
 
--- an acknowledgement
+-- the window with items after an acknowledgement
 pub acked_frame : (version : Version) (w : SendWindow (Vec ℕ Global)) (base mask : ℕ) → window_of version (acknowledged w base mask) ≡ acknowledged (window_of version w) base mask
 acked_frame version w base mask = ap (λ us. record { next = w.next; undone = us }) (sym (without_frame version (covers base mask) w.undone))
 
@@ -110,7 +110,7 @@ one_freed : (version : Version) (w x : SendWindow (Vec ℕ Global)) (base mask :
 one_freed version w x base mask u all found first =
     (freed_frame version w base mask ∙ ap (map (frame_of version)) first ∙ ap (λ us. frame_of version u ∷ us) (sym (freed_frame version x base mask)), found_batch version (λ u. covers base mask u.0) w.undone u all found)
 
--- the first one that is freed, if there is one
+-- the first frame that an acknowledgement covers, if there is one
 pub acked_first : (version : Version) (w x : SendWindow (Vec ℕ Global)) (base mask : ℕ) (o : Option Text) → AreBatches version w.undone → o ≡ find (λ u. covers base mask u.0) w.undone
     → MatchOption o (freed w base mask ≡ []) (λ u. freed w base mask ≡ u ∷ freed x base mask)
     → MatchOption o (freed (window_of version w) base mask ≡ []) (λ u. (freed (window_of version w) base mask ≡ (u.0, batch_in version u.1.items) ∷ freed (window_of version x) base mask) × IsBatch version u.1.items)

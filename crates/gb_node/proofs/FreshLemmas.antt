@@ -1,4 +1,4 @@
--- A group that was just made: its slot stands for the notices of the other members that are noticed already.
+-- A group that was just made: its slot represents the notices of the other members that are noticed already.
 use Rattle.gb_types.specs.Common.{◌≡◌, ℕ, zero, suc, ◌+◌, ◌<◌, ◌≤◌, inl, inr, List, [], ◌∷◌, map, refl, sym, ap, subst, ◌∙◌, arith, ◌%◌, Bool, true, false, ◌&&◌, ◌||◌, ◌⊎◌, filter, nat_eq, nat_cmp, list_any, range_with_len, AllByRecursion, cases_Bool, cases_lt, cases_eq, nat_tests, or-false}
 use Rattle.std.specs.FinSet as set
 use Rattle.gb_types.specs.declared.{limits.TheConstants.NODES, node.NodeId.NodeId, spec.Spec.Spec}
@@ -34,7 +34,7 @@ crashed_are : (bs : List ℕ) (qs : List NodeId) → crashed_onto (map Crashed q
 crashed_are [] qs = refl
 crashed_are (b ∷ bs) qs = crashed_are bs (node_numbered b ∷ qs)
 
--- Which nodes they are.
+-- Which nodes are in that list.
 
 any_before : (test : ℕ → Bool) (low count x : ℕ) → low + count ≤ NODES → x < low → list_any (λ (q : NodeId). nat_eq q.number x) (map node_numbered (filter test (range_with_len low count))) ≡ false
 any_before test low zero x within less = refl

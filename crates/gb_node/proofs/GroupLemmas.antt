@@ -1,4 +1,4 @@
--- What each event changes in each group of a node.
+-- The changes that each event makes in each group of a node.
 use Rattle.gb_types.specs.Common.{◌≡◌, ℕ, inl, inr, List, [], ◌∷◌, ◌++◌, length, map, take, Option, Some, None, Ok, refl, sym, ap, subst, ◌∙◌, ◌≤◌, arith, Bool, true, false, not, cond, ◌&&◌, filter, fold, nat_eq, nat_lt, if◌then◌else◌, nat_cmp, cases_Bool, cases_lt, nat_tests, get_or_past, length-map, length-take, filter-append, fold-append, message_of, rising}
 use Rattle.std.specs.FinSet as set
 use Rattle.gb_types.specs.declared.{address.Addr.Addr, limits.TheConstants.NODES, node.NodeId.NodeId, reply.Reply.Reply, request.Request.Request, request.Action.Action, request.Action.TheVariants.AddTenant, request.Action.TheVariants.Group, request.GroupCommand.GroupCommand}
@@ -28,7 +28,7 @@ use Rattle.gb_node.proofs.AskedLemmas.{AreWithinLimits, can_make, done_is}
 
 -- Requests.
 
--- a group that is made was not there
+-- a group that is made did not exist
 added_fresh : (g addr : Addr) (s : SlotState) (t : GroupsValue) → group_in addr t ≡ None
     → (if is_addr g addr then Some (Some s) else where_so (is_reached_by g addr) passed (group_in g t)) ≡ (if is_addr g addr then or_added (group_in g t) (Some (Some s)) else where_so (is_reached_by g addr) passed (group_in g t))
 added_fresh g addr s t fresh =
@@ -42,7 +42,7 @@ added_fresh g addr s t fresh =
     by (Some o) true none = let no = none refl in absurd (cc)
     by o false none = refl
 
--- a command that is done
+-- each group after a command was done
 command_for : EachGroup → (noticed : set.FinSet nat_cmp) (g addr : Addr) (command : GroupCommand) (t : TableValue) → AreInOrder t.groups → AreWithinLimits t.tenants → Done ≡ admitted_reply (Group addr command) t
     → group_in g (groups_done t.me noticed addr command t.groups) ≡ command_slot g t.me noticed addr command (group_in g t.groups)
 command_for law noticed g addr (Make spec) t order limits is =
@@ -54,7 +54,7 @@ command_for law noticed g addr Drop t order limits is = law.erased g addr t.grou
 command_for law noticed g addr (Say message) t order limits is = refl
 command_for law noticed g addr (Fetch from most) t order limits is = refl
 
--- a command that is said
+-- each group after a message was said
 said_for : EachGroup → (g : Addr) (seq : ℕ) (what : Action) (groups : GroupsValue) → group_in g (groups_said seq what groups) ≡ said_slot g seq what (group_in g groups)
 said_for law g seq (AddTenant row) groups = refl
 said_for law g seq (Group addr (Make spec)) groups = refl
@@ -88,7 +88,7 @@ item_done_in law g from t i =
     either true o = refl
     either false o = refl
 
--- a fold over all items, of which each item changes a group that it names
+-- a fold over all items, where each item changes the groups that it names
 module _ (g : Addr) (step : TableValue → Item → TableValue) (own : Option (Option SlotState) → Item → Option (Option SlotState))
     (one : (t : TableValue) (i : Item) → group_in g (step t i).groups ≡ where_so (names g i) (λ o. own o i) (group_in g t.groups)) where
   all_items : (t : TableValue) (is : List Item) → group_in g (fold step t is).groups ≡ fold own (group_in g t.groups) (items_for g is)
@@ -113,7 +113,7 @@ frames_done_in law g from t (u ∷ us) =
     ∙ (sym (fold-append (done_for from) (group_in g t.groups) (items_for g u.1) (items_for g (items_freed us)))
     ∙ ap (fold (done_for from) (group_in g t.groups)) (sym (filter-append (names g) u.1 (items_freed us)))))
 
--- Items that come.
+-- Items that arrive.
 
 item_comes_in : EachGroup → (g : Addr) (from : NodeId) (t : TableValue) (is : List Item) → group_in g (fold (item_comes from) t is).groups ≡ fold (came_for t.version from) (group_in g t.groups) (items_for g is)
 item_comes_in law g from t is = ap (group_in g) (groups_are t is) ∙ law.arrived t.version g from is t.groups
@@ -150,7 +150,7 @@ pub packed_in : EachGroup → (g : Addr) (b : NodeId) (room : ℕ) (items : List
 packed_in law g b room items t apart is =
     law.taken g t.version b.number room t.groups apart ∙ ap (λ xs. stepped (slot_took b.number (length (items_for g xs))) (group_in g t.groups)) (sym is)
 
--- What each event makes of each group, in the words of the past.
+-- Each group after each event, in terms of the past.
 module _ (each : EachGroup) (plan : NodePlan) (past : List Happened) (v : NodeValue) (was : StandsForPast plan past v) (g : Addr) where
   pub asked_groups : (r : Request) (reply : Reply) → AreInOrder v.table.groups → AreWithinLimits v.table.tenants → reply ≡ table_reply r v.table → group_in g (node_did reply r.what v).table.groups ≡ group_after plan g past (Asked r) (Replied reply) (group_in g v.table.groups)
   asked_groups r reply order limits is =
@@ -158,7 +158,7 @@ module _ (each : EachGroup) (plan : NodePlan) (past : List Happened) (v : NodeVa
       ∙ (ap (λ m. asked_for g m v.watch.noticed reply r.what (group_in g v.table.groups)) was.beside.me
       ∙ ap (λ (w : Watch). asked_for g plan.me w.noticed reply r.what (group_in g v.table.groups)) was.beside.watch)
 
-  -- a node with a number beyond all has no frames
+  -- a node with a number beyond the greatest number of nodes has no frames
   no_frames : (key : List ℕ) (n : ℕ) (hs : List Happened) → NODES ≤ n → frames_to key n hs ≡ []
   unfolding frames_to
   no_frames key n [] far = refl
@@ -219,7 +219,7 @@ module _ (each : EachGroup) (plan : NodePlan) (past : List Happened) (v : NodeVa
   pub ticked_groups : group_in g (node_ticked v).table.groups ≡ group_after plan g past Tick (Ticked (Noticed (due v.watch))) (group_in g v.table.groups)
   ticked_groups = notices_in each g v.table (rising (due v.watch))
 
--- the batch that is sent is the table's
+-- the batch that is sent is the table's batch
 sent_items : (xs : List Item) (items : List Item) → unless_empty xs ≡ Some items → items ≡ xs
 sent_items [] items e = absurd (cc)
 sent_items (x ∷ xs) items e = sym (ap (unwrap_list) e)
@@ -235,13 +235,13 @@ next_items v b items e = by (is_reached v b && has_room (window_to v b.number)) 
     by true e = sent_items (batch_to (room_to v b) v.table b) items e
     by false e = absurd (cc)
 
--- a batch has of each group a front of what waits there
+-- a batch has, for each group, the first of the items that wait there
 pub front_taken : EachGroup → (v : NodeValue) (b : NodeId) (g : Addr) (items : List Item) → AreApart v.table.groups.rows → items ≡ batch_to (room_to v b) v.table b
     → items_for g items ≡ map (item_for g) (take (length (items_for g items)) (waiting_in (group_in g v.table.groups) b.number))
 front_taken law v b g items apart is =
     subst (λ xs. items_for g xs ≡ map (item_for g) (take (length (items_for g xs)) (waiting_in (group_in g v.table.groups) b.number))) (sym is) (law.front g v.table.version b.number (room_to v b) v.table.groups apart)
 
--- a batch takes no more of a group than waits there
+-- a batch takes no more items of a group than wait there
 pub waiting_enough : EachGroup → (v : NodeValue) (b : NodeId) (g : Addr) (items : List Item) → AreApart v.table.groups.rows → items ≡ batch_to (room_to v b) v.table b → length (items_for g items) ≤ length (waiting_in (group_in g v.table.groups) b.number)
 waiting_enough law v b g items apart is =
     let n = length (items_for g items) in

@@ -1,4 +1,4 @@
--- Every node is what its past says: the induction over pasts.
+-- The past determines the state of every node: the induction over pasts.
 use Rattle.gb_types.specs.Common.{◌≡◌, ℕ, inl, inr, List, [], ◌∷◌, length, arith, Option, Some, None, Result, Ok, Err, refl, sym, ap, subst, ◌∙◌, Bool, true, ◌⊎◌, ◌≤◌, false, not, ◌&&◌, nat_eq, nat_lt, fold, IfSome, option_map, if◌then◌else◌, nat_tests, nat_cmp, cases_Bool, length-set, get_or-replicate, All-nil, All-cons, All-append, rising}
 use Rattle.std.specs.FinSet as set
 use Rattle.gb_types.specs.declared.{address.Addr.Addr, limits.TheConstants.NODES, node.NodeId.NodeId, refusal.Refusal.TheVariants.Stopped, refusal.Refusal.TheVariants.OutOfMemory, reply.Reply.Reply, reply.Reply.TheVariants.Done, reply.Reply.TheVariants.Refused, request.Request.Request, request.Action.Action, request.Action.TheVariants.AddTenant, request.Action.TheVariants.Group, spec.TenantRow.TenantRow}
@@ -28,12 +28,12 @@ use Rattle.gb_node.proofs.AskedLemmas.{AreWithinLimits, done_is, tenant_within}
 use Rattle.gb_node.proofs.OrderLemmas.{did_order, frames_done_order, frame_comes_order, notices_order, did_living, frames_done_living, frame_comes_living, notices_living}
 use Rattle.gb_node.proofs.LinkLemmas.{took_moved, packed_moved, ticked_moved, halted_moved, told as packet_told}
 
--- there is a place for each node
+-- there is a window and a receiver for each node
 pub record HasTables (v : NodeValue) : Type 0 where
   pub windows : length v.windows ≡ NODES
   pub receivers : length v.receivers ≡ NODES
 
--- what a step has to show
+-- the facts that a step has to prove
 record Goes (plan : NodePlan) (past : List Happened) (v : NodeValue) (e : NodeEvent) (a : NodeAnswer) (w : NodeValue) : Type 0 where
   moved : Moved v.key e a v w
   tables : HasTables w
@@ -43,7 +43,7 @@ record Goes (plan : NodePlan) (past : List Happened) (v : NodeValue) (e : NodeEv
   told : (g : Addr) → IsTold plan.me (group_after plan g past e a (group_of plan g past)) (told_after plan g past e a (told_of plan g past))
 
 module _ (law : WhatIsWrittenIsRead) (each : EachGroup) (count : EachCount) (stay : StayInOrder) (slots : SlotLaws) (few : NoticedByCalls) (plan : NodePlan) (right : IsNodePlan plan) (past : List Happened) (v : NodeValue) (was : StandsForPast plan past v) (has : HasTables v) (order : AreInOrder v.table.groups) (limits : AreWithinLimits v.table.tenants) where
-  -- a group that an event leaves is told nothing
+  -- a group that an event leaves receives no call
   left : (g : Addr) (e : NodeEvent) (a : NodeAnswer) → LeavesGroup plan g past e a → IsTold plan.me (group_after plan g past e a (group_of plan g past)) (told_after plan g past e a (told_of plan g past))
   left g e a leaves = subst (λ o. IsTold plan.me o (told_after plan g past e a (told_of plan g past))) (leaves.0 (group_of plan g past)) (subst (IsTold plan.me (group_of plan g past)) (leaves.1 (told_of plan g past)) (was.told g))
 
@@ -209,7 +209,7 @@ added_within v (Asked r) (Replied Done) w (inr went) = by v.stopped went.0
     by false e = adds r.what (done_is r v.table (one_reply e))
 added_within v e a w turned = λ k d l. absurd (omega arith)
 
--- a node comes from one that was started rightly
+-- a node that is in a state after a past was started by a valid plan
 pub started : (plan : NodePlan) (past : List Happened) (v : NodeValue) → ComesTo plan past v → IsNodePlan plan
 unfolding ComesTo
 started plan [] v comes = comes.0
@@ -229,7 +229,7 @@ module _ (law : WhatIsWrittenIsRead) (each : EachGroup) (count : EachCount) (sta
         limits = subst AreWithinLimits (sym step.moved.tenants) (All-append (λ (r : TenantRow). is_over_limits r ≡ false) comes.0.table.tenants (added h.event h.answer) before.limits (added_within comes.0 h.event h.answer v comes.2));
       }
 
--- what a node is, and what it shows of each group, the past says
+-- the past determines the state of a node, and what it shows of each group
 pub of_past : SlotLaws → (plan : NodePlan) (past : List Happened) (v : NodeValue) → StandsForPast plan past v → IsOfPast plan past v
 of_past slots plan past v was = record {
   beside = was.beside;

@@ -5,7 +5,7 @@ use Rattle.gb_frame.specs.Common.{packet_of, tagged_text, header_text, tag_of, p
 use Rattle.gb_frame.proofs.TextLemmas.{length-tag_of}
 use Rattle.gb_node.specs.KeptAcks.{IsKept}
 
--- all of them are as long
+-- each packet without a frame has the shortest length
 pub bare_len : (key : List ℕ) (h : Head) → length (packet_text key (packet_of h [])) ≡ SHORTEST
 unfolding header_text
 bare_len key h =
@@ -13,7 +13,7 @@ bare_len key h =
     let tag : List ℕ = tag_of key tagged in
     omega (arith, length-append tagged tag, length-tag_of key tagged)
 
--- nothing is kept
+-- a new key keeps no packet
 pub none_kept : (key : List ℕ) (n i : ℕ) → IfSome (slice_index_or (replicate n None) i None) (IsKept key)
 none_kept key zero i = tt
 none_kept key (suc n) zero = tt

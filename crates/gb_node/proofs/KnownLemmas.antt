@@ -5,7 +5,7 @@ use Rattle.gb_frame.specs.Common.{Content, reading}
 use Rattle.gb_node.specs.NodeValue.{NodeValue}
 use Rattle.gb_node.specs.NodeStep.{is_here, if_here, read_at}
 
--- they are a packet under the node's key
+-- bytes that are known to be a packet for a node are a packet under its key
 pub known_reads : (v : NodeValue) (bytes : List ℕ) → is_ok (read_at v bytes) ≡ true → is_ok (reading v.key bytes) ≡ true
 known_reads v bytes e = by (reading v.key bytes) e
   where
@@ -13,7 +13,7 @@ known_reads v bytes e = by (reading v.key bytes) e
     by (Ok c) e = refl
     by (Err fault) e = absurd (cc)
 
--- and it is for the node
+-- bytes that are known to be a packet for a node are for that node
 pub known_here : (v : NodeValue) (bytes : List ℕ) (c : Content) → is_ok (read_at v bytes) ≡ true → reading v.key bytes ≡ Ok c → read_at v bytes ≡ Ok c
 known_here v bytes c e is = ap (if_here v) is ∙ by (is_here v c) (ap (λ r. is_ok (if_here v r)) (sym is) ∙ e)
   where

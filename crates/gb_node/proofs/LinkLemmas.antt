@@ -1,4 +1,4 @@
--- What a packet that is taken, a batch that is packed and a tick change in a node, as its past will say.
+-- The changes that a packet that is taken, a batch that is packed and a tick make in a node, in terms of its past.
 use Rattle.gb_types.specs.Common.{◌≡◌, ◌≢◌, ℕ, ◌+◌, ◌<◌, true, false, ◌&&◌, ◌||◌, ◌⊎◌, inl, inr, List, [], ◌∷◌, ◌++◌, length, map, Some, Ok, refl, sym, ap, ◌∙◌, arith, nat_eq, nat_lt, get_or, filter, fold, not, slice_set, list_any, cases_Bool, eqb_tells, append-nil, get_or-set_same, get_or-set_other, and-false, or-false, rising}
 use Rattle.std.specs.FinSet as set
 use Rattle.gb_types.specs.declared.{limits.TheConstants.NODES, node.NodeId.NodeId}
@@ -93,7 +93,7 @@ receives_first n m r = elim (cases_Bool (nat_eq n 0)) [
   | inr h ↦ rw h (by_admission r n m (admission r n))
 ]
 
--- the place of a node in a table over nodes
+-- the element at a node's index after it was set
 at_same : {X : Type 0} (xs : List X) (i b : ℕ) (x d : X) → i ≡ b → b < length xs → get_or (slice_set xs i x) b d ≡ x
 at_same xs i b x d same within = ap (λ k. get_or (slice_set xs k x) b d) same ∙ get_or-set_same xs b x d within
 
@@ -170,7 +170,7 @@ module _ (v : NodeValue) (b : NodeId) (items : List Item) (law : WhatIsWrittenIs
   unfolding said
   told = read_one v.key (packet_text v.key said) said (law v.key said fit)
 
-  -- the batch that is read again, where it was packed for the node
+  -- the packed batch is read back, where it was packed for the node
   batch_same : (x : NodeId) → nat_eq b.number x.number ≡ true → packed_for v.key x.number (Pack b) (Sent (SentPacket (packet_text v.key said))) ≡ items ∷ []
   unfolding said
   batch_same x e = rw e (ap (map (λ (c : Content). c.items)) told)

@@ -39,6 +39,6 @@ pushed_frame version w x out n items h is number batch =
     let found : frame_again x n ≡ Some (n, out) = rw (is, number) (again_pushed w out h) in
     (omega (arith, h.started, number), number, again_frame version x n ∙ (ap (option_map (frame_of version)) found ∙ ap (λ is. Some (n, is)) batch))
 
--- what was written are the texts of these items
+-- the texts that were written are those of these items
 pub batch_is : TextsTellItems → (version : Version) (bytes before : List ℕ) (items : List Item) → before ≡ [] → bytes ≡ before ++ items_text version items → All (IsItem version) items → batch_in version bytes ≡ items
 batch_is tell version bytes before items empty written fit = tell version bytes items (record { parts = written ∙ ap (λ b. b ++ items_text version items) empty; fit = fit })

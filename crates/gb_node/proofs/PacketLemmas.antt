@@ -1,4 +1,4 @@
--- The packet that bytes are under a key, and what decoding reads from them.
+-- The packet that bytes are under a key, and the content that decoding reads from them.
 use Rattle.gb_types.specs.Common.{◌≡◌, ℕ, List, [], ◌∷◌, Option, Some, None, Ok, Err, refl, ap, ◌∙◌, Result, is_none, if◌then◌else◌}
 use Rattle.gb_frame.specs.declared.fault.PacketFault.{PacketFault}
 use Rattle.gb_frame.specs.Common.{Content, reading, unless, fault_in, content_in}

@@ -1,4 +1,4 @@
--- What a step adds to a past, and what it changes in the node: the induction over pasts.
+-- The changes that a step makes in a past and in the node: the induction over pasts.
 use Rattle.gb_types.specs.Common.{◌≡◌, ℕ, suc, ◌+◌, ◌<◌, ◌≤◌, Bool, true, false, ◌&&◌, ◌||◌, inl, inr, List, [], ◌∷◌, ◌++◌, length, map, refl, sym, ap, ◌∙◌, arith, nat_le, length-append, filter, not, list_any, cases_Bool, nat_tests, filter-append}
 use Rattle.std.specs.FinSet as set
 use Rattle.gb_types.specs.declared.{address.Addr.Addr, node.NodeId.NodeId}
@@ -29,7 +29,7 @@ replay-append : (d : Watch) (xs ys : List Call) → replay d (xs ++ ys) ≡ repl
 replay-append d [] ys = refl
 replay-append d (x ∷ xs) ys = ap (λ w. after w x) (replay-append d xs ys)
 
--- of frames with numbers up to a bound, those stay that did before and are not acknowledged now
+-- frames with numbers up to a bound stay if they did before and are not acknowledged now
 within : (test new : ℕ → Bool) (bound n : ℕ) (fs : List (List Item)) → n + length fs ≤ bound + 1
     → filter (λ u. not (test u.0 || (nat_le u.0 bound && new u.0))) (numbered n fs) ≡ filter (λ u. not (new u.0)) (filter (λ u. not (test u.0)) (numbered n fs))
 unfolding numbered
@@ -46,7 +46,7 @@ within test new bound n (f ∷ fs) le =
           ]
     ]
 
--- frames beyond it stay, where none was acknowledged
+-- frames with numbers above a bound stay, where none of them was acknowledged
 beyond : (test new : ℕ → Bool) (bound n : ℕ) (fs : List (List Item)) → bound < n → ((k : ℕ) → bound < k → test k ≡ false)
     → filter (λ u. not (test u.0 || (nat_le u.0 bound && new u.0))) (numbered n fs) ≡ numbered n fs
 unfolding numbered
@@ -87,7 +87,7 @@ left_after key b h past =
     ∙ (ap (λ us. us ++ filter whole (numbered (1 + length fs) gs)) (within test new (length fs) 1 fs (omega arith))
     ∙ ap (λ us. filter (λ u. not (new u.0)) (filter (λ u. not (test u.0)) (numbered 1 fs)) ++ us) (ap (λ k. filter whole (numbered k gs)) place ∙ later)))
 
--- What a step makes of a node.
+-- The state of a node after a step.
 pub record Moved (key : List ℕ) (e : NodeEvent) (a : NodeAnswer) (v w : NodeValue) : Type 0 where
   pub key_is : w.key ≡ v.key
   pub me : w.table.me ≡ v.table.me
@@ -103,7 +103,7 @@ pub record Moved (key : List ℕ) (e : NodeEvent) (a : NodeAnswer) (v w : NodeVa
   pub undone : (b : NodeId) → (window_to w b.number).undone ≡ filter (λ u. not (list_any (is_ack b.number u.0) (came key e a))) ((window_to v b.number).undone) ++ numbered ((window_to v b.number).next) (packed_for key b.number e a)
   pub received : (b : NodeId) (n : ℕ) → set.contains (receiver_from w b.number) n ≡ (is_taken_by key b.number n e a || set.contains (receiver_from v b.number) n)
 
--- so the past says what the node is then
+-- the longer past determines the state of the node after the step
 pub moved_says : (plan : NodePlan) (past : List Happened) (e : NodeEvent) (a : NodeAnswer) (v w : NodeValue) → StandsForPast plan past v → Moved plan.cluster_key e a v w
     → ((g : Addr) → group_in g w.table.groups ≡ group_after plan g past e a (group_in g v.table.groups))
     → ((g : Addr) → IsTold plan.me (group_after plan g past e a (group_of plan g past)) (told_after plan g past e a (told_of plan g past)))

@@ -1,4 +1,4 @@
--- Events that only read, and how much memory the answers to other events hold.
+-- Events that only read, and the memory that the answers to other events hold.
 use Rattle.gb_types.specs.Common.{◌≡◌, ℕ, ◌≤◌, ◌⊎◌, inl, inr, Bool, true, false, List, length, Option, Some, None, refl, sym, ap, subst, ◌∙◌, arith, ◌+◌, not, is_some, nat_lt, nat_le, option_map, if◌then◌else◌, IfSome, ◌||◌, nat_cmp, true≢false, false≢true, length-append, limits_of}
 use Rattle.std.specs.FinSet as set
 use Rattle.gb_types.specs.declared.{address.Addr.Addr, entry.Entry.Entry, version.Version.Version, node.NodeId.NodeId, reply.Reply.Reply, request.Request.Request, request.Action.Action, request.Action.TheVariants.AddTenant, request.Action.TheVariants.Group, spec.Spec.Spec, spec.TenantRow.TenantRow, new_message.NewMessage.NewMessage}
@@ -27,7 +27,7 @@ fetch_did noticed addr from most (Said seq) t = refl
 fetch_did noticed addr from most (Log entries) t = refl
 fetch_did noticed addr from most (Refused why) t = refl
 
--- what a running node becomes by an event that only reads
+-- a running node stays the same at an event that only reads
 read_running : (v : NodeValue) (e : NodeEvent) → is_read e ≡ true → (running_turn v e).value ≡ v
 read_running v (Asked r) h = ap (λ t. record v { table = t }) (by r.what h)
   where
@@ -141,7 +141,7 @@ packed_within : (v : NodeValue) (b : NodeId) (o : Option (List Item)) → IfSome
 packed_within v b None h = tt
 packed_within v b (Some items) h = packet_fits v.key (content_to v b (window_to v b.number).next items) h
 
--- what is spelt where something may be sent
+-- a packet that is sent has a text
 spelt_if : (v : NodeValue) (b : NodeId) (c : Option Content) → pack_content v b ≡ c → IsSpelt v (Pack b) (Sent (sent v c)) → IfSome c IsPacket
 spelt_if v b None is h = tt
 spelt_if v b (Some c) is h = subst (λ (o : Option Content). IfSome o IsPacket) is h

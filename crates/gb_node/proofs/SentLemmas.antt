@@ -1,4 +1,4 @@
--- What a running node answers, and what it says in a packet.
+-- The answers of a running node, and the content of the packets that it sends.
 use Rattle.gb_types.specs.Common.{◌≡◌, ◌≢◌, ℕ, ◌<◌, inl, inr, true, false, Bool, List, Option, Some, None, refl, sym, ap, ◌∙◌, arith, ◌⊎◌, ◌&&◌, not, nat_eq, nat_lt, IfSome, if◌then◌else◌, cases_Bool, nat_tests}
 use Rattle.std.specs.FinSet as set
 use Rattle.gb_types.specs.declared.{refusal.Refusal.TheVariants.OutOfMemory, reply.Reply.TheVariants.Refused, request.Request.Request}
@@ -15,7 +15,7 @@ use Rattle.gb_node.specs.declared.answer.NodeAnswer.TheVariants.{Reply as Replie
 use Rattle.gb_node.specs.declared.event.NodeEvent.TheVariants.{Request as Asked, Packet as Came, Pack, Again, Ack, Tick, Stop}
 use Rattle.gb_node.proofs.EventLemmas.{starved_says}
 
--- an answer is a running node's, as it should be, where it is neither a stopped node's nor want of memory
+-- an answer that neither comes from a stopped node nor reports lack of memory is that of a running node
 pub acts : (v : NodeValue) (e : NodeEvent) (a : NodeAnswer) (w : NodeValue) → (stopped_answer e ≡ a → ⊥) → (a ≡ Sent (SentRefused OutOfMemory) → ⊥) → (a ≡ Replied (Refused OutOfMemory) → ⊥) → IsTurn v e a w → Acts v e a
 acts v e a w never unsent unsaid (inl starved) = absurd (by (starved_says e (turn v e).answer a starved.0))
   where
@@ -27,7 +27,7 @@ acts v e a w never unsent unsaid (inr went) = elim (cases_Bool v.stopped) [
   | inr h ↦ record { running = h; is = went.0 ∙ ap (λ b. (if b then record { value = v; answer = stopped_answer e } else running_turn v e).answer) h }
 ]
 
--- a stopped node sends none
+-- a stopped node sends no packet
 stopped_silent : (e : NodeEvent) (text : List ℕ) → stopped_answer e ≡ Sent (SentPacket text) → ⊥
 stopped_silent (Asked r) text x = cc
 stopped_silent (Came bytes) text x = cc

@@ -1,4 +1,4 @@
--- What the rules read of a slot is what they read of its group, as the past has it.
+-- The part that the rules read of a slot is the part that they read of its group, computed from the past.
 use Rattle.gb_types.specs.Common.{◌≡◌, ℕ, suc, ◌+◌, ◌<◌, List, [], ◌∷◌, length, get_or, Bool, true, false, not, ◌&&◌, ◌||◌, nat_eq, cond, Option, Some, None, refl, sym, ◌∙◌, ap, arith, filter, if◌then◌else◌, option_map, list_all, list_any, range_with_len, nat_cmp, eq_by_cmp, or-true, eq-eqb, or_right}
 use Rattle.std.specs.Cmp.{unsigned_tied}
 use Rattle.std.specs.FinSet as set
@@ -20,7 +20,7 @@ all_alike p q (k ∷ ks) same =
     let rest = all_alike p q ks (λ b there. same b (ap (λ c. eq_by_cmp nat_cmp b k || c) there ∙ or-true (eq_by_cmp nat_cmp b k))) in
     λ i. here i && rest i
 
--- a message is finished for the slot where it is so by the past
+-- a message is finished for the slot exactly if it is finished by the past
 finished_is : (me : NodeId) (s : SlotState) (t : Told) (k : ℕ) → SlotTold me s t → k < length s.acknowledged → is_finished_told me.number t (k + 1) ≡ slot.is_finished s.spec s.noticed (get_or s.acknowledged k set.empty)
 finished_is me s t k h low =
     all_alike (λ b. nat_eq b me.number || (has_noticed t.calls b || t.acknowledged (k + 1) b)) (λ b. set.contains s.noticed b || set.contains (get_or s.acknowledged k set.empty) b) (set.items t.spec.members)
@@ -34,7 +34,7 @@ finished_is me s t k h low =
         let other : is_other s.spec s.me.number b ≡ true = (λ i. is_other (h.spec i) (h.here i).number b) ∙ rw (there, is) refl in
         rw is (ap (λ c. c || t.acknowledged (k + 1) b) (sym (h.stands.noticed b other)))
 
--- numbers from the first one on that do not pass are counted alike
+-- the numbers from the first one on that are not finished are counted alike
 counts : (finished : ℕ → Bool) (spec : Spec) (noticed : set.FinSet nat_cmp) (first : ℕ) (acks : List (set.FinSet nat_cmp)) → ((k : ℕ) → k < length acks → finished (first + k) ≡ slot.is_finished spec noticed (get_or acks k set.empty))
     → unfinished_of spec noticed acks ≡ length (filter (λ seq. not (finished seq)) (range_with_len first (length acks)))
 counts finished spec noticed first [] same = refl
@@ -58,7 +58,7 @@ unfinished_is me s t h =
     swap : (k : ℕ) → 1 + k ≡ k + 1
     swap k = omega arith
 
--- What is shown, and what waits.
+-- The part that the rules read, and the items that wait.
 
 shown_told : LogIs → (me : NodeId) (s : SlotState) (t : Told) → SlotTold me s t → shown s ≡ shown_of me.number t
 shown_told law me s t h =

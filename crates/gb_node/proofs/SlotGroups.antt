@@ -1,4 +1,4 @@
--- Each group of a node as its slot, which stands for what the past says of the group.
+-- Each group of a node as its slot, which represents the calls that the past has for the group.
 use Rattle.gb_types.specs.Common.{ℕ, ◌≡◌, ◌+◌, ◌<◌, ◌||◌, false, Bool, List, [], ◌∷◌, length, fold, get_or, Option, Some, None, nat_eq, nat_lt, if◌then◌else◌, nat_cmp, message_of, rising}
 use Rattle.std.specs.FinSet as set
 use Rattle.gb_types.specs.declared.{address.Addr.Addr, limits.TheConstants.NODES, node.NodeId.NodeId, version.Version.Version, reply.Reply.Reply, request.Action.Action, request.Action.TheVariants.AddTenant, request.Action.TheVariants.Group, request.GroupCommand.GroupCommand}
@@ -19,9 +19,9 @@ use Rattle.gb_node.specs.Past.{Happened, read, is_first}
 use Rattle.gb_node.specs.PastGroups.{Told, noticed_after, freed_by, items_freed, told_of, living_of}
 use Rattle.gb_node.specs.PastLaw.{IsOfPastBesideGroups}
 
--- What each event makes of a group's slot.
+-- The group's slot after each event.
 
--- a command on the group with this address is done: made, it knows which nodes are noticed
+-- the group's slot after a command on the group at this address was done; a new group knows which nodes are noticed
 abbrev pub command_slot : Addr → NodeId → set.FinSet nat_cmp → Addr → GroupCommand → Option (Option SlotState) → Option (Option SlotState)
 command_slot g me noticed addr (Make spec) o = if is_addr g addr then or_added o (Some (Some (new_slot spec me noticed))) else where_so (is_reached_by g addr) passed o
 command_slot g me noticed addr Open o = where_so (is_addr g addr) (stepped (slot_moved Opened Done)) o
@@ -29,17 +29,17 @@ command_slot g me noticed addr Shut o = where_so (is_addr g addr) (stepped (slot
 command_slot g me noticed addr Drop o = where_so (is_addr g addr) dropped o
 command_slot g me noticed addr command o = o
 
--- a request is done
+-- the group's slot after a request was done
 abbrev pub done_slot : Addr → NodeId → set.FinSet nat_cmp → Action → Option (Option SlotState) → Option (Option SlotState)
 done_slot g me noticed (AddTenant row) o = o
 done_slot g me noticed (Group addr command) o = command_slot g me noticed addr command o
 
--- a request is said under this number
+-- the group's slot after a message got this number
 abbrev pub said_slot : Addr → ℕ → Action → Option (Option SlotState) → Option (Option SlotState)
 said_slot g seq (Group addr (Say message)) o = where_so (is_addr g addr) (stepped (slot_said message.payload (Said seq))) o
 said_slot g seq what o = o
 
--- a request has this reply
+-- the group's slot after a request with this reply
 abbrev pub asked_for : Addr → NodeId → set.FinSet nat_cmp → Reply → Action → Option (Option SlotState) → Option (Option SlotState)
 asked_for g me noticed Done what o = done_slot g me noticed what o
 asked_for g me noticed (Said seq) what o = said_slot g seq what o
@@ -67,12 +67,12 @@ group_after plan g past (Pack b) (Sent (SentPacket text)) o = fold (packed_from 
 group_after plan g past Tick (Ticked (Noticed found)) o = fold noticed_for o (rising found)
 group_after plan g past event answer o = o
 
--- the group's slot: what all that happened made of it
+-- the group's slot after all that happened
 unfoldable pub group_of : NodePlan → Addr → List Happened → Option (Option SlotState)
 group_of plan g [] = None
 group_of plan g (h ∷ past) = group_after plan g past h.event h.answer (group_of plan g past)
 
--- What the slot is, beside what the past tells.
+-- The state of the slot, beside what the past determines.
 
 -- for each own message the nodes that have it for good: this one, and those that acknowledged it
 pub record AcksAgree (me : ℕ) (acks : List (set.FinSet nat_cmp)) (acknowledged : ℕ → ℕ → Bool) : Type 0 where
@@ -93,7 +93,7 @@ IsTold me (Some None) (Some None) = Unit {0}
 IsTold me (Some (Some s)) (Some (Some t)) = SlotTold me s t
 IsTold me o p = ⊥
 
--- What a node is its past says, and each group's slot stands for what the past tells of the group.
+-- The past determines the node, and each group's slot represents the calls that the past has for the group.
 pub record StandsForPast (plan : NodePlan) (past : List Happened) (v : NodeValue) : Type 0 where
   pub beside : IsOfPastBesideGroups plan past v
   pub groups : (g : Addr) → group_in g v.table.groups ≡ group_of plan g past

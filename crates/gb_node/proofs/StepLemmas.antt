@@ -1,4 +1,4 @@
--- Each answer of a node is what its past says.
+-- The past determines each answer of a node.
 use Rattle.gb_types.specs.Common.{◌≡◌, ◌≢◌, ℕ, ◌<◌, ◌≤◌, inl, inr, true, false, Bool, List, ◌∷◌, length, map, take, Option, Some, None, Result, Ok, Err, refl, sym, ap, subst, ◌∙◌, arith, ◌+◌, ◌&&◌, ◌||◌, not, nat_eq, nat_lt, nat_le, is_some, option_map, slice_index, if◌then◌else◌, nat_cmp, nat_tests}
 use Rattle.std.specs.FinSet as set
 use Rattle.gb_types.specs.declared.{address.Addr.Addr, node.NodeId.NodeId, refusal.Refusal.TheVariants.Stopped, refusal.Refusal.TheVariants.Denied, reply.Reply.Reply, reply.Reply.TheVariants.Refused, request.Request.Request, request.Action.Action, request.Action.TheVariants.AddTenant, request.Action.TheVariants.Group}
@@ -33,7 +33,7 @@ use Rattle.gb_node.proofs.ToldLemmas.{SlotLaws, reply_is}
 
 -- Requests.
 
--- the table that a past makes, but for its groups
+-- the table after a past, but for its groups
 abbrev past_table : NodePlan → List Happened → TableValue
 past_table plan past = record (new_table plan.me plan.nodes plan.version plan.places plan.admin_key) { tenants = tenants_in past }
 
@@ -44,7 +44,7 @@ module _ (plan : NodePlan) (past : List Happened) (v : NodeValue) (was : IsOfPas
   at_group : (answer : Shown → Reply) (addr : Addr) → group_reply answer addr v.table.groups ≡ group_answer answer (shown_in plan.me.number (told_of plan addr past))
   at_group answer addr = reply_is answer (group_in addr v.table.groups) ∙ ap (group_answer answer) (was.shown addr)
 
-  -- a group can be made no more where it was told of, or a later generation of its room was
+  -- a group cannot be made any more after it, or a later generation of its room, was made
   made_is : (addr : Addr) → is_some (group_in addr v.table.groups) ≡ is_some (told_of plan addr past)
   made_is addr = there (group_in addr v.table.groups) ∙ (ap is_some (was.shown addr) ∙ same (told_of plan addr past))
     where
@@ -68,7 +68,7 @@ module _ (plan : NodePlan) (past : List Happened) (v : NodeValue) (was : IsOfPas
   admitted_is (Group addr (Say message)) = at_group (λ s. say_answer plan.version s message) addr
   admitted_is (Group addr (Fetch from most)) = at_group (λ s. fetch_answer s from most) addr
 
-  -- what a node should reply is what its past says
+  -- the reply that a node should give is the one that its past determines
   should_reply : (r : Request) → (turn v (Asked r)).answer ≡ Replied (past_answer plan past r)
   should_reply r = by v.stopped ∙ (λ i. Replied (if was.beside.stopped i then Refused Stopped else table_says i))
     where
@@ -196,7 +196,7 @@ unnoticed true false true silent e = absurd (cc)
 unnoticed true false false silent e = refl
 
 module _ (few : NoticedByCalls) (plan : NodePlan) (right : IsNodePlan plan) (past : List Happened) (v : NodeValue) (was : IsOfPast plan past v) where
-  -- of a tick that notices these
+  -- the facts of a tick that notices these nodes
   module _ (found : set.FinSet nat_cmp) (same : found ≡ due v.watch) where
     found_is : found ≡ due (replay (start plan.me.number plan.nodes plan.silence) (watched plan.cluster_key past))
     found_is = same ∙ ap due was.beside.watch

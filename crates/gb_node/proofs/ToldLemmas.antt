@@ -1,4 +1,4 @@
--- Each slot stands for what the past told its group.
+-- Each slot represents the calls that the past has for its group.
 use Rattle.gb_types.specs.Common.{◌≡◌, ℕ, ◌+◌, ◌≤◌, inl, inr, List, [], ◌∷◌, ◌++◌, length, drop, Option, Some, None, refl, sym, ap, subst, ◌∙◌, arith, not, Bool, true, false, ◌&&◌, ◌⊎◌, fold, option_map, nat_eq, nat_lt, if◌then◌else◌, nat_cmp, cases_Bool, cases_eq, nat_tests, message_of}
 use Rattle.std.specs.FinSet as set
 use Rattle.gb_types.specs.declared.{address.Addr.Addr, entry.Entry.Entry, limits.TheConstants.NODES, message.MsgId.MsgId, node.NodeId.NodeId, version.Version.Version, reply.Reply.Reply, request.Request.Request, request.Action.Action, request.Action.TheVariants.AddTenant, request.Action.TheVariants.Group, request.GroupCommand.GroupCommand, spec.Spec.Spec, new_message.NewMessage.NewMessage}
@@ -22,7 +22,7 @@ use Rattle.gb_node.proofs.AcknowledgedLemmas.{acks_said, acks_done}
 use Rattle.gb_node.specs.StepLaw.{group_answer}
 use Rattle.gb_node.specs.declared.answer.Frame.{Frame}
 
--- What holds of a slot for every history that it stands for.
+-- The laws of a slot for every history that it represents.
 pub record SlotLaws : Type 0 where
   pub fresh : FreshStands
   pub moved : MovedStands
@@ -39,7 +39,7 @@ pub record SlotLaws : Type 0 where
   pub waiting_took : WaitingTook
   pub waiting_elsewhere : WaitingElsewhere
 
--- A step of a slot, beside what the past makes of its group.
+-- A step of a slot, beside the same step of its group in the past.
 
 told_step : (me : NodeId) (step : SlotState → SlotState) (more : Told → Told) (o : Option (Option SlotState)) (t : Option (Option Told))
     → ((s : SlotState) (x : Told) → o ≡ Some (Some s) → SlotTold me s x → SlotTold me (step s) (more x)) → IsTold me o t → IsTold me (stepped step o) (stepped more t)
@@ -76,7 +76,7 @@ told_added me (Some None) (Some (Some t)) new first h n = absurd h
 told_added me (Some (Some s)) None new first h n = absurd h
 told_added me (Some (Some s)) (Some None) new first h n = absurd h
 
--- where a test holds
+-- a step that is made where a test holds
 both_where : (me : NodeId) (b : Bool) (f : Option (Option SlotState) → Option (Option SlotState)) (k : Option (Option Told) → Option (Option Told)) (o : Option (Option SlotState)) (t : Option (Option Told))
     → (b ≡ true → IsTold me (f o) (k t)) → IsTold me o t → IsTold me (where_so b f o) (where_so b k t)
 both_where me true f k o t goes h = goes refl
@@ -84,7 +84,7 @@ both_where me false f k o t goes h = h
 
 -- A message that is said.
 
--- the reply to a command is read of the group
+-- the reply to a command is computed from the group
 pub reply_is : (answer : Shown → Reply) (o : Option (Option SlotState)) → answer_in answer o ≡ group_answer answer (option_map (option_map shown) o)
 reply_is answer None = refl
 reply_is answer (Some None) = refl
@@ -217,7 +217,7 @@ taken_stands law version me key g past frame o x c h =
       | inr e ↦ rw e acked
     ]
 
--- Batches: no more is taken than waits.
+-- Batches: no more items are taken than wait.
 pub packed_stands : SlotLaws → (me b : NodeId) (is : List Item) (o : Option (Option SlotState)) (x : Option (Option Told))
     → ((s : SlotState) → o ≡ Some (Some s) → length is ≤ length (waiting s b.number)) → IsTold me o x → IsTold me (stepped (slot_took b.number (length is)) o) (stepped (took_from b.number (length is)) x)
 packed_stands law me b is o x front h = told_step me (slot_took b.number (length is)) (took_from b.number (length is)) o x (λ s t there st. one s t st (front s there)) h

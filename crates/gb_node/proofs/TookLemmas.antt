@@ -11,7 +11,7 @@ use Rattle.gb_node.specs.NodeValue.{NodeValue}
 use Rattle.gb_node.specs.declared.answer.Frame.{Frame}
 use Rattle.gb_node.specs.NodeStep.{node_numbered, window_to, receiver_from, without_done, frame_done, fate, new_items, frame_comes, receives, node_took, good_of}
 
--- a node has its number
+-- the node with a node's number is that node
 pub numbered_is : (a : NodeId) → node_numbered a.number ≡ a
 numbered_is a = same_number (node_numbered a.number) a (omega (arith, a.below))
 
@@ -47,7 +47,7 @@ module _ (v : NodeValue) (p : Content) (h : Head) (is : packet_of h p.items ≡ 
       ap (slice_set v.receivers h.from.number) received ∙ ap (λ n. slice_set v.receivers n (receives p.frame (receiver_from v n))) number in
       λ j. record { key = v.key; table = e3 j; room = v.room; windows = e2 j; receivers = e4 j; watch = e0 j; stopped = v.stopped }
 
--- the place of a window and of a receiver is the node's number
+-- the index of a window and of a receiver is the node's number
 pub set_at : (v w : NodeValue) (at number : ℕ) (window : SendWindow (List Item)) (receiver : Received) (table : TableValue) (watch : Watch) → at ≡ number
     → record { key = v.key; table = table; room = v.room; windows = slice_set v.windows number window; receivers = slice_set v.receivers number receiver; watch = watch; stopped = v.stopped } ≡ w
     → record { key = v.key; table = table; room = v.room; windows = slice_set v.windows at window; receivers = slice_set v.receivers at receiver; watch = watch; stopped = v.stopped } ≡ w

@@ -20,7 +20,7 @@ next_is v b reached room some =
     let count = length-map (batch v.table.version b.number (room_to v b) v.table.groups) (item_at v.table.groups.rows) in
     (λ j. if reached j && room j then unless_empty (batch_to (room_to v b) v.table b) else None) ∙ some_items (batch_to (room_to v b) v.table b) (omega (arith, count, some))
 
--- packing it is the node's turn, with room for `most` bytes
+-- packing the next batch is the node's turn, with room for `most` bytes
 pub packs : (v w : NodeValue) (b : NodeId) (most count : ℕ) (text : List ℕ) → v.stopped ≡ false → is_reached v b ≡ true → has_room (window_to v b.number) ≡ true → most ≡ room_to v b
     → count ≡ length (batch v.table.version b.number (room_to v b) v.table.groups) → 0 < count
     → text ≡ packet_text v.key (content_to v b (window_to v b.number).next (batch_to most v.table b)) → w ≡ sent_batch b (Some (batch_to most v.table b)) v → IsTurn v (Pack b) (Sent (SentPacket text)) w

@@ -14,7 +14,7 @@ use Rattle.gb_node.proofs.LinkLemmas.{keeps_all, keeps_frame, keeps_arrived, kee
 
 -- Frames.
 
--- what is taken out of some frames leaves the others
+-- removing some frames leaves the others fitting
 filter_fits : (version : Version) (test : ℕ × List Item → Bool) (us : List (ℕ × List Item)) → AreFitting version us → AreFitting version (filter test us)
 filter_fits version test [] fit = tt
 filter_fits version test (u ∷ us) fit = elim (test u) as (λ b. AreFitting version (cond b (u ∷ filter test us) (filter test us))) [
@@ -40,7 +40,7 @@ again_fits version w n u fit found = elim (nat_eq n 0) as (λ b. cond b (slice_g
   | false ↦ find_fits version (λ u. nat_eq u.0 n) w.undone u fit
 ] found
 
--- a window is written
+-- the windows keep the version after one of them is set
 set_fits : (version : Version) (d : FrameWindow) (ws : List FrameWindow) (c : ℕ) (w : FrameWindow) → ((b : ℕ) → IsOfVersion version (slice_index_or ws b d)) → IsOfVersion version w
     → (b : ℕ) → IsOfVersion version (slice_index_or (set_at ws c w) b d)
 set_fits version d [] c w all fit b = all b
@@ -51,7 +51,7 @@ set_fits version d (x ∷ ws) (suc c) w all fit (suc b) = set_fits version d ws 
 
 -- Tables.
 
--- a table of the same node, with the same cluster and version
+-- a table of the same node, with the same cluster and version, keeps the version
 same_table : (t u : TableValue) (ws : List FrameWindow) → u.me ≡ t.me → u.nodes ≡ t.nodes → u.version ≡ t.version → KeepsVersion t ws → KeepsVersion u ws
 same_table t u ws me nodes version k = record {
   nodes = subst (λ (v : Version). u.nodes ≤ (limits_of v).nodes) (sym version) (subst (λ n. n ≤ (limits_of t.version).nodes) (sym nodes) k.nodes);
@@ -62,7 +62,7 @@ same_table t u ws me nodes version k = record {
 pub noticed_keeps : (t : TableValue) (found : List ℕ) (ws : List FrameWindow) → KeepsVersion t ws → KeepsVersion (notice_each t found) ws
 noticed_keeps t found ws k = let same = keeps_notices t found in same_table t (notice_each t found) ws same.me same.nodes same.version k
 
--- a packet is taken: the frames that it acknowledges are done, then its own frame comes
+-- the version is kept after a packet is taken: the frames that it acknowledges are done, then its own frame comes
 pub taken_keeps : (t mid u : TableValue) (ws : List FrameWindow) (k : ℕ) (old w : FrameWindow) (from : NodeId) (us : List (ℕ × List Item)) (n : ℕ) (items : List Item) (r : Received) (base mask : ℕ)
     → mid ≡ fold (frame_done from) t us → u ≡ frame_comes from n items r mid → w ≡ record { version = old.version; window = without_done base mask old.window } → old ≡ get_or ws k (new_frames t.version) → KeepsVersion t ws → KeepsVersion u (set_at ws k w)
 taken_keeps t mid u ws k old w from us n items r base mask done came without here keeps =
@@ -80,7 +80,7 @@ taken_keeps t mid u ws k old w from us n items r base mask done came without her
           (subst (IsOfVersion t.version) (sym without) (record { same = was.same; fitting = filter_fits t.version _ old.window.undone was.fitting }));
     })
 
--- what is found to be sent again is of the version, and fits
+-- a frame that is found to be sent again is of the version, and fits
 pub undone_fits : (version : Version) (w : FrameWindow) (n : ℕ) (o : Option (ℕ × Bor (List ℕ))) → IsOfVersion version w
     → MatchOption o (frame_again w.window n ≡ None) (λ r. (frame_again w.window n ≡ Some (r.0, batch_in w.version r.1.now)) × IsBatch w.version r.1.now × (0 < r.0))
     → MatchOption o (frame_again w.window n ≡ None) (λ r. (frame_again w.window n ≡ Some (r.0, batch_in version r.1.now)) × IsBatch version r.1.now × (0 < r.0) × FitPacket version (batch_in version r.1.now))
@@ -89,7 +89,7 @@ undone_fits version w n (Some r) is h =
     let found = h.0 ∙ ap (λ (v : Version). Some (r.0, batch_in v r.1.now)) is.same in
     (found, subst (λ (v : Version). IsBatch v r.1.now) is.same h.1, h.2, again_fits version w.window n (r.0, batch_in version r.1.now) is.fitting found)
 
--- a node is started
+-- the windows of a node that is started keep the version
 none_undone : (n b : ℕ) (version : Version) → IsOfVersion version (slice_index_or (replicate n (new_frames version)) b (new_frames version))
 none_undone zero b version = record { same = refl; fitting = tt }
 none_undone (suc n) zero version = record { same = refl; fitting = tt }

@@ -1,4 +1,4 @@
--- What waits in a slot is what waits in its group, as the past has it, after each call.
+-- The items that wait in a slot are those that wait in its group by the past, after each call.
 use Rattle.gb_types.specs.Common.{◌≡◌, ℕ, List, [], ◌∷◌, ◌++◌, Bool, true, false, not, ◌&&◌, refl, sym, ap, ◌∙◌, arith, nat_eq, if◌then◌else◌, nat_tests, and_right, append-nil}
 use Rattle.std.specs.FinSet as set
 use Rattle.gb_types.specs.declared.{entry.Entry.Entry, node.NodeId.NodeId}
@@ -8,7 +8,7 @@ use Rattle.gb_slot.specs.Common.{waiting, SlotState, reaches}
 use Rattle.gb_node.specs.PastGroups.{Told, waits_with, cut_off}
 use Rattle.gb_node.proofs.SlotGroups.{SlotTold}
 
--- items reach each other member that was not noticed
+-- items are put out to each other member that was not noticed
 pub reaches-told : (me : NodeId) (s : SlotState) (t : Told) (b : ℕ) → SlotTold me s t → reaches s b ≡ (is_other t.spec me.number b && not (has_noticed t.calls b))
 reaches-told me s t b h = (λ i. is_other (h.spec i) (h.here i).number b && not (set.contains s.noticed b)) ∙ by (is_other t.spec me.number b) refl
   where
@@ -16,7 +16,7 @@ reaches-told me s t b h = (λ i. is_other (h.spec i) (h.here i).number b && not 
     by true is = ap not (h.stands.noticed b ((λ i. is_other (h.spec i) (h.here i).number b) ∙ is))
     by false is = refl
 
--- what waits grows where the call notices nobody
+-- the waiting items grow by those of a call that notices no node
 pub waits_told : (me : NodeId) (s : SlotState) (t : Told) (c : GroupCall) (b : ℕ) (later : List Entry) → SlotTold me s t → has_noticed (c ∷ t.calls) b ≡ has_noticed t.calls b
     → later ≡ waiting s b ++ (if reaches s b then puts_of s.spec s.me.number c t.calls else []) → later ≡ waits_with me.number c t b
 waits_told me s t c b later h unnoticed is =

@@ -9,11 +9,11 @@ use Rattle.gb_frame.specs.Common.{batch_in, IsBatch, FitPacket}
 use Rattle.gb_link.specs.Common.{SendWindow, new_window}
 use Rattle.gb_table.specs.Common.{TableValue}
 
--- a frame with its items in place of their texts, which are of the version
+-- a frame with the items that its texts are, in this version
 abbrev pub frame_of : Version → ℕ × Vec ℕ Global → ℕ × List Item
 frame_of version u = (u.0, batch_in version u.1.items)
 
--- a window with its frames' items in place of their texts
+-- a window with the items of each frame instead of their texts
 abbrev pub window_of : Version → SendWindow (Vec ℕ Global) → SendWindow (List Item)
 window_of version w = record { next = w.next; undone = map (frame_of version) w.undone }
 
@@ -21,16 +21,16 @@ window_of version w = record { next = w.next; undone = map (frame_of version) w.
 abbrev pub AreBatches : Version → List (ℕ × Vec ℕ Global) → Type 0
 AreBatches version undone = AllByRecursion (λ u. IsBatch version u.1.items) undone
 
--- the sending end of a link, whose frames' texts are of this version
+-- the sending end of a link, whose frames have texts of this version
 pub record FrameWindow : Type 0 where
   pub version : Version
   pub window : SendWindow (List Item)
 
--- a sending end at which nothing was sent
+-- a sending end on which nothing was sent
 abbrev pub new_frames : Version → FrameWindow
 new_frames version = record { version = version; window = new_window }
 
--- the windows, with their frames' items in place of the texts
+-- the windows, with the items of each frame instead of their texts
 abbrev pub windows_of : List FrameWindow → List (SendWindow (List Item))
 windows_of ws = map (λ w. w.window) ws
 
@@ -51,7 +51,7 @@ pub record IsOfVersion (version : Version) (w : FrameWindow) : Type 0 where
   pub same : w.version ≡ version
   pub fitting : AreFitting version w.window.undone
 
--- An invariant of a node. It is a node of its cluster. Its version can name all nodes of the cluster. The texts of the unacknowledged
+-- A node keeps this invariant. It is a node of its cluster. Its version can name all nodes of the cluster. The texts of the unacknowledged
 -- frames are of that version, and each frame fits a packet of it.
 pub record KeepsVersion (t : TableValue) (windows : List FrameWindow) : Type 0 where
   pub nodes : t.nodes ≤ (limits_of t.version).nodes

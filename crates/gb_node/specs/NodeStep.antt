@@ -26,17 +26,17 @@ window_to v b = slice_index_or v.windows b new_window
 abbrev pub receiver_from : NodeValue → ℕ → Received
 receiver_from v b = slice_index_or v.receivers b set.empty
 
--- another node of the cluster
+-- b is another node of the cluster
 abbrev pub is_another : NodeValue → NodeId → Bool
 is_another v b = nat_lt b.number v.table.nodes && not (nat_eq b.number v.table.me.number)
 
--- frames are sent to other nodes that were not noticed
+-- frames are sent to node b: it is another node that was not noticed
 abbrev pub is_reached : NodeValue → NodeId → Bool
 is_reached v b = is_another v b && not (set.contains v.watch.noticed b.number)
 
 -- Sending.
 
--- the content of a packet to a node with this frame: it acknowledges what came from the node so far
+-- the content of a packet to a node with this frame: it acknowledges all that came from the node so far
 abbrev pub content_to : NodeValue → NodeId → ℕ → List Item → Content
 content_to v b frame items = record { version = v.table.version; from = v.table.me.number; to = b.number; base = base_of (receiver_from v b.number); mask = mask_of (receiver_from v b.number); frame = frame; items = items }
 
@@ -68,7 +68,7 @@ next_batch v b = if is_reached v b && has_room (window_to v b.number) then unles
 abbrev pub pack_content : NodeValue → NodeId → Option Content
 pack_content v b = option_map (content_to v b (window_to v b.number).next) (next_batch v b)
 
--- a node after this batch, if any, was packed for another
+-- a node after this batch, if any, was packed for node b
 abbrev pub sent_batch : NodeId → Option (List Item) → NodeValue → NodeValue
 sent_batch b None v = v
 sent_batch b (Some items) v = record v { table = table_packed b.number (room_to v b) v.table; windows = slice_set v.windows b.number (pushed (window_to v b.number) items) }
@@ -84,7 +84,7 @@ again_content v b n = if is_reached v b then option_map (λ u. content_to v b u.
 abbrev pub ack_content : NodeValue → NodeId → Option Content
 ack_content v b = if is_another v b then Some (content_to v b 0 []) else None
 
--- what is sent: the packet with this content, if any
+-- the answer to an event that sends: the packet with this content, if any
 abbrev pub sent : NodeValue → Option Content → SentValue
 sent v None = Nothing
 sent v (Some c) = SentPacket (packet_text v.key c)
@@ -99,15 +99,15 @@ abbrev pub if_here : NodeValue → Result Content PacketFault → Result Content
 if_here v (Err fault) = Err fault
 if_here v (Ok c) = if is_here v c then Ok c else Err Node
 
--- the packet for this node that bytes are, or the fault in them
+-- the packet for this node that the bytes are, or the fault in them
 abbrev pub read_at : NodeValue → List ℕ → Result Content PacketFault
 read_at v bytes = if_here v (reading v.key bytes)
 
--- the window after an acknowledgement: the frames that it covers are done
+-- the window after an acknowledgement: the frames that it covers are removed
 abbrev pub without_done : ℕ → ℕ → SendWindow (List Item) → SendWindow (List Item)
 without_done base mask w = record w { undone = filter (λ u. not (covers base mask u.0)) w.undone }
 
--- an item is acknowledged, and a frame; an item whose origin is no node is nobody's
+-- the table after node `from` acknowledged an item; an item whose origin is no node changes nothing
 abbrev pub item_done : NodeId → TableValue → Item → TableValue
 item_done from t i = if nat_lt i.origin NODES then table_done from (address_of i) (message_of (entry_of i)) t else t
 
@@ -118,7 +118,7 @@ frame_done from t u = fold (item_done from) t u.1
 abbrev pub newly_done : Content → NodeValue → List (ℕ × List Item)
 newly_done c v = freed (window_to v c.from) c.base c.mask
 
--- the acknowledgement is taken
+-- the node after it took the acknowledgement of a packet
 abbrev pub took_ack : Content → NodeValue → NodeValue
 took_ack c v = record v {
   table = fold (frame_done (node_numbered c.from)) v.table (newly_done c v);
@@ -141,7 +141,7 @@ abbrev pub items_come : NodeId → List Item → Admission → TableValue → Ta
 items_come from items First t = fold (item_comes from) t items
 items_come from items other t = t
 
--- The fate of a packet's frame at a link that received these, the number of items taken, and what is received then; number 0 is no frame.
+-- the result of frame n at a link that received these frames, the number of its items that are taken, and the frames received then; 0 is no frame
 abbrev pub fate : ℕ → Received → Frame
 fate n received = if nat_eq n 0 then NoFrame else kind_of (admission received n)
 
@@ -154,21 +154,21 @@ frame_comes from n items received t = if nat_eq n 0 then t else items_come from 
 abbrev pub receives : ℕ → Received → Received
 receives n received = if nat_eq n 0 then received else taken received n (admission received n)
 
--- the frame is taken
+-- the node after it took the frame of a packet
 abbrev pub took_frame : Content → NodeValue → NodeValue
 took_frame c v = record v {
   table = frame_comes (node_numbered c.from) c.frame c.items (receiver_from v c.from) v.table;
   receivers = slice_set v.receivers c.from (receives c.frame (receiver_from v c.from));
 }
 
--- a packet is taken: its sender is heard, then the acknowledgement counts, then the frame
+-- the node after it heard the sender of a packet; then it takes the acknowledgement, and then the frame
 abbrev pub heard : Content → NodeValue → NodeValue
 heard c v = record v { watch = after_heard v.watch c.from }
 
 abbrev pub node_took : Content → NodeValue → NodeValue
 node_took c v = took_frame c (took_ack c (heard c v))
 
--- the answer to it
+-- the answer to a packet that is taken
 abbrev pub good_of : Content → NodeValue → Good
 good_of c v = record {
   from = node_numbered c.from;
@@ -190,7 +190,7 @@ node_read (Ok c) v = node_took c v
 abbrev pub notice_each : TableValue → List ℕ → TableValue
 notice_each t found = fold (λ t b. table_noticed (node_numbered b) t) t found
 
--- after a tick: the nodes that are noticed now are noticed in each group, rising
+-- the node after a tick: each group notices the nodes that are due, in rising order
 abbrev pub node_ticked : NodeValue → NodeValue
 node_ticked v = record v { table = notice_each v.table (rising (due v.watch)); watch = after_tick v.watch }
 
@@ -199,11 +199,11 @@ pub record Turn : Type 0 where
   pub value : NodeValue
   pub answer : NodeAnswer
 
--- after a reply
+-- the node after a request with this reply
 abbrev pub node_did : Reply → Action → NodeValue → NodeValue
 node_did reply what v = record v { table = table_did v.watch.noticed reply what v.table }
 
--- a running node
+-- the state and the answer of a running node after an event
 abbrev pub running_turn : NodeValue → NodeEvent → Turn
 running_turn v (Asked request) = let reply = table_reply request v.table in record { value = node_did reply request.what v; answer = Replied reply }
 running_turn v (Came bytes) = let read = read_at v bytes in record { value = node_read read v; answer = Taken (taken_answer v read) }
@@ -213,7 +213,7 @@ running_turn v (Ack b) = record { value = v; answer = Sent (sent v (ack_content 
 running_turn v Tick = record { value = node_ticked v; answer = Ticked (Noticed (due v.watch)) }
 running_turn v Stop = record { value = record v { stopped = true }; answer = Halted HaltDone }
 
--- a stopped node answers so to every event, and nothing changes
+-- the answer of a stopped node to each event, which changes nothing
 abbrev pub stopped_answer : NodeEvent → NodeAnswer
 stopped_answer (Asked request) = Replied (Refused Stopped)
 stopped_answer (Came bytes) = Taken (TakenRefused Stopped)
@@ -228,7 +228,7 @@ turn v event = if v.stopped then record { value = v; answer = stopped_answer eve
 
 -- Lack of memory.
 
--- the answer is lack of memory, and the event takes memory: a packet is built, a tenant added, a group made, entries read
+-- the answer is OutOfMemory, and the event takes memory: a packet is built, a tenant added, a group made, entries read
 abbrev pub IsStarved : NodeEvent → NodeAnswer → NodeAnswer → Type 0
 IsStarved (Asked request) (Replied should) answer = (answer ≡ Replied (Refused OutOfMemory)) × TakesMemory request.what should
 IsStarved event (Sent (SentPacket text)) answer = answer ≡ Sent (SentRefused OutOfMemory)
@@ -245,12 +245,12 @@ sent_content v (Again b n) = again_content v b n
 sent_content v (Ack b) = ack_content v b
 sent_content v event = None
 
--- what is sent can be read: it is a packet that has a text
+-- a packet that is sent has a text, so it can be read
 abbrev pub IsSpelt : NodeValue → NodeEvent → NodeAnswer → Type 0
 IsSpelt v event (Sent (SentPacket text)) = IfSome (sent_content v event) IsPacket
 IsSpelt v event answer = Unit {0}
 
--- A pack answers Nothing only if the node is not reached, the link has no room, or nothing waits.
+-- a pack answers Nothing only if the node is not reached, the link has no room, or nothing waits
 abbrev pub IsForReason : NodeValue → NodeEvent → NodeAnswer → Type 0
 IsForReason v (Pack b) (Sent Nothing) = (is_reached v b && has_room (window_to v b.number)) ≡ true → NothingWaits b.number v.table.groups
 IsForReason v event answer = Unit {0}

@@ -1,4 +1,4 @@
--- A node as contracts see it.
+-- The state of a node, as contracts see it.
 use Rattle.std.specs.Prelude.{ℕ, ◌<◌, ◌≤◌, Bool, false, List, replicate}
 use Rattle.std.specs.FinSet as set
 use Rattle.gb_types.specs.declared.limits.TheConstants.{NODES, SILENCE_MIN, SILENCE_MAX}
@@ -13,19 +13,19 @@ use Rattle.gb_node.specs.declared.plan.NodePlan.{NodePlan}
 pub record NodeValue : Type 0 where
   -- the key of the cluster's packets
   pub key : List ℕ
-  -- tenants and groups
+  -- its tenants and groups
   pub table : TableValue
-  -- the most bytes of the items of a packet, but for an item that is longer
+  -- the most bytes of the items of a packet; a longer first item may exceed it
   pub room : ℕ
   -- for each node, the frames for it that are not acknowledged, each a batch of items
   pub windows : List (SendWindow (List Item))
   -- for each node, the numbers of its frames that were received
   pub receivers : List Received
-  -- the other nodes as the detector sees them
+  -- the state of the crash detector
   pub watch : Watch
   pub stopped : Bool
 
--- a node at which nothing has happened
+-- the state of a node at which nothing has happened
 abbrev pub new_node : NodePlan → NodeValue
 new_node p = record {
   key = p.cluster_key;
@@ -37,7 +37,7 @@ new_node p = record {
   stopped = false;
 }
 
--- a node may be started so
+-- a node may be started by this plan
 pub record IsNodePlan (p : NodePlan) : Type 0 where
   -- the version that the node sends can name all nodes
   pub cluster : p.nodes ≤ (limits_of p.version).nodes

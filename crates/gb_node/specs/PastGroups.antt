@@ -1,4 +1,4 @@
--- What the past of a node says of each group. What happened to other groups changes nothing in it.
+-- Each group of a node, computed from the node's past. What happened to other groups changes nothing in it.
 use Rattle.std.specs.Prelude.{ℕ, ◌&&◌, ◌||◌, not, List, [], ◌∷◌, ◌++◌, length, drop, filter, flat_map, fold, Option, Some, None, Bool, false, nat_eq, nat_le, nat_lt, option_map, if◌then◌else◌}
 use Rattle.std.specs.FinSet as set
 use Rattle.std.specs.{List.list_all, List.range_with_len, Ordering.nat_cmp}
@@ -18,7 +18,7 @@ use Rattle.gb_node.specs.declared.answer.NodeAnswer.TheVariants.{Reply as Replie
 use Rattle.gb_node.specs.declared.event.NodeEvent.TheVariants.{Request as Asked, Packet as Came, Pack, Tick}
 use Rattle.gb_node.specs.Past.{if_done, Happened, read, frames_to, numbered, is_acked, is_first, watched}
 
--- the nodes that are noticed
+-- the nodes that are noticed after a past
 abbrev pub noticed_after : NodePlan → List Happened → set.FinSet nat_cmp
 noticed_after plan past = (replay (start plan.me.number plan.nodes plan.silence) (watched plan.cluster_key past)).noticed
 
@@ -29,15 +29,15 @@ freed_by key past c = filter (λ u. covers c.base c.mask u.0) (filter (λ u. not
 abbrev pub items_freed : List (ℕ × List Item) → List Item
 items_freed us = flat_map (λ u. u.1) us
 
--- A group that was made and not dropped, as its node's past has it.
+-- a group that was made and not dropped, computed from its node's past
 pub record Told : Type 0 where
   pub spec : Spec
   pub phase : Phase
-  -- what it was told, the newest first
+  -- the calls that the group received, the newest first
   pub calls : List GroupCall
   -- the items that wait for each node, in order
   pub waiting : ℕ → List Entry
-  -- which node acknowledged which of the messages said here, by number
+  -- whether node b acknowledged the own message with this number
   pub acknowledged : ℕ → ℕ → Bool
 
 -- the items that wait in a group for a node
@@ -46,13 +46,13 @@ waiting_of None b = []
 waiting_of (Some None) b = []
 waiting_of (Some (Some t)) b = t.waiting b
 
--- What the rules read of a group.
+-- The part of a group that the rules read.
 
--- each other member is noticed, or has acknowledged the message that was said here with this number
+-- each other member is noticed, or has acknowledged the own message with this number
 abbrev pub is_finished_told : ℕ → Told → ℕ → Bool
 is_finished_told me t seq = list_all (λ b. nat_eq b me || (has_noticed t.calls b || t.acknowledged seq b)) (set.items t.spec.members)
 
--- the number of messages said here that are not finished
+-- the number of own messages that are not finished
 abbrev pub unfinished_in : ℕ → Told → ℕ
 unfinished_in me t = length (filter (λ seq. not (is_finished_told me t seq)) (range_with_len 1 (said_in t.calls)))
 
@@ -62,37 +62,37 @@ used_by me t = record { said = said_in t.calls; bytes = bytes_in t.calls me; unf
 abbrev pub shown_of : ℕ → Told → Shown
 shown_of me t = record { spec = t.spec; phase = t.phase; usage = used_by me t; log = log_of t.spec me t.calls }
 
--- what the rules read of a group that may have been made, and dropped since
+-- the part that the rules read of a group that may have been made, and dropped since
 abbrev pub shown_in : ℕ → Option (Option Told) → Option (Option Shown)
 shown_in me o = option_map (option_map (shown_of me)) o
 
--- How a group changes.
+-- The changes of a group.
 
--- what a call makes the group broadcast waits for each other member that was not noticed, after what waited before
+-- the items that wait for node b after a call: if b is another member that was not noticed, the items that the call broadcasts are appended
 abbrev pub waits_with : ℕ → GroupCall → Told → ℕ → List Entry
 waits_with me c t b = if is_other t.spec me b && not (has_noticed (c ∷ t.calls) b) then t.waiting b ++ puts_of t.spec me c t.calls else t.waiting b
 
--- the group is told of a call
+-- the group after it received a call
 abbrev pub with_call : NodeId → GroupCall → Told → Told
 with_call me c t = record t { calls = c ∷ t.calls; waiting = waits_with me.number c t }
 
--- the group is opened or shut
+-- the group after it was opened or shut
 abbrev pub moved_to : Phase → Told → Told
 moved_to phase t = record t { phase = phase }
 
--- nothing waits for a node any more
+-- the group after node q was noticed: nothing waits for q any more
 abbrev pub cut_off : ℕ → Told → Told
 cut_off q t = record t { waiting = λ b. if nat_eq b q then [] else t.waiting b }
 
--- the first `count` items that wait for a node are packed
+-- the group after the first `count` items that wait for node b were packed
 abbrev pub took_from : ℕ → ℕ → Told → Told
 took_from b count t = record t { waiting = λ x. if nat_eq x b then drop count (t.waiting x) else t.waiting x }
 
--- the message is the one that was said at this node with this number
+-- m is the own message with this number
 abbrev pub is_own_message : ℕ → ℕ → MsgId → Bool
 is_own_message me seq m = nat_eq m.origin.number me && nat_eq m.seq seq
 
--- a node acknowledged a message; if it was not said here, nothing changes
+-- the acknowledgements after a node acknowledged message m; if it is no own message, nothing changes
 abbrev pub acknowledged_with : ℕ → NodeId → MsgId → Told → ℕ → ℕ → Bool
 acknowledged_with me from m t seq b = t.acknowledged seq b || (nat_le seq (said_in t.calls) && (nat_eq b from.number && is_own_message me seq m))
 
@@ -105,7 +105,7 @@ finished_by me from m t = record t { acknowledged = acknowledged_with me.number 
 abbrev pub noticed_members : Spec → ℕ → (ℕ → Bool) → List ℕ
 noticed_members spec me noticed = filter (λ b. is_other spec me b && noticed b) (range_with_len 0 NODES)
 
--- the group is told of each of these nodes in turn
+-- the calls after a notice of each of these nodes, in turn
 abbrev pub crashed_onto : List GroupCall → List ℕ → List GroupCall
 crashed_onto calls bs = fold (λ cs b. Crashed (node_numbered b) ∷ cs) calls bs
 
@@ -113,7 +113,7 @@ crashed_onto calls bs = fold (λ cs b. Crashed (node_numbered b) ∷ cs) calls b
 abbrev pub told_first : Spec → NodeId → set.FinSet nat_cmp → Told
 told_first spec me noticed = record { spec = spec; phase = Made; calls = crashed_onto [] (noticed_members spec me.number (set.contains noticed)); waiting = λ b. []; acknowledged = λ seq b. false }
 
--- the group after a command on the group with this address is done
+-- group g after a command on the group at `addr` was done
 abbrev pub command_done : Addr → NodeId → set.FinSet nat_cmp → Addr → GroupCommand → Option (Option Told) → Option (Option Told)
 command_done g me noticed addr (Make spec) o = if is_addr g addr then or_added o (Some (Some (told_first spec me noticed))) else where_so (is_reached_by g addr) passed o
 command_done g me noticed addr Open o = where_so (is_addr g addr) (stepped (moved_to Opened)) o
@@ -121,53 +121,53 @@ command_done g me noticed addr Shut o = where_so (is_addr g addr) (stepped (move
 command_done g me noticed addr Drop o = where_so (is_addr g addr) dropped o
 command_done g me noticed addr command o = o
 
--- the group after a request is done
+-- group g after a request was done
 abbrev pub asked_done : Addr → NodeId → set.FinSet nat_cmp → Action → Option (Option Told) → Option (Option Told)
 asked_done g me noticed (AddTenant row) o = o
 asked_done g me noticed (Group addr command) o = command_done g me noticed addr command o
 
--- the group after a say under this number
+-- group g after a say got this number
 abbrev pub asked_said : Addr → NodeId → ℕ → Action → Option (Option Told) → Option (Option Told)
 asked_said g me seq (Group addr (Say message)) o = where_so (is_addr g addr) (stepped (with_call me (Own (record { origin = me; seq = seq; payload = message.payload })))) o
 asked_said g me seq what o = o
 
--- the group after a request with this reply
+-- group g after a request with this reply
 abbrev pub asked_told : Addr → NodeId → set.FinSet nat_cmp → Reply → Action → Option (Option Told) → Option (Option Told)
 asked_told g me noticed Done what o = asked_done g me noticed what o
 asked_told g me noticed (Said seq) what o = asked_said g me seq what o
 asked_told g me noticed (Log entries) what o = o
 asked_told g me noticed (Refused why) what o = o
 
--- an item of the group is acknowledged by a node; an item whose origin is no node changes nothing
+-- the group after a node acknowledged one of its items; an item whose origin is no node changes nothing
 abbrev pub done_told : NodeId → NodeId → Option (Option Told) → Item → Option (Option Told)
 done_told me from o i = where_so (nat_lt i.origin NODES) (stepped (finished_by me from (message_of (entry_of i)))) o
 
--- after an item came from a node: the item is let fall, or the group is told of it
+-- the group after an item came from a node: it lets the item fall, or receives the call for it
 abbrev pub unless_falls : NodeId → NodeId → Entry → Told → Told
 unless_falls me from x t = if falls_after t.spec me.number t.calls from.number x then t else with_call me (Other from x) t
 
--- after an item came: it is also let fall if its origin is no node, or if it is longer than a message may be at a node that sends this version
+-- the group after an item came; it lets the item fall too if the origin is no node, or the item is longer than this version allows
 abbrev pub came_told : Version → NodeId → NodeId → Option (Option Told) → Item → Option (Option Told)
 came_told version me from o i = where_so (nat_lt i.origin NODES && not (is_too_long version i.payload)) (stepped (unless_falls me from (entry_of i))) o
 
--- a packet is taken: each group takes in order its items in the frames that the packet frees, then its items in the packet's own frame if that came first
+-- the group after a packet was taken: first its items in the frames that the packet acknowledges, then those in the packet's frame if it came first
 abbrev pub taken_told : Version → NodeId → List ℕ → Addr → List Happened → Frame → Option (Option Told) → Content → Option (Option Told)
 taken_told version me key g past frame o c =
     let acknowledged = fold (done_told me (node_numbered c.from)) o (items_for g (items_freed (freed_by key past c))) in
     if is_first frame then fold (came_told version me (node_numbered c.from)) acknowledged (items_for g c.items) else acknowledged
 
--- a batch takes the group's items that it has
+-- the group after a batch was packed: the items of the group in the batch no longer wait
 abbrev pub packed_told : Addr → NodeId → Option (Option Told) → Content → Option (Option Told)
 packed_told g b o c = stepped (took_from b.number (length (items_for g c.items))) o
 
--- after a node is noticed: the group is told of it if it is another member
+-- the group after node q was noticed: if q is another member, the group receives the notice
 abbrev pub if_other : NodeId → NodeId → Told → Told
 if_other me q t = if is_other t.spec me.number q.number then with_call me (Crashed q) (cut_off q.number t) else t
 
 abbrev pub noticed_told : NodeId → Option (Option Told) → ℕ → Option (Option Told)
 noticed_told me o b = stepped (if_other me (node_numbered b)) o
 
--- what an event with its answer changes in a group
+-- the group after an event with its answer
 abbrev pub told_after : NodePlan → Addr → List Happened → NodeEvent → NodeAnswer → Option (Option Told) → Option (Option Told)
 told_after plan g past (Asked request) (Replied reply) o = asked_told g plan.me (noticed_after plan past) reply request.what o
 told_after plan g past (Came bytes) (Taken (TakenGood good)) o = fold (taken_told plan.version plan.me plan.cluster_key g past good.frame) o (read plan.cluster_key bytes)
@@ -180,13 +180,13 @@ unfoldable pub told_of : NodePlan → Addr → List Happened → Option (Option 
 told_of plan g [] = None
 told_of plan g (h ∷ past) = told_after plan g past h.event h.answer (told_of plan g past)
 
--- what a request that is done changes in the number of other generations of the group's room that live at the node
+-- the number of other generations of the group's room that live at the node, after a request was done
 abbrev pub living_done : Addr → Action → ℕ → ℕ
 living_done g (Group addr (Make spec)) n = one_more g addr n
 living_done g (Group addr Drop) n = one_less g addr n
 living_done g what n = n
 
--- what an event with its answer changes in that number
+-- the number of other generations of the group's room that live at the node, after an event with its answer
 abbrev pub living_after : Addr → NodeEvent → NodeAnswer → ℕ → ℕ
 living_after g (Asked request) (Replied reply) n = if_done reply (living_done g request.what n) n
 living_after g event answer n = n

@@ -11,7 +11,7 @@ use Rattle.gb_node.specs.NodeGroups.{shown_at, waiting_at}
 use Rattle.gb_table.specs.Common.{others_living}
 use Rattle.gb_node.specs.PastGroups.{shown_in, waiting_of, told_of, living_of}
 
--- The state of a node beside its groups is determined by its past.
+-- the past determines the state of a node beside its groups
 pub record IsOfPastBesideGroups (plan : NodePlan) (past : List Happened) (v : NodeValue) : Type 0 where
   pub key : v.key ≡ plan.cluster_key
   pub me : v.table.me ≡ plan.me
@@ -23,21 +23,21 @@ pub record IsOfPastBesideGroups (plan : NodePlan) (past : List Happened) (v : No
   pub stopped : v.stopped ≡ is_stopped past
   pub watch : v.watch ≡ replay (start plan.me.number plan.nodes plan.silence) (watched plan.cluster_key past)
   pub tenants : v.table.tenants ≡ tenants_in past
-  -- the link to each node: the next number, and the frames that were packed and not acknowledged since
+  -- the link to each node: the next number, and the frames that were packed for it and not acknowledged since
   pub next : (b : NodeId) → (window_to v b.number).next ≡ length (frames_to plan.cluster_key b.number past) + 1
   pub undone : (b : NodeId) → (window_to v b.number).undone ≡ filter (λ u. not (is_acked plan.cluster_key b.number u.0 past)) (numbered 1 (frames_to plan.cluster_key b.number past))
-  -- the link from each node: the numbers received
+  -- the link from each node: the numbers of the frames received
   pub received : (b : NodeId) (n : ℕ) → set.contains (receiver_from v b.number) n ≡ is_taken plan.cluster_key b.number n past
 
--- The state of a node is determined by its past.
+-- the past determines the state of a node
 pub record IsOfPast (plan : NodePlan) (past : List Happened) (v : NodeValue) : Type 0 where
   pub beside : IsOfPastBesideGroups plan past v
-  -- each group: what the rules read of it, and what waits in it
+  -- each group: the part that the rules read, and the items that wait
   pub shown : (g : Addr) → shown_at v g ≡ shown_in plan.me.number (told_of plan g past)
   pub waiting : (g : Addr) (b : ℕ) → waiting_at v g b ≡ waiting_of (told_of plan g past) b
   -- the number of other generations of its room that live
   pub living : (g : Addr) → others_living g v.table.groups.rows ≡ living_of g past
 
--- every node is what its past says
+-- the past of every node determines its state
 abbrev pub PastsSay : Type 0
 PastsSay = (plan : NodePlan) (past : List Happened) (v : NodeValue) → ComesTo plan past v → IsOfPast plan past v

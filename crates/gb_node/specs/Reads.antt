@@ -1,4 +1,4 @@
--- Which events leave a node unchanged, and how much memory the answers to other events hold.
+-- The events that leave a node unchanged, and the memory that the answers to other events hold.
 use Rattle.std.specs.Prelude.{ℕ, ◌≤◌, Bool, true, false, length}
 use Rattle.gb_types.specs.Common.{limits_of}
 use Rattle.gb_types.specs.declared.{version.Version.Version, reply.Reply.Reply, reply.Reply.TheVariants.Log, request.Action.Action, request.Action.TheVariants.Group, request.GroupCommand.TheVariants.Fetch}

@@ -1,4 +1,4 @@
--- What each answer of a node is, given only its past.
+-- Each answer of a node, determined by its past alone.
 use Rattle.std.specs.Prelude.{ℕ, ◌≡◌, ◌≢◌, ◌<◌, ◌≤◌, ◌⊎◌, ◌||◌, Bool, true, false, List, [], ◌∷◌, length, map, take, Option, Some, None, is_some, option_map, if◌then◌else◌}
 use Rattle.std.specs.FinSet as set
 use Rattle.std.specs.Ordering.{nat_cmp}
@@ -22,7 +22,7 @@ use Rattle.gb_node.specs.declared.event.NodeEvent.TheVariants.{Request as Asked,
 abbrev pub is_admitted_by : NodePlan → List Happened → Request → Bool
 is_admitted_by plan past request = has_token plan.admin_key plan.me (tenants_in past) request
 
--- the reply to a command on a group that may be here
+-- the reply to a command on a group that may exist at the node
 abbrev pub group_answer : (Shown → Reply) → Option (Option Shown) → Reply
 group_answer answer None = absent_answer false
 group_answer answer (Some None) = absent_answer true
@@ -45,11 +45,11 @@ past_answer plan past request = if is_stopped past then Refused Stopped else (if
 
 -- The answers.
 
--- the reply to a request is the one that the past says, or OutOfMemory if that reply takes memory
+-- the reply to a request is the one that the past determines, or OutOfMemory if that reply takes memory
 abbrev pub IsAsked : NodePlan → List Happened → Request → Reply → Type 0
 IsAsked plan past request reply = ((reply ≡ Refused OutOfMemory) × TakesMemory request.what (past_answer plan past request)) ⊎ (reply ≡ past_answer plan past request)
 
--- a packet is packed by a running node for another one, and has the first of the items that wait there in each group
+-- a running node packs a packet for another node; it has the first of the items that wait there in each group
 pub record IsPacked (plan : NodePlan) (past : List Happened) (b : NodeId) (text : List ℕ) : Type 0 where
   pub running : is_stopped past ≡ false
   pub content : Content
@@ -59,7 +59,7 @@ pub record IsPacked (plan : NodePlan) (past : List Happened) (b : NodeId) (text 
   pub enough : (g : Addr) → length (items_for g content.items) ≤ length (waiting_of (told_of plan g past) b.number)
   pub front : (g : Addr) → items_for g content.items ≡ map (item_for g) (take (length (items_for g content.items)) (waiting_of (told_of plan g past) b.number))
 
--- a packet is taken by a running node: it is one for this node from another node, and its frame comes for the first time only if it was not taken before
+-- a running node takes a packet for it from another node, whose frame comes for the first time only if it was not taken before
 pub record IsTakenIn (plan : NodePlan) (past : List Happened) (bytes : List ℕ) (good : Good) : Type 0 where
   pub running : is_stopped past ≡ false
   pub content : Content
@@ -83,9 +83,9 @@ IsAnswered plan past (Came bytes) (Taken (TakenGood good)) = IsTakenIn plan past
 IsAnswered plan past Tick (Ticked (Noticed found)) = IsTicked plan past found
 IsAnswered plan past event answer = Unit {0}
 
--- every answer of every node is what its past says, and only other nodes of the cluster are noticed
+-- the past determines every answer of every node, and only other nodes of the cluster are noticed
 pub record AnswersSay : Type 0 where
   pub each : (plan : NodePlan) (past : List Happened) (event : NodeEvent) (answer : NodeAnswer) (v : NodeValue) → ComesTo plan (record { event = event; answer = answer } ∷ past) v → IsAnswered plan past event answer
-  -- a node that has the memory for it answers a request as its past says
+  -- a node that has the memory for it gives a request the reply that its past determines
   pub due : (plan : NodePlan) (past : List Happened) (v : NodeValue) (request : Request) → ComesTo plan past v → (turn v (Asked request)).answer ≡ Replied (past_answer plan past request)
   pub noticed : (plan : NodePlan) (past : List Happened) (v : NodeValue) (b : ℕ) → ComesTo plan past v → set.contains (noticed_after plan past) b ≡ true → (b < plan.nodes) × (b ≢ plan.me.number)

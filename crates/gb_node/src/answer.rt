@@ -1,4 +1,4 @@
-//! The answer of a node to an event: a reply, what came of bytes, a packet that is sent, or the nodes that a tick reports.
+//! The answer of a node to an event: a reply, the result of bytes that came, a packet that is sent, or the nodes that a tick reports.
 ghost use Rattle.std.specs.Prelude.{◌≡◌, ◌↔◌, [], IfOk, IsTrue, vec_capacity};
 ghost use Rattle.gb_node.specs.Reads.{IsWithin};
 
@@ -31,7 +31,7 @@ pub enum PacketAnswer {
     Refused(Refusal),
 }
 
-/// What a node read in a packet that it took.
+/// The facts that a node read in a packet that it took.
 #[derive(Clone, Copy, PartialEq, Eq)]
 pub struct Good {
     /// The node that sent it.
@@ -43,7 +43,7 @@ pub struct Good {
     pub done: u32,
 }
 
-/// What a node did with a packet's frame.
+/// The result of a packet's frame at a node.
 #[derive(Clone, Copy, PartialEq, Eq)]
 pub enum Frame {
     /// The packet has no frame.
@@ -56,7 +56,7 @@ pub enum Frame {
     Outside,
 }
 
-/// What a node sent.
+/// The result of an event that sends.
 #[derive(Drop)]
 pub enum Sent {
     /// The bytes of a packet.
@@ -97,8 +97,8 @@ impl NodeAnswer {
         })
     }
 
-    /// Returns a copy of the answer, which must not be a log. Its packet, if it has one, is copied into `room`, an empty vector
-    /// with capacity for it. Takes no memory.
+    /// Returns a copy of the answer, which must not be a log. If the answer has a packet, it is copied into `room`, an empty vector with
+    /// capacity for it. Takes no memory.
     pub fn in_room(&self, room: Vec<u8>) -> NodeAnswer
         requires empty { room.items ≡ [] }
         requires room { IsWithin (vec_capacity room) self.now }

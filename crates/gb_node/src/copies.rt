@@ -1,5 +1,5 @@
-//! Copies of the values that events and answers are made of. Some copies need memory and can fail; others use room that is
-//! there.
+//! Copies of the values in events and answers. Some copies take memory and can fail; others use a vector that has room
+//! already.
 ghost use Rattle.std.specs.Prelude.{◌≡◌, ◌≤◌, List, [], length, IfOk, vec_capacity};
 ghost use Rattle.gb_types.specs.declared.entry.Entry.{Entry as EntryValue};
 ghost use Rattle.gb_node.specs.Reads.{IsReplyWithin, IsSentWithin};
@@ -59,7 +59,7 @@ fn text_in_room(text: &PacketText, room: Vec<u8>) -> PacketText
     PacketText::from(room)
 }
 
-/// Returns a copy of what was sent.
+/// Returns a copy of the result of a sending event.
 pub(crate) fn copy_sent(alloc: Global, sent: &Sent) -> Result<Sent, OutOfMemory>
     ensures { IfOk result (λ s. s ≡ sent.now) }
 {
@@ -70,7 +70,7 @@ pub(crate) fn copy_sent(alloc: Global, sent: &Sent) -> Result<Sent, OutOfMemory>
     })
 }
 
-/// Returns a copy of what was sent. Its packet is copied into `room`, an empty vector with room for it.
+/// Returns a copy of the result of a sending event. A packet in it is copied into `room`, an empty vector with room for it.
 pub(crate) fn sent_in_room(sent: &Sent, room: Vec<u8>) -> Sent
     requires empty { room.items ≡ [] }
     requires room { IsSentWithin (vec_capacity room) sent.now }
@@ -83,7 +83,7 @@ pub(crate) fn sent_in_room(sent: &Sent, room: Vec<u8>) -> Sent
     }
 }
 
-/// Returns a copy of the reply, which is no log.
+/// Returns a copy of the reply, which must not be a log.
 pub(crate) fn reply_copied(reply: &Reply) -> Reply
     requires { IsReplyWithin reply.now }
     ensures { result ≡ reply.now }

@@ -1,4 +1,4 @@
-//! What happens at a node: a request, bytes that came, a packet to be sent, a tick of the time, or a stop.
+//! The events at a node: a request, bytes that came, a packet to be sent, a tick of the time, or a stop.
 ghost use Rattle.std.specs.Prelude.{◌≡◌, ◌↔◌, IfOk, IsTrue};
 ghost use Rattle.gb_node.specs.Reads.{is_read};
 
@@ -8,15 +8,15 @@ use crate::same::{same_node, same_request, same_text};
 use gb_types::{Action, GroupCommand, NodeId, OutOfMemory, Request};
 use std::alloc::Global;
 
-/// What happens at a node.
+/// An event at a node.
 pub enum NodeEvent {
-    /// A request is asked.
+    /// A client asks a request.
     Request(Request),
     /// Bytes came, which may be a packet.
     Packet(PacketText),
     /// The first of the items that wait for another node are packed as the next frame of the link to it.
     Pack(NodeId),
-    /// The unacknowledged frame with the number `frame` is sent again to the node `to`. 0 stands for the lowest such number.
+    /// The unacknowledged frame with the number `frame` is sent again to the node `to`. Number 0 means the lowest such frame.
     Again { to: NodeId, frame: u64 },
     /// An acknowledgement without a frame is sent to another node.
     Ack(NodeId),
@@ -26,7 +26,7 @@ pub enum NodeEvent {
     Stop,
 }
 
-// Not derived: what is derived is proved anew in each crate that ends one.
+// Not derived: a derived impl is proved anew in each crate that ends an event.
 impl Drop for NodeEvent {
     fn drop(self) {
         match self {

@@ -1,6 +1,6 @@
 //! One event at a node: a request, bytes from the network, a sending, a tick or a stop. A node is a table of groups, a link to
 //! and from each other node, a crash detector and two keys. Nothing here waits, sends or receives. Read `node::Node::take`
-//! first, then `event` and `answer`; specs/NodeStep.antt says what each event changes in a node.
+//! first, then `event` and `answer`; specs/NodeStep.antt defines the changes that each event makes in a node.
 #![tactic(auto)]
 
 pub mod answer;

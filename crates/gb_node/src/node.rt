@@ -1,4 +1,4 @@
-//! The node: its tenants and groups, its links to the other nodes and its crash detector, and what each event does at it.
+//! The node: its tenants and groups, its links to the other nodes, its crash detector, and the effect of each event at it.
 ghost use Rattle.std.specs.Prelude.{◌≡◌, ◌≤◌, ◌<◌, ◌+◌, [], IsSome, vec_capacity, List, true, false, length, replicate, sum_by, None, Some, MatchOption, IfOk, OnOk, OnErr, Ok, is_ok};
 ghost use Rattle.std.specs.FinSet as set;
 ghost use Rattle.gb_types.specs.Common.{limits_of};
@@ -36,7 +36,7 @@ use gb_types::{NodeId, OutOfMemory, Refusal, Reply, Request, Version};
 use std::alloc::Global;
 use std::marker::Model;
 
-/// A node of a cluster. Contracts see all that it holds.
+/// A node of a cluster. Contracts see its whole state.
 pub struct Node {
     alloc: Global,
     /// The key of the cluster's packets.
@@ -47,12 +47,12 @@ pub struct Node {
     /// For each node, the receiving end of the link from it.
     receivers: [Receiver; NODES],
     detector: Detector,
-    /// The most bytes of the items of a packet, but for an item that is longer.
+    /// The most bytes of the items of a packet. A packet whose first item is longer may exceed it.
     room: usize,
     stopped: bool,
 }
 
-// Written by hand: a derived one is proved anew in each crate that ends a node.
+// Written by hand: a derived impl is proved anew in each crate that ends a node.
 impl Drop for Node {
     fn drop(self) {
         let Node {
@@ -85,7 +85,7 @@ impl Model for Node {
     ghost invariant = { λ n. KeepsVersion n.table n.windows };
 }
 
-/// Returns for each node the sending end of a link on which nothing was sent. Its texts are of this version.
+/// Returns, for each node, the sending end of a link on which nothing was sent. Its texts are of this version.
 fn new_windows(alloc: Global, version: Version) -> [Window; NODES]
     ensures { result ≡ replicate MOST (new_frames version) }
 {
@@ -125,7 +125,7 @@ fn new_windows(alloc: Global, version: Version) -> [Window; NODES]
     ]
 }
 
-/// Returns for each node the receiving end of a link on which nothing came.
+/// Returns, for each node, the receiving end of a link on which nothing came.
 fn new_receivers() -> [Receiver; NODES]
     ensures { result ≡ replicate MOST set.empty }
 {
@@ -165,19 +165,19 @@ fn new_receivers() -> [Receiver; NODES]
     ]
 }
 
-/// A batch as it was measured.
+/// The size of a batch, as it was measured.
 #[derive(Clone, Copy)]
 struct Measured {
     /// The most bytes that it may have.
     most: usize,
-    /// How many items it has.
+    /// The number of its items.
     count: u16,
-    /// How many bytes its items take.
+    /// The number of bytes of its items.
     bytes: usize,
 }
 
 impl Node {
-    /// Returns a node by its plan, at which nothing has happened. Takes no memory.
+    /// Returns a new node of a plan, at which nothing has happened. Takes no memory.
     pub fn start(alloc: Global, plan: &NodePlan) -> Node
         requires cluster { plan.now.nodes ≤ (limits_of plan.now.version).nodes }
         requires member { plan.now.me.number < plan.now.nodes }
@@ -206,7 +206,7 @@ impl Node {
     }
 
     /// Executes a request and returns the reply. Refusals come in this order: `Stopped` if the node has stopped; `Denied` if the
-    /// token is not the one that the request needs, whatever groups there are; the refusals of the rules of tenants and groups;
+    /// token is not the one that the request needs, whether its group exists or not; the refusals of the rules of tenants and groups;
     /// `OutOfMemory`. After a refusal nothing has changed.
     pub fn request(&mut self, request: &Request) -> Reply
         ensures turn { IsTurn self.old (NodeEvent.Request request.now) (NodeAnswer.Reply result) self.new }
@@ -247,7 +247,7 @@ impl Node {
         to.number < self.table.nodes() && to != self.table.me()
     }
 
-    /// Returns true if frames are sent to the node: it is another one of the cluster, and was not noticed.
+    /// Returns true if frames are sent to node `to`: it is another node of the cluster, and was not noticed.
     fn is_reached(&self, to: NodeId) -> bool
         ensures { result ≡ is_reached self.now to }
     {
@@ -261,7 +261,7 @@ impl Node {
         self.windows[to.index()].room()
     }
 
-    /// Returns the head of a packet to another node, with this frame's number. It acknowledges what came from there so far.
+    /// Returns the head of a packet to another node, with this frame number. The head acknowledges all that came from that node so far.
     fn head(&self, to: NodeId, frame: u64) -> Head
         requires { is_another self.now to ≡ true }
         ensures head { IsHead result }
@@ -280,8 +280,8 @@ impl Node {
         }
     }
 
-    /// Measures the next batch for a node: the most bytes that it may have, how many items it has and how many bytes these take. It has
-    /// none where nothing waits for the node.
+    /// Returns the size of the next batch for a node: the most bytes that it may have, the number of its items, and the number of their
+    /// bytes. The batch has no item if nothing waits for the node.
     fn measure(&self, to: NodeId) -> Measured
         ensures most { result.most ≡ room_to self.now to }
         ensures within { result.most ≤ room_of self.now.table.version }
@@ -301,8 +301,8 @@ impl Node {
         Measured { most, count, bytes }
     }
 
-    /// Makes the next batch for a node, as it was measured, the next frame. Returns the frame's number. Without memory nothing has
-    /// changed.
+    /// Makes the next batch for a node, as it was measured, the next frame. Returns the frame's number. `Err` if memory is refused; then
+    /// nothing has changed.
     fn push_batch(&mut self, to: NodeId, next: Measured) -> Result<u64, OutOfMemory>
         requires room { has_room (window_to self.old to.number) ≡ true }
         requires some { 0 < next.count }
@@ -319,16 +319,16 @@ impl Node {
         window.pack(&mut self.table, to, next.most, next.count, next.bytes)
     }
 
-    /// Returns the number and the texts of the frame for a node with this number, if it is not acknowledged; for 0, of the
-    /// lowest such frame.
+    /// Returns the number and the texts of frame `number` for a node, if it is not acknowledged. For number 0, returns those of the
+    /// lowest frame that is not acknowledged.
     fn undone(&self, to: NodeId, number: u64) -> Option<(u64, &[u8])>
         ensures { MatchOption result (frame_again (window_to self.now to.number) number ≡ None) (λ r. (frame_again (window_to self.now to.number) number ≡ Some (r.0, batch_in self.now.table.version r.1.now)) × IsBatch self.now.table.version r.1.now × (0 < r.0) × FitPacket self.now.table.version (batch_in self.now.table.version r.1.now)) }
     {
         self.windows[to.index()].again(number)
     }
 
-    /// Returns the packet to another node with the frame that has this number, `count` items, and is not acknowledged. It is
-    /// written into an empty vector with room for it.
+    /// Returns the packet to another node with frame `number`, which has `count` items and is not acknowledged. The packet is
+    /// written into `packet`, an empty vector with room for it.
     fn write_frame(&self, to: NodeId, number: u64, count: u16, packet: Vec<u8>) -> PacketText
         requires another { is_another self.now to ≡ true }
         requires number { 0 < number }
@@ -345,7 +345,7 @@ impl Node {
         frame_packet(self.head(to, number), count, texts, self.key.key(), packet)
     }
 
-    /// Sends the next batch for a node, as it was measured. Without memory nothing has changed.
+    /// Returns the packet with the next batch for a node, as it was measured. `Err` if memory is refused; then nothing has changed.
     fn send_batch(&mut self, to: NodeId, next: Measured) -> Result<PacketText, OutOfMemory>
         requires another { is_another self.old to ≡ true }
         requires room { has_room (window_to self.old to.number) ≡ true }
@@ -405,7 +405,7 @@ impl Node {
     }
 
     /// Returns the packet that sends a frame to the node `to` again, if it is not acknowledged. `number` is the frame's number; 0
-    /// stands for the lowest such number. Returns `Nothing` if `to` is not another node of the cluster or is held for crashed, or
+    /// means the lowest such number. Returns `Nothing` if `to` is not another node of the cluster or is held for crashed, or
     /// if there is no such frame. Returns `Refused` with `Stopped` or `OutOfMemory`. Changes nothing.
     pub fn again(&self, to: NodeId, number: u64) -> Sent
         ensures turn { IsTurn self.now (NodeEvent.Again to number) (NodeAnswer.Sent result) self.now }
@@ -426,7 +426,7 @@ impl Node {
         }
     }
 
-    /// Returns the packet to another node that only acknowledges what came from there so far.
+    /// Returns the packet to another node that acknowledges all that came from there so far, without a frame.
     fn acknowledgement(&mut self, to: NodeId) -> Result<PacketText, OutOfMemory>
         requires { is_another self.old to ≡ true }
         ensures text { IfOk result (λ p. p ≡ packet_text self.old.key (content_to self.old to 0 [])) }
@@ -437,8 +437,8 @@ impl Node {
         self.key.bare_packet(self.alloc, head)
     }
 
-    /// Returns a packet to the node `to` that only acknowledges what came from there so far. Returns `Nothing` if `to` is not
-    /// another node of the cluster. Returns `Refused` with `Stopped` or `OutOfMemory`. Changes nothing that contracts see.
+    /// Returns a packet to the node `to` that acknowledges all that came from there so far, without a frame. Returns `Nothing` if `to` is
+    /// not another node of the cluster. Returns `Refused` with `Stopped` or `OutOfMemory`. Changes nothing that contracts see.
     pub fn ack(&mut self, to: NodeId) -> Sent
         ensures turn { IsTurn self.old (NodeEvent.Ack to) (NodeAnswer.Sent result) self.new }
         ensures spelt { IsSpelt self.old (NodeEvent.Ack to) (NodeAnswer.Sent result) }
@@ -456,7 +456,7 @@ impl Node {
         }
     }
 
-    /// Takes a packet from a node of the cluster: its sender is heard, then the acknowledgement counts, then the frame.
+    /// Takes a packet from a node of the cluster: hears its sender, then takes the acknowledgement, then the frame. Returns the answer.
     fn take_packet(&mut self, packet: &PacketView<'_>) -> Good
         ensures good { result ≡ good_of packet.now self.old }
         ensures state { self.new ≡ node_took packet.now self.old }
@@ -477,7 +477,7 @@ impl Node {
         }
     }
 
-    /// Returns the packet for this node that bytes are, as a view of them, or what is wrong with them.
+    /// Returns the packet for this node that these bytes are, as a view of them. `Err` with the fault if they are no such packet.
     fn read<'a>(&self, bytes: &'a [u8]) -> Result<PacketView<'a>, PacketFault>
         ensures { result ≡ read_at self.now bytes.now }
     {
@@ -493,17 +493,17 @@ impl Node {
     }
 
     /// Returns true if the bytes are a packet of this cluster for this node: well formed, with the right tag, and from another node
-    /// of the cluster. It is the same if the node has stopped. Changes nothing.
+    /// of the cluster. The result is the same if the node has stopped. Changes nothing.
     pub fn is_packet(&self, bytes: &[u8]) -> bool
         ensures { result ≡ is_ok (read_at self.now bytes.now) }
     {
         self.read(bytes).is_ok()
     }
 
-    /// Takes bytes that came, without a copy. Returns `Refused` with `Stopped` if the node has stopped; `Fault` with the first
-    /// fault if they are no packet for this node; else `Good`, with the sender and what became of the frame. For a good packet its
-    /// sender counts as heard, the acknowledged frames are done, and the items of a frame that comes for the first time are handed
-    /// to their groups. Else nothing has changed. Takes no memory.
+    /// Takes bytes that came, without a copy. Returns `Refused` with `Stopped` if the node has stopped. Returns `Fault` with the first
+    /// fault if they are no packet for this node. Else returns `Good`, with the sender and the result of the frame. A good packet makes its
+    /// sender count as heard and its acknowledged frames done; the groups receive the items of a frame that comes for the first time.
+    /// Without `Good` nothing has changed. Takes no memory.
     pub fn packet(&mut self, bytes: &[u8]) -> PacketAnswer
         ensures { IsTurn self.old (NodeEvent.Packet bytes.now) (NodeAnswer.Taken result) self.new }
     {
@@ -516,7 +516,7 @@ impl Node {
         }
     }
 
-    /// Returns the packet that bytes are, which are known to be one for this node. Nothing is tested again.
+    /// Returns the packet that these bytes are, as a view of them. They are known to be a packet for this node, so it tests nothing.
     fn read_known<'a>(&self, bytes: &'a [u8]) -> PacketView<'a>
         requires { is_ok (read_at self.now bytes.now) ≡ true }
         ensures { read_at self.now bytes.now ≡ Ok result }
@@ -564,7 +564,7 @@ impl Node {
     }
 
     /// Makes one event happen at the node, by `request`, `packet`, `pack`, `again`, `ack`, `tick` or `stop`, and returns the node's
-    /// answer to it. What the answer refuses has changed nothing. The function does no input or output: a packet to send is in the
+    /// answer to it. A refused event has changed nothing. The function does no input or output: a packet to send is in the
     /// answer.
     #[tactic(auto, using(crate::proofs::ReadLemmas::reads))]
     pub fn take(&mut self, event: &NodeEvent) -> NodeAnswer
@@ -577,7 +577,7 @@ impl Node {
         self.happen(event)
     }
 
-    /// Takes one event, by its kind.
+    /// Makes one event happen, by the function for its kind, and returns the answer.
     fn happen(&mut self, event: &NodeEvent) -> NodeAnswer
         ensures turn { IsTurn self.old event.now result self.new }
         ensures spelt { IsSpelt self.old event.now result }

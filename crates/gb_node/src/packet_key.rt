@@ -41,7 +41,7 @@ impl Model for PacketKey {
     ghost invariant = { λ k. AreKept k.key k.kept };
 }
 
-/// Returns a packet that was sent, with its head.
+/// Returns the record to keep of a packet without a frame.
 fn bare_of(head: Head, packet: &PacketText) -> Bare
     requires { length packet.now ≡ SHORTEST }
     ensures head { result.head ≡ head }
@@ -52,7 +52,7 @@ fn bare_of(head: Head, packet: &PacketText) -> Bare
     Bare { head, text }
 }
 
-/// Returns a copy of the bytes of a packet that was kept.
+/// Returns a copy of the bytes of a kept packet. `Err` if memory is refused.
 fn copied(alloc: Global, bare: &Bare) -> Result<PacketText, OutOfMemory>
     ensures { IfOk result (λ p. p ≡ bare.now.text) }
 {
@@ -61,7 +61,7 @@ fn copied(alloc: Global, bare: &Bare) -> Result<PacketText, OutOfMemory>
     Ok(PacketText::from(text))
 }
 
-/// Makes the packet with this head and no frame, keeps it, and returns its bytes.
+/// Makes the packet with this head and no frame, keeps it, and returns its bytes. `Err` if memory is refused.
 fn anew(
     alloc: Global,
     head: Head,
@@ -80,8 +80,8 @@ fn anew(
     Ok(packet)
 }
 
-/// Returns the packet with this head and no frame: the one that is kept if it has this head, otherwise one that is made and
-/// kept.
+/// Returns the packet with this head and no frame. Copies the kept packet if it has this head, and otherwise makes the packet and
+/// keeps it.
 fn again_or_anew(
     alloc: Global,
     head: Head,
@@ -104,7 +104,7 @@ fn again_or_anew(
 }
 
 impl PacketKey {
-    /// Returns the key of a cluster's packets. No packet is kept yet.
+    /// Returns the key of a cluster's packets, without a kept packet.
     pub fn new(key: &Key) -> PacketKey
         ensures { result ≡ key.now }
     {
@@ -114,7 +114,7 @@ impl PacketKey {
         }
     }
 
-    /// Returns the key, prepared for computing the tags of packets.
+    /// Returns the key, ready for the tags of packets.
     pub fn key(&self) -> &HmacKey
         ensures { result.now ≡ self.now }
     {

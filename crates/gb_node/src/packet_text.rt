@@ -16,14 +16,14 @@ impl Model for PacketText {
 }
 
 impl PacketText {
-    /// Returns the bytes of the packet.
+    /// Returns the bytes.
     pub fn as_slice(&self) -> &[u8]
         ensures { result.now ≡ self.now }
     {
         self.bytes.as_slice()
     }
 
-    /// Returns the bytes and gives up the value. They are not copied.
+    /// Consumes the value and returns its bytes, without a copy.
     pub fn into_vec(self) -> Vec<u8>
         ensures { result.items ≡ self }
     {

@@ -1,4 +1,4 @@
-//! Laws of a node's past: what it says of the node and of its answers.
+//! Laws of a node's past: the past determines the node and its answers.
 ghost use Rattle.gb_node.specs.PastLaw.{PastsSay};
 ghost use Rattle.gb_node.specs.StepLaw.{AnswersSay};
 ghost use Rattle.gb_node.specs.SendLaw.{BatchesAreForOthers, OthersAreInside, PacketsAreReadBack, PacketsSay, ReachedAreOthers, SendersRun, StarvedSays};
@@ -8,9 +8,9 @@ use gb_frame::laws::what_is_written_is_read;
 use gb_slot::history::stands;
 use gb_table::each::each_group;
 
-/// A law of every node, whatever happens at it: its links, its crash detector, its tenants, whether it stopped and each of its
-/// groups are what the events and answers of its past say. Each group's slot stands for what the past told that group. The function
-/// does nothing when it runs; its contract is the law.
+/// A law of every node, whatever happens at it. The events and answers of its past determine its links, its crash detector, its
+/// tenants, whether it stopped, and each of its groups. Each group's slot represents the calls that the past has for that group. The
+/// function does nothing when it runs; its contract is the law.
 pub fn pasts_say()
     ensures { PastsSay }
 {
@@ -20,11 +20,11 @@ pub fn pasts_say()
     noticed_by_calls();
 }
 
-/// A law of every node, whatever happens at it: each of its answers is what the events and answers before it say. A request is
-/// answered by the rules of tenants and groups. A packet that is packed is one for another node, and has the first of the items
-/// that wait there in each group. A packet that is taken is one for this node from another node, and its frame comes for the first
-/// time only once. A tick reports other nodes of the cluster that were not held for crashed before. The function does nothing when
-/// it runs; its contract is the law.
+/// A law of every node, whatever happens at it: the events and answers before an answer determine it. A request is answered by the
+/// rules of tenants and groups. A packet that is packed is one for another node, and has the first of the items that wait there in
+/// each group. A packet that is taken is one for this node from another node, and its frame comes for the first time only once. A tick
+/// reports other nodes of the cluster that were not held for crashed before. The function does nothing when it runs; its contract is
+/// the law.
 pub fn answers_say()
     ensures { AnswersSay }
 {

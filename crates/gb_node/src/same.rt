@@ -1,4 +1,4 @@
-//! Comparisons of the values that events and answers are made of.
+//! Comparisons of the values in events and answers.
 ghost use Rattle.std.specs.Prelude.{◌≡◌, ◌↔◌, IsTrue};
 
 use crate::answer::{Good, PacketAnswer, Sent, Ticked};
@@ -63,7 +63,7 @@ fn same_command(first: &GroupCommand, second: &GroupCommand) -> bool
     }
 }
 
-/// Returns true if the requests ask for the same.
+/// Returns true if the two actions are the same.
 fn same_action(first: &Action, second: &Action) -> bool
     ensures { IsTrue result ↔ (first.now ≡ second.now) }
 {
@@ -139,7 +139,7 @@ pub(crate) fn same_taken(first: &PacketAnswer, second: &PacketAnswer) -> bool
     }
 }
 
-/// Returns true if the same was sent.
+/// Returns true if the two results of a sending event are the same.
 pub(crate) fn same_sent(first: &Sent, second: &Sent) -> bool
     ensures { IsTrue result ↔ (first.now ≡ second.now) }
 {

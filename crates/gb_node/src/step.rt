@@ -3,7 +3,7 @@ use crate::answer::NodeAnswer;
 use crate::event::NodeEvent;
 use gb_types::NodeId;
 
-/// An event at a node, and the answer of this node. What happens in a cluster is a list of these, and so is what a caller saw of a host.
+/// An event at a node, and the answer of this node. The run of a cluster is a list of these, and so are the calls of a caller of a host.
 #[derive(Drop)]
 pub struct NodeStep {
     pub node: NodeId,

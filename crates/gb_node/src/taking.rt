@@ -1,4 +1,4 @@
-//! What a packet and a tick do to the groups of a node, item by item.
+//! The effects of a packet and of a tick on the groups of a node, item by item.
 ghost use Rattle.std.specs.Prelude.{◌≡◌, fold, length};
 ghost use Rattle.gb_types.specs.Common.{rising};
 ghost use Rattle.gb_frame.specs.Common.{batch_in, IsBatch, item_of};
@@ -12,7 +12,7 @@ use gb_link::{Admission, Receiver};
 use gb_table::Table;
 use gb_types::{Addr, MsgId, NodeId, NodeSet, Version};
 
-/// Marks an item as acknowledged by the node `by`.
+/// Records that node `by` acknowledged an item.
 fn finish_item(table: &mut Table, by: NodeId, item: ItemView<'_>)
     ensures { table.new ≡ item_done by table.old (item_of item.entry) }
 {
@@ -31,7 +31,7 @@ fn finish_item(table: &mut Table, by: NodeId, item: ItemView<'_>)
     table.done(by, addr, m);
 }
 
-/// Marks each item of a frame, in order, as acknowledged by the node `by`. `texts` are the texts of the frame's items, of this
+/// Records that node `by` acknowledged each item of a frame, in order. `texts` are the texts of the frame's items, of this
 /// version.
 fn finish_frame(table: &mut Table, by: NodeId, version: Version, texts: &[u8])
     requires { IsBatch version texts.now }
@@ -50,7 +50,7 @@ pub fn take_ack(table: &mut Table, window: &mut Window, by: NodeId, base: u64, m
     ensures window { window.new ≡ record window.old { window = without_done base mask window.old.window } }
     ensures table { table.new ≡ fold (frame_done by) table.old (freed window.old.window base mask) }
 {
-    // The proof reads the limit on the number of unacknowledged frames.
+    // This call shows the prover the limit on the number of unacknowledged frames.
     let _ = window.room();
     let version = window.version();
     let mut done = 0;
@@ -62,7 +62,7 @@ pub fn take_ack(table: &mut Table, window: &mut Window, by: NodeId, base: u64, m
     done
 }
 
-/// Takes in a packet's items, in order, from the node that sent it.
+/// Takes a packet's items, in order, from the node that sent it.
 fn bring(table: &mut Table, from: NodeId, packet: &PacketView<'_>)
     ensures { table.new ≡ fold (item_comes from) table.old packet.now.items }
 {
@@ -71,9 +71,9 @@ fn bring(table: &mut Table, from: NodeId, packet: &PacketView<'_>)
     }
 }
 
-/// Takes the frame of a packet from the node `from`, if it has one. Its number is recorded in `receiver`. If it comes for the first
-/// time, its items are handed to their groups in `table`, in order. Returns what became of the frame, and the number of items that
-/// were handed on, 0 unless it came for the first time. Takes no memory.
+/// Takes the frame of a packet from the node `from`, if it has one. Records its number in `receiver`. If the frame comes for the first
+/// time, the groups in `table` receive its items, in order. Returns the result of the frame and the number of the items that the groups
+/// received, 0 unless it came for the first time. Takes no memory.
 pub fn take_frame(
     table: &mut Table,
     receiver: &mut Receiver,

@@ -1,11 +1,11 @@
-//! Tapes: what happened at a node, as a host records it.
+//! Tapes: the events at a node with their answers, as a host records them.
 ghost use Rattle.std.specs.Prelude.{◌≡◌};
 
 use crate::answer::NodeAnswer;
 use crate::event::NodeEvent;
 use std::marker::Model;
 
-/// An event at a node with its answer, and who asked for it.
+/// An event at a node with its answer, and the seat that asked for it.
 #[derive(Drop)]
 pub struct TapeEntry {
     /// The number of the seat that asked for the event.
@@ -21,7 +21,7 @@ pub struct Tape {
     entries: Vec<TapeEntry>,
 }
 
-// Not derived: what is derived is proved anew in each crate that ends one.
+// Not derived: a derived impl is proved anew in each crate that ends a tape.
 impl Drop for Tape {
     fn drop(self) {
         let Tape { entries: _ } = self;

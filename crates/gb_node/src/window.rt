@@ -64,7 +64,7 @@ impl Window {
     pub fn again(&self, number: u64) -> Option<(u64, &[u8])>
         ensures { MatchOption result (frame_again self.now.window number ≡ None) (λ r. (frame_again self.now.window number ≡ Some (r.0, batch_in self.now.version r.1.now)) × IsBatch self.now.version r.1.now × (0 < r.0)) }
     {
-        // The proof reads that frames are numbered from 1.
+        // This call shows the prover that frames are numbered from 1.
         let _ = self.sender.room();
         match self.sender.again(number) {
             Some((found, texts)) => Some((found, texts.as_slice())),
@@ -90,9 +90,9 @@ impl Window {
     }
 
     /// Takes the next batch for the node `to` out of the queues of `table`, and makes it the next frame of this window. Returns the
-    /// frame's number. The batch has at most `most` bytes; `count` and `bytes` are its items and their bytes, as `Table::measure`
-    /// returned them. The items are written where the frame stays, without a copy. `Err` if memory is refused; then nothing has
-    /// changed.
+    /// frame's number. The batch has at most `most` bytes; `count` and `bytes` are the numbers of its items and of their bytes, as
+    /// `Table::measure` returned them. The items are written where the frame stays, without a copy. `Err` if memory is refused; then
+    /// nothing has changed.
     pub fn pack(
         &mut self,
         table: &mut Table,
@@ -115,7 +115,7 @@ impl Window {
         ensures err { OnErr result ((self.new ≡ self.old) × (table.new ≡ table.old)) }
     {
         texts_tell_items();
-        // The proof reads how frames are numbered.
+        // This call shows the prover how frames are numbered.
         let _ = self.sender.room();
         self.sender.space(bytes)?;
         table.pack_into(to, most, count, self.sender.spare());

@@ -1,4 +1,4 @@
-//! The event that a step of a test means at a node.
+//! The event that a step of a test causes at a node.
 use crate::steps::{FIRST, LAST, SECOND, Step, THIRD, node};
 use crate::texts::{long_packet, packet};
 use gb_cap::token::token;
@@ -94,8 +94,8 @@ fn arrive(alloc: Global, sent: &[PacketText], number: usize) -> Result<NodeEvent
     Ok(NodeEvent::Packet(PacketText::from(bytes)))
 }
 
-/// Returns the event that `step` means at the node `me`. `sent` are the packets that were sent so far, which a step may let arrive.
-/// `Err` if memory is refused.
+/// Returns the event that `step` means at the node `me`. `sent` are the packets that were sent so far; a step may let one of them arrive.
+/// Returns `Err` if memory is refused.
 pub fn event(
     alloc: Global,
     sent: &[PacketText],

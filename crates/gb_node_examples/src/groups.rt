@@ -1,4 +1,4 @@
-//! All groups at one node: packing in turns, rooms with their generations, dropped groups, and the indices of what waits.
+//! All groups at one node: packing in turns, rooms with their generations, dropped groups, and the indices of items that wait.
 use crate::told::{Told, in_short};
 use gb_cap::token::token;
 use gb_cap::{Key, Need, Token};
@@ -26,15 +26,15 @@ const TENANT_KEY: Key = [2; 32];
 
 const ROOM: u16 = 8_153;
 
-/// A payload that a node of version 1 lets fall.
+/// A payload that is too long for a node of version 1, which lets its item fall.
 const LONG: &[u8] = &[7; 1_025];
 
-/// A room, counted from 0, and a generation. Each tenant has 256 rooms, from tenant 7 on.
+/// A room, counted from 0, and a generation. Each tenant has 256 rooms; the first tenant is 7.
 type Group = (u16, u32);
 
 #[derive(Clone, Copy)]
 enum Step {
-    /// Makes and opens a best-effort group of two members at the first.
+    /// Makes and opens a best-effort group of two members, at the first of them.
     Open,
     /// Says a message of one byte.
     Say,
@@ -56,7 +56,8 @@ enum To {
     Friend,
 }
 
-/// A batch: its node, the bytes that it has room for, and its items, each as a room, a generation and the number of a message.
+/// A batch: the node that it is for, the number of bytes that it has room for, and its items, each as a room, a generation and the number
+/// of a message.
 type Batch<'a> = (To, u16, &'a [(u16, u32, u16)]);
 
 fn addr(group: Group) -> Addr {
@@ -102,12 +103,12 @@ fn answer(table: &mut Table, request: &Request) -> Told {
     in_short(&reply)
 }
 
-/// Returns the answer to what a group's owner asks.
+/// Returns the answer to a request of a group's owner.
 fn by_owner(table: &mut Table, addr: Addr, command: GroupCommand) -> Told {
     answer(table, &Request::of_group(owner(addr), addr, command))
 }
 
-/// Returns the answer to what a group's member asks.
+/// Returns the answer to a request of a group's member.
 fn by_member(table: &mut Table, addr: Addr, command: GroupCommand) -> Told {
     answer(table, &Request::of_group(member(addr), addr, command))
 }
@@ -119,13 +120,13 @@ fn open(table: &mut Table, addr: Addr) -> Told {
     }
 }
 
-/// Says a message of one byte.
+/// Says a message of one byte, and returns the answer.
 fn say(alloc: Global, table: &mut Table, addr: Addr) -> Result<Told, OutOfMemory> {
     let message = NewMessage::new(Payload::from_slice(alloc, b"a")?);
     Ok(by_member(table, addr, GroupCommand::Say(message)))
 }
 
-/// Hands in the friend's first message in a group.
+/// Gives the table the friend's first message in a group, and returns `Done`.
 fn item(table: &mut Table, addr: Addr, payload: &[u8]) -> Told {
     let item = ItemView {
         tenant: addr.tenant,
@@ -156,7 +157,7 @@ fn take(alloc: Global, table: &mut Table, step: Step, group: Group) -> Result<To
     })
 }
 
-/// Compares the answers to these steps.
+/// Takes these steps, and compares the answers.
 fn compare(
     rt: &impl Abort,
     alloc: Global,
@@ -170,7 +171,7 @@ fn compare(
     Ok(())
 }
 
-/// Adds a tenant with 256 rooms.
+/// Adds a tenant with 256 rooms, and returns the answer.
 fn add_tenant(table: &mut Table, tenant: u16) -> Told {
     let row = TenantRow {
         tenant,
@@ -197,7 +198,7 @@ fn table_of(rt: &impl Abort, alloc: Global, version: Version) -> Table {
     table
 }
 
-/// Compares the next batch for a node: it has these items, in this order.
+/// Returns whether the next batch for a node has these items, in this order.
 fn packs(
     alloc: Global,
     table: &mut Table,
@@ -231,7 +232,7 @@ fn packs(
     Ok(texts.is_empty())
 }
 
-/// Compares the next batches.
+/// Compares the next batches with these.
 fn give(
     rt: &impl Abort,
     alloc: Global,
@@ -249,7 +250,7 @@ fn give(
     Ok(())
 }
 
-/// Makes these steps at a new node of this version. Then these batches come.
+/// Takes these steps at a new node of this version, and compares the batches that it packs then.
 fn run(
     rt: &impl Abort,
     alloc: Global,
@@ -262,7 +263,7 @@ fn run(
     give(rt, alloc, &mut table, batches)
 }
 
-/// Checks that nothing is packed for the friend.
+/// The batches of a table that packs nothing for the friend.
 static NOTHING: [Batch<'static>; 1] = [(To::Friend, ROOM, &[])];
 
 static THREE_SPEAK: [(Step, Group, Told); 10] = [
@@ -278,7 +279,7 @@ static THREE_SPEAK: [(Step, Group, Told); 10] = [
     (Step::Drop, (2, 0), Told::Done),
 ];
 
-// Each item takes ten bytes.
+// The batches of these steps. Each item takes ten bytes.
 static IN_TURN: [Batch<'static>; 5] = [
     (To::Me, ROOM, &[]),
     (To::Friend, 39, &[(1, 0, 1), (3, 0, 1), (1, 0, 2)]),
@@ -322,7 +323,7 @@ static A_PLACE_IS_TAKEN_AGAIN: [(Step, Group, Told); 13] = [
     (Step::Open, (1, 1), Told::Done),
     (Step::Say, (1, 0), Told::Done),
     (Step::Drop, (1, 0), Told::Done),
-    // The next generation has the first one's place and key, and nothing of its messages.
+    // The next generation has the place and the key of the first one, and none of its messages.
     (Step::Open, (1, 2), Told::Done),
     (Step::Item, (1, 0), Told::Done),
     (Step::Fetch, (1, 2), Told::Log(0)),
@@ -363,7 +364,7 @@ static FOUR_LIVE: [(Step, Group, Told); 14] = [
     (Step::Say, (2, 0), Told::Done),
 ];
 
-// In the order of the places. The walk ends in the second room, so the next one begins in the first.
+// The batches are in the order of the places. The walk ends in the second room, so the next one begins in the first.
 static BY_PLACES: [Batch<'static>; 2] = [
     (
         To::Friend,
@@ -416,7 +417,7 @@ fn nothing_waits_for_a_noticed_node(rt: HostRuntime) -> Result<(), Fail> {
     Ok(())
 }
 
-/// Each generation of a room says a message, and is dropped when the next one is there.
+/// Lets each generation of a room say a message, and drops it when the next one is there.
 fn outlive(rt: &impl Abort, alloc: Global, table: &mut Table) -> Result<(), OutOfMemory> {
     compare(rt, alloc, table, &[(Step::Open, (1, 0), Told::Done)])?;
     for generation in 1..1_100u32 {
@@ -444,7 +445,8 @@ fn a_room_goes_on(rt: HostRuntime) -> Result<(), Fail> {
     Ok(())
 }
 
-/// Makes and opens each of these generations of a room, says a message and drops it. Returns true if each request was done.
+/// Makes and opens each of these generations of a room, says a message and drops it. Returns true if each request was done, and false
+/// otherwise.
 fn come_and_go(
     alloc: Global,
     table: &mut Table,
@@ -460,7 +462,8 @@ fn come_and_go(
     Ok(are_done)
 }
 
-/// Returns how many pages of memory this process has asked for, and how many it holds. `None` if the system does not tell.
+/// Returns the number of pages of memory that this process has asked for, and the number that it holds. Returns `None` if the system does
+/// not say.
 pub fn pages(rt: &HostRuntime) -> Option<(u64, u64)> {
     let text = fs::read_to_string(rt, "/proc/self/statm").ok()?;
     let mut words = text.split(' ');
@@ -469,8 +472,8 @@ pub fn pages(rt: &HostRuntime) -> Option<(u64, u64)> {
     Some((asked, held))
 }
 
-// The memory that the process holds grows by less than 4 MiB while 10,000 groups come and go. It is not compared in a build that looks for
-// wrong accesses, which asks for terabytes and does not use again at once what is given back.
+// The memory that the process holds grows by less than 4 MiB while 10,000 groups come and go. This is not compared in a build that looks
+// for wrong accesses: such a build asks for terabytes, and does not use freed memory again at once.
 #[test]
 fn dropped_groups_give_their_memory_back(rt: HostRuntime) -> Result<(), Fail> {
     let mut table = table_of(&rt, rt.alloc(), Version::Three);
@@ -483,7 +486,7 @@ fn dropped_groups_give_their_memory_back(rt: HostRuntime) -> Result<(), Fail> {
     Ok(())
 }
 
-/// Begins the rooms from `begun` to below `end`.
+/// Makes the first groups of the rooms from `begun` to below `end`.
 fn begin_to(
     rt: &impl Abort,
     alloc: Global,
@@ -497,7 +500,8 @@ fn begin_to(
     Ok(())
 }
 
-/// The group at the last place says two messages. Between them the group at the first place says its message with this number.
+/// Lets the group at the last place say two messages, and between them the group at the first place its message with this number. Compares
+/// the batch.
 fn both_ends_are_busy(
     rt: &impl Abort,
     alloc: Global,
@@ -515,12 +519,12 @@ fn both_ends_are_busy(
     give(rt, alloc, table, &[(To::Friend, ROOM, &items)])
 }
 
-/// The number of rooms that were begun before, and the number that are begun then: up to the last one in one word of the sets and
-/// the first of the next word, the same of 8 words, and the last room.
+/// The number of rooms that have a group before, and after. The last of them is: the last room of one word of the sets, the first room of
+/// the next word, the last room of 8 words, the first room of the next word, and the last room of all.
 static ROOMS_AT_EDGES: [(u16, u16); 5] = [(0, 16), (16, 17), (17, 128), (128, 129), (129, 1_024)];
 
-/// The rooms at each edge are begun in turn, and their first groups are busy together with the first of all. Then so is the group at
-/// the last place.
+/// Makes the groups of rooms up to each of these edges in turn. The first group of the last room is busy together with the first group of
+/// all. At the end the group at the last place is busy too.
 fn reach_each_edge(rt: &impl Abort, alloc: Global, table: &mut Table) -> Result<(), OutOfMemory> {
     let mut seq: u16 = 0;
     for (begun, end) in &ROOMS_AT_EDGES {

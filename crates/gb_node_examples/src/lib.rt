@@ -1,8 +1,8 @@
-//! Worked uses of one node as tests, from one group to all that a node has. One group: what is said, heard, acknowledged and
-//! noticed, the refusals in their order, and what is let fall (`slots`; read `slot_steps` first). All groups, and the node's
-//! table: packing in turns, dropped groups and their indices, tokens (`groups`, `tables`), and the memory of groups (`reserved`).
-//! Whole nodes: bytes from one node handed to another, many tenants and groups in one frame, tokens, faults and stops, each a
-//! table of steps with their answers (`nodes`, `calls`, `row`, `versions`; read `steps` first). This crate has tests only.
+//! Worked uses of one node as tests, from one group to all that a node has. One group: messages that are said, heard, acknowledged and let
+//! fall, notices, and the refusals in their order (`slots`; read `slot_steps` first). All groups, and the node's table: packing in turns,
+//! dropped groups and their indices, tokens (`groups`, `tables`), and the memory of groups (`reserved`). Whole nodes: bytes that one node
+//! sends and another receives, many tenants and groups in one frame, tokens, faults and stops, each a table of steps with their answers
+//! (`nodes`, `calls`, `row`, `versions`; read `steps` first). This crate has tests only.
 #![tactic(auto)]
 
 #[cfg(test)]

@@ -1,4 +1,4 @@
-// Frames, and what is not sent.
+// Frames, and cases in which nothing is sent.
 use crate::steps::{BEST_EFFORT, FIRST, GROUP, Line, SECOND, Step, Told, run};
 use gb_node::Frame;
 use gb_types::{Addr, Refusal};
@@ -76,7 +76,7 @@ fn nothing_is_sent(rt: HostRuntime) -> Result<(), Fail> {
     Ok(())
 }
 
-/// An acknowledgement that says nothing new is sent again. After a frame came, another one is sent, which makes the frame done.
+/// An acknowledgement without news is sent again. After a frame came, a new one is sent, which makes the frame done.
 const AN_ACKNOWLEDGEMENT_IS_SENT_AGAIN: &[Line] = &[
     (SECOND, Step::Ack(FIRST), Told::Sent(39)),
     (SECOND, Step::Ack(FIRST), Told::Sent(39)),
@@ -115,7 +115,7 @@ fn an_acknowledgement_is_sent_again(rt: HostRuntime) -> Result<(), Fail> {
     Ok(())
 }
 
-/// A stopped node refuses each event.
+/// A stopped node answers each event with `Stopped`.
 const A_STOPPED_NODE_ANSWERS_STOPPED: &[Line] = &[
     (FIRST, Step::Stop, Told::Stopped),
     (FIRST, Step::Tenant(7), Told::Refused(Refusal::Stopped)),

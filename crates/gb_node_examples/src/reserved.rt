@@ -1,4 +1,4 @@
-//! The memory that groups take: what their specs reserve, and no more.
+//! The memory that groups take: not more than their specs reserve.
 use crate::groups::pages;
 use crate::told::{Told, in_short};
 use gb_cap::token::token;
@@ -16,16 +16,16 @@ const ADMIN_KEY: Key = [1; 32];
 
 const TENANT_KEY: Key = [2; 32];
 
-/// The bytes of a group of 32 members, each with 1,024 messages of 65,536 bytes in all, that relays in order: payloads; 27 bytes for
-/// each message, and 4 more for each own one; one table; and a kilobyte for the rest.
+/// The number of bytes of a group of 32 members, each with 1,024 messages of 65,536 bytes in all, whose kind relays in order: the payloads;
+/// 27 bytes for each message, and 4 more for each of its own; one table; and a kilobyte for the rest.
 const RESERVED: u64 = 32 * 65_536 + 32 * 1_024 * 27 + 1_024 * 4 + 32 * 1_024 * 2 + 1_024;
 
-/// The bytes that such a group may take: 6 percent more.
+/// The greatest number of bytes that such a group may take: 6 percent more.
 const MOST: u64 = RESERVED + RESERVED * 6 / 100;
 
 const _: () = prove!(MOST == 3_235_696);
 
-/// Returns true if the table obeys the request.
+/// Returns whether the table does the request.
 fn is_done(table: &mut Table, request: &Request) -> bool {
     let reply = table.request(request, &NodeSet::new());
     in_short(&reply) == Told::Done
@@ -47,7 +47,7 @@ fn add_tenant(table: &mut Table) -> bool {
     is_done(table, &request)
 }
 
-/// Returns what the greatest group is made with.
+/// Returns the spec of the greatest group.
 fn greatest() -> Spec {
     let mut members = NodeSet::new();
     for number in 0..32 {
@@ -63,7 +63,7 @@ fn greatest() -> Spec {
     }
 }
 
-/// Makes the groups with these numbers. Returns true if each is made.
+/// Makes the groups with these numbers. Returns true if each is made, and false otherwise.
 fn make(table: &mut Table, groups: Range<u16>) -> bool {
     let mut are_made = true;
     for group in groups {
@@ -79,8 +79,8 @@ fn make(table: &mut Table, groups: Range<u16>) -> bool {
     are_made
 }
 
-// 16 of the greatest groups take no more than their specs reserve. It is not compared in a build that looks for wrong accesses, which
-// asks for terabytes.
+// Sixteen of the greatest groups take no more memory than their specs reserve. This is not compared in a build that looks for wrong
+// accesses, because such a build asks for terabytes.
 #[test]
 fn groups_take_no_more_than_their_specs_reserve(rt: HostRuntime) -> Result<(), Fail> {
     let mut table = Table::new(

@@ -1,4 +1,4 @@
-// A crash among three nodes. The second node relays, and is handed faulty texts before each step.
+// A crash among three nodes. The second node relays, and receives faulty texts before each step.
 use crate::steps::{FIRST, GROUP, Line, SECOND, Step, THIRD, Told, compare, holds, three};
 use crate::texts::disturb;
 use gb_node::{Frame, Node, PacketText};
@@ -8,7 +8,7 @@ use std::process::Abort;
 use std::rt::HostRuntime;
 use std::test::Fail;
 
-/// The three nodes have a group.
+/// Each of the three nodes makes the group.
 const PREPARED: &[Line] = &[
     (FIRST, Step::Tenant(7), Told::Done),
     (FIRST, Step::Make(GROUP, Module::Lazy), Told::Done),
@@ -63,7 +63,8 @@ const CRASHED: &[Line] = &[
     (THIRD, Step::Fetch(GROUP), Told::Log(2)),
 ];
 
-/// Hands the second node each faulty text, and then takes a step. Returns true if the step's answer is as expected.
+/// Gives the second node each faulty text, and then takes a step. Returns true if the step's answer is the expected one, and false
+/// otherwise.
 fn holds_disturbed(
     rt: &impl Abort,
     alloc: Global,
@@ -75,7 +76,7 @@ fn holds_disturbed(
     holds(alloc, nodes, sent, line)
 }
 
-/// Compares the answer of each step, with the faulty texts before it.
+/// Takes the steps, each behind the faulty texts, and compares the answer of each.
 fn compare_disturbed(
     rt: &impl Abort,
     alloc: Global,
@@ -90,7 +91,8 @@ fn compare_disturbed(
     Ok(())
 }
 
-/// Prepares the nodes. Then compares the answer of each step, with the faulty texts before it and after the last one.
+/// Prepares the nodes, and then compares the answer of each step of the crash. The faulty texts come before each step and after the last
+/// one.
 fn compare_crash(
     rt: &impl Abort,
     alloc: Global,
@@ -102,15 +104,15 @@ fn compare_crash(
     disturb(rt, alloc, nodes)
 }
 
-/// Does the same at three new nodes.
+/// Compares the run with the crash at three new nodes.
 fn run_crash(rt: &impl Abort, alloc: Global) -> Result<(), OutOfMemory> {
     let mut nodes = three(alloc)?;
     let mut sent = Vec::new(alloc);
     compare_crash(rt, alloc, &mut nodes, &mut sent)
 }
 
-// Before each step of a run with a crash, and after the last, each faulty text comes to the second node, which answers its
-// fault. The answers of the steps are the same as without these texts.
+// Before each step of a run with a crash, and after the last one, each faulty text comes to the second node, which answers with its fault.
+// The answers of the steps are the same as without these texts.
 #[test]
 fn faults_change_nothing(rt: HostRuntime) -> Result<(), Fail> {
     run_crash(&rt, rt.alloc())?;

@@ -11,7 +11,7 @@ pub const OTHER: u8 = 3;
 
 pub const STRANGER: u8 = 4;
 
-/// Returns the node with the number `number` modulo 32.
+/// Returns the node whose number is `number` modulo 32.
 pub fn node(number: u8) -> NodeId {
     NodeId::new(number % 32)
 }
@@ -26,25 +26,26 @@ pub enum Step {
     Shut(Option<Refusal>),
     /// A payload is said and gets a number, or is refused.
     Say(&'static [u8], Result<u16, Refusal>),
-    /// A payload is said under a number that the caller names.
+    /// A payload is said, and the caller names its number.
     SayUnder(u32, &'static [u8], Result<u16, Refusal>),
     /// A message comes from a node.
     Came(u8, Message),
     Notice(u8),
     /// A node acknowledges the message of an origin with a number.
     Done(u8, u8, u16),
-    /// This number of items is taken, of those that wait for the node.
+    /// The caller takes this number of the items that wait for the node.
     Take(u8, usize),
-    /// This number of items waits for the node, this one first.
+    /// This number of items waits for the node, and this is the first.
     Waits(u8, usize, Message),
     Idle(u8),
     /// The log has exactly these messages.
     Log(&'static [Message]),
-    /// The index of the first entry that is read, the most entries, and the number of entries that are read.
+    /// The log is read: the index of the first entry, the greatest number of entries, and the number of entries that are returned.
     Fetch(u32, u32, Result<usize, Refusal>),
-    /// The number of messages that were said.
+    /// The number of messages that this member said.
     Said(usize),
-    /// Of these, the index of one, from 0: true for each of this node, the friend, the other and the stranger that has it for good.
+    /// The index of a message that this member said, from 0, and whether this node, the friend, the other and the stranger are known to
+    /// have it.
     Acknowledged(usize, [bool; 4]),
 }
 
@@ -98,7 +99,7 @@ fn is_acknowledged(slot: &Slot, place: usize, want: [bool; 4]) -> bool {
     }
 }
 
-/// Makes the call at a node of this version. Returns true if its answer is the expected one.
+/// Makes the call at a node of this version. Returns true if its answer is the expected one, and false otherwise.
 fn holds(version: Version, slot: &mut Slot, step: Step) -> bool {
     match step {
         Step::Open(want) => slot.open_group().err() == want,
@@ -138,8 +139,8 @@ fn holds(version: Version, slot: &mut Slot, step: Step) -> bool {
     }
 }
 
-/// Makes these calls of a group's slot in turn, at a node of this version. The test aborts with a message at the first whose answer
-/// is not the step's.
+/// Makes these calls of a group's slot in turn, at a node of this version. The test aborts with a message at the first call whose answer is
+/// not the expected one.
 pub fn compare(rt: &impl Abort, version: Version, slot: &mut Slot, steps: &[Step]) {
     for step in steps {
         let held = holds(version, slot, *step);

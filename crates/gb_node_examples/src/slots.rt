@@ -1,4 +1,4 @@
-//! One group at one node.
+//! One group at one node: calls of its slot.
 use crate::slot_steps::{FRIEND, ME, OTHER, STRANGER, Step, compare, node};
 use crate::steps::BEST_EFFORT;
 use gb_slot::{Slot, Store};
@@ -16,7 +16,7 @@ const TOO_LONG_FOR_TWO: &[u8] = &[7; 4_097];
 
 const LONGEST_OF_TWO: &[u8] = &[7; 4_096];
 
-/// The limits of each member: its messages, their bytes in all, and its messages that may be unfinished at once.
+/// The limits of each member: how many messages it may say, their bytes in all, and how many of them may be unfinished at once.
 #[derive(Clone, Copy)]
 struct Limits {
     msgs: u32,
@@ -42,7 +42,7 @@ const SMALL: Limits = Limits {
     window: 2,
 };
 
-/// Returns a group of three members at one of them. The other may be noticed before it is made.
+/// Returns a group of three members, at one of them. The other member is noticed before the group is made, if `noticed` is true.
 fn group(alloc: Global, module: Module, limits: Limits, noticed: bool) -> Result<Slot, Refusal> {
     let me = node(ME);
     let mut members = NodeSet::new();
@@ -72,7 +72,7 @@ fn group(alloc: Global, module: Module, limits: Limits, noticed: bool) -> Result
     Slot::new(alloc, spec, me, &seen)
 }
 
-/// Compares the answer of each call of a group of this module.
+/// Makes a group of this module with these limits, and compares the answer of each call.
 fn run(
     rt: &impl Abort,
     alloc: Global,
@@ -109,7 +109,7 @@ fn members_say_and_hear(rt: HostRuntime) -> Result<(), Fail> {
     run(&rt, rt.alloc(), BEST_EFFORT, WIDE, MEMBERS_SAY_AND_HEAR)
 }
 
-// Up to 16 bytes stand in the payload's value; a longer payload takes memory.
+// A payload of at most 16 bytes is stored in its value; a longer one takes memory.
 const PAYLOADS_OF_EACH_LENGTH_ARE_FETCHED: &[Step] = &[
     Step::Open(None),
     Step::Say(b"12345678", Ok(1)),
@@ -219,7 +219,7 @@ const REFUSALS_COME_IN_THEIR_ORDER: &[Step] = &[
     Step::Shut(Some(Refusal::WrongPhase)),
     Step::Open(Some(Refusal::WrongPhase)),
     Step::Say(TOO_LONG, Err(Refusal::WrongPhase)),
-    // Items still come.
+    // Items are still taken in.
     Step::Came(FRIEND, (FRIEND, 2, b"late")),
     Step::Fetch(3, 16, Ok(1)),
 ];
@@ -256,21 +256,21 @@ const ITEMS_ARE_LET_FALL: &[Step] = &[
     Step::Open(None),
     Step::Say(b"own", Ok(1)),
     Step::Came(FRIEND, (FRIEND, 1, b"first")),
-    // From a node that is no member, or with an origin that is no member.
+    // Items from a node that is no member, or with an origin that is no member.
     Step::Came(STRANGER, (STRANGER, 1, b"")),
     Step::Came(STRANGER, (FRIEND, 2, b"")),
     Step::Came(FRIEND, (STRANGER, 1, b"")),
-    // From this node, said or not.
+    // Items from this node, of messages that it said or did not say.
     Step::Came(ME, (ME, 1, b"")),
     Step::Came(ME, (ME, 2, b"")),
     Step::Came(ME, (FRIEND, 2, b"")),
-    // The second time from its sender.
+    // The same item from its sender again.
     Step::Came(FRIEND, (FRIEND, 1, b"")),
-    // With a number that no message has.
+    // Items with numbers that no message has.
     Step::Came(FRIEND, (FRIEND, 0, b"")),
     Step::Came(FRIEND, (FRIEND, 5, b"")),
     Step::Came(FRIEND, (FRIEND, u16::MAX, b"")),
-    // An own message from another node that was not said.
+    // An item from another node with a message that this node never said.
     Step::Came(FRIEND, (ME, 2, b"")),
     Step::Waits(OTHER, 1, (ME, 1, b"own")),
     Step::Came(FRIEND, (FRIEND, 4, b"fourth")),
@@ -293,7 +293,7 @@ fn items_are_let_fall(rt: HostRuntime) -> Result<(), Fail> {
 const NOTHING_WAITS_FOR_A_NODE_THAT_CRASHES: &[Step] = &[
     Step::Open(None),
     Step::Say(b"one", Ok(1)),
-    // No other members.
+    // These nodes are no other members.
     Step::Notice(STRANGER),
     Step::Notice(ME),
     Step::Waits(FRIEND, 1, (ME, 1, b"one")),
@@ -328,8 +328,8 @@ fn nothing_waits_for_a_node_that_crashes(rt: HostRuntime) -> Result<(), Fail> {
     )
 }
 
-/// A copy that another member relayed is taken in and not delivered. The origin's own copy then is delivered, with the bytes that
-/// came first.
+/// A copy that another member relayed is taken in and not delivered. The origin's own copy is delivered when it comes, with the bytes of
+/// the first copy.
 const BEST_EFFORT_TAKES_RELAYED_COPIES_IN: &[Step] = &[
     Step::Open(None),
     Step::Came(OTHER, (FRIEND, 1, b"first")),
@@ -363,7 +363,7 @@ fn best_effort_takes_relayed_copies_in(rt: HostRuntime) -> Result<(), Fail> {
     Ok(())
 }
 
-/// A lazy group relays what its crashed origin said, from the notice on.
+/// A lazy group relays the messages of a crashed origin once it has noticed the origin.
 const LAZY_GROUPS_RELAY_AFTER_A_CRASH: &[Step] = &[
     Step::Open(None),
     Step::Came(FRIEND, (FRIEND, 1, b"one")),
@@ -388,7 +388,7 @@ fn lazy_groups_relay_after_a_crash(rt: HostRuntime) -> Result<(), Fail> {
     )
 }
 
-/// An all-ack group delivers once every member that was not noticed holds the message.
+/// An all-ack group delivers a message once every member that was not noticed holds it.
 const ALL_ACK_GROUPS_WAIT_FOR_EACH_MEMBER: &[Step] = &[
     Step::Open(None),
     Step::Say(b"one", Ok(1)),
@@ -444,7 +444,7 @@ const ACKNOWLEDGEMENTS_ARE_KEPT: &[Step] = &[
     Step::Acknowledged(0, [true, false, false, false]),
     Step::Acknowledged(1, [true, true, false, false]),
     Step::Done(OTHER, ME, 1),
-    // Acknowledged before, said elsewhere, or never said.
+    // A message that was acknowledged before, messages of other members, and messages that were never said.
     Step::Done(FRIEND, ME, 2),
     Step::Done(FRIEND, FRIEND, 1),
     Step::Done(FRIEND, STRANGER, 1),
@@ -472,7 +472,7 @@ const USAGE_IS_BOUNDED: &[Step] = &[
     Step::Open(None),
     Step::Say(b"sevenly", Ok(1)),
     Step::Say(b"four", Err(Refusal::Bytes)),
-    // No more bytes are left, and the window is closed.
+    // All bytes are used, and the window is closed.
     Step::Say(b"ten", Ok(2)),
     Step::Say(b"x", Err(Refusal::Bytes)),
     Step::Say(b"", Err(Refusal::Window)),
@@ -482,7 +482,7 @@ const USAGE_IS_BOUNDED: &[Step] = &[
     Step::Say(b"", Ok(3)),
     Step::Notice(OTHER),
     Step::Say(b"", Err(Refusal::Window)),
-    // Each other member was noticed.
+    // Now each other member is noticed.
     Step::Notice(FRIEND),
     Step::Say(b"", Ok(4)),
     Step::Say(b"x", Err(Refusal::Budget)),
@@ -494,7 +494,7 @@ fn usage_is_bounded(rt: HostRuntime) -> Result<(), Fail> {
     run(&rt, rt.alloc(), BEST_EFFORT, NARROW, USAGE_IS_BOUNDED)
 }
 
-/// The bytes of each origin are limited separately. An item that is let fall, or known, does not count.
+/// The bytes of each origin are limited separately. An item that is let fall, or that was known, does not count.
 const BYTES_OF_AN_ORIGIN_ARE_BOUNDED: &[Step] = &[
     Step::Open(None),
     Step::Came(FRIEND, (FRIEND, 1, b"sevenly")),
@@ -526,7 +526,7 @@ fn bytes_of_an_origin_are_bounded(rt: HostRuntime) -> Result<(), Fail> {
     )
 }
 
-/// Each member says all its messages with all their bytes. None is refused or let fall, and each is put out once.
+/// Each member says as many messages and bytes as it may. No message is refused or let fall, and each is put out once.
 const ALL_THAT_MAY_BE_SAID_IS_TAKEN: &[Step] = &[
     Step::Open(None),
     Step::Say(b"me", Ok(1)),
@@ -561,7 +561,7 @@ fn all_that_may_be_said_is_taken(rt: HostRuntime) -> Result<(), Fail> {
     )
 }
 
-/// A store takes memory for at most 65,536 messages. A message that is said gets the next place.
+/// A store takes memory for at most 65,536 messages. A message that is said gets the next place in it.
 #[test]
 fn a_store_has_a_place_for_each_message(rt: HostRuntime) -> Result<(), Fail> {
     let alloc = rt.alloc();

@@ -1,4 +1,4 @@
-//! Three nodes, and steps at them with what they must tell, as tests. Tables name nodes by their numbers.
+//! Three nodes, and steps at them with their expected answers, as tests. Tables name nodes by their numbers.
 ghost use Rattle.std.specs.Prelude.{◌<◌, ◌≤◌};
 ghost use Rattle.gb_types.specs.Common.{limits_of};
 
@@ -18,15 +18,15 @@ pub const SECOND: u8 = 1;
 
 pub const THIRD: u8 = 2;
 
-/// The last node of a cluster of 32.
+/// The number of the last node of a cluster of 32.
 pub const LAST: u8 = 31;
 
-/// Returns the node with the number `number` modulo 32.
+/// Returns the node whose number is `number` modulo 32.
 pub fn node(number: u8) -> NodeId {
     NodeId::new(number % 32)
 }
 
-/// What most groups choose.
+/// The module of most groups of the tests.
 pub const BEST_EFFORT: Module = Module::BestEffort;
 
 /// The group of most tests.
@@ -36,7 +36,7 @@ pub const GROUP: Addr = Addr {
     generation: 0,
 };
 
-/// What happens at a node.
+/// Something that happens at a node.
 pub enum Step {
     /// A tenant is added, which may make two groups.
     Tenant(u16),
@@ -48,22 +48,22 @@ pub enum Step {
     Say(Addr, &'static [u8]),
     Fetch(Addr),
     Pack(u8),
-    /// A frame for a node is sent again.
+    /// A node is asked to send a frame again.
     Again(u8, u64),
     Ack(u8),
-    /// The packet with this number among those that were sent comes, counted from 0.
+    /// The packet with this number, counted from 0, among those that were sent arrives.
     Arrive(usize),
-    /// A packet of the first node to the second comes that no node sent, with this base, mask and frame, and these items
-    /// behind their count.
+    /// A packet from the first node to the second arrives that no node sent, with this base, mask and frame, and with these bytes of items,
+    /// the first two of which are their count.
     Packet([u64; 3], &'static [u8]),
-    /// A forged packet of version 2 from the first node to the second comes. It is frame 1, with three items of 4,096 bytes and
-    /// a last one of this length.
+    /// A forged packet of version 2 from the first node to the second arrives. It is frame 1, with three items of 4,096 bytes and a last
+    /// one of this length.
     LongPacket(u16),
     Tick,
     Stop,
 }
 
-/// What is looked at of an answer.
+/// The part of an answer that a test compares.
 pub enum Told {
     Done,
     Said(u16),
@@ -73,28 +73,29 @@ pub enum Told {
     Refused(Refusal),
     /// A packet of version 1 with this length in bytes is sent.
     Sent(usize),
-    /// The same of version 2.
+    /// A packet of version 2 with this length in bytes is sent.
     SentTwo(usize),
-    /// The same of version 3.
+    /// A packet of version 3 with this length in bytes is sent.
     SentThree(usize),
     /// A packet of these bytes is sent.
     SentBytes(&'static [u8]),
     Nothing,
-    /// A packet is not sent, for this reason.
+    /// No packet is sent, for this reason.
     NotSent(Refusal),
-    /// A good packet of a node, what became of its frame, how many items came, and how many frames it newly acknowledges.
+    /// A good packet came: its sender, the result of its frame, the number of items that came, and the number of frames that it newly
+    /// acknowledges.
     Came(u8, Frame, u32, u32),
     Fault(PacketFault),
-    /// Whether a node is noticed now.
+    /// A node, and whether this tick notices it.
     Noticed(u8, bool),
     Stopped,
 }
 
-/// The number of a node, a step there, and what it must tell.
+/// The number of a node, a step there, and the expected answer.
 pub type Line = (u8, Step, Told);
 
 /// Returns the node with this number, in a cluster of `nodes` nodes, at which nothing has happened. It sends this version, and at most
-/// `room` bytes of items a packet.
+/// `room` bytes of items in a packet.
 fn start_with(alloc: Global, number: u8, nodes: u8, version: Version, room: u16) -> Node
     requires member { number < nodes }
     requires cluster { nodes ≤ (limits_of version).nodes }
@@ -113,7 +114,7 @@ fn start_with(alloc: Global, number: u8, nodes: u8, version: Version, room: u16)
     Node::start(alloc, &plan)
 }
 
-/// The same, where packets are as long as the version has them.
+/// Returns such a node that sends packets of any length that the version allows.
 fn start(alloc: Global, number: u8, nodes: u8, version: Version) -> Node
     requires member { number < nodes }
     requires cluster { nodes ≤ (limits_of version).nodes }
@@ -121,8 +122,8 @@ fn start(alloc: Global, number: u8, nodes: u8, version: Version) -> Node
     start_with(alloc, number, nodes, version, 16_345)
 }
 
-/// Returns the three nodes of a cluster whose nodes send version 1 of the packet text, at which nothing has happened. `Err` if
-/// memory is refused.
+/// Returns three nodes of a cluster, at which nothing has happened. All of them send version 1 of the packet text. Returns `Err` if memory
+/// is refused.
 pub fn three(alloc: Global) -> Result<Vec<Node>, OutOfMemory> {
     let mut nodes = Vec::new(alloc);
     for number in 0..3u8 {
@@ -131,8 +132,8 @@ pub fn three(alloc: Global) -> Result<Vec<Node>, OutOfMemory> {
     Ok(nodes)
 }
 
-/// Returns the three nodes of a cluster whose first node sends version 2 of the packet text and the others version 1, at which
-/// nothing has happened. `Err` if memory is refused.
+/// Returns three nodes of a cluster, at which nothing has happened. The first sends version 2 of the packet text, and the others version 1.
+/// Returns `Err` if memory is refused.
 pub fn unlike(alloc: Global) -> Result<Vec<Node>, OutOfMemory> {
     let mut nodes = three(alloc)?;
     if let Some(first) = nodes.first_mut() {
@@ -141,8 +142,8 @@ pub fn unlike(alloc: Global) -> Result<Vec<Node>, OutOfMemory> {
     Ok(nodes)
 }
 
-/// Returns the three nodes of a cluster, at which nothing has happened. The first sends version 2 of the packet text, with at most
-/// 1,400 bytes of items a packet, and the others version 1. `Err` if memory is refused.
+/// Returns three nodes of a cluster, at which nothing has happened. The first sends version 2 of the packet text, with at most 1,400 bytes
+/// of items in a packet, and the others version 1. Returns `Err` if memory is refused.
 pub fn narrow(alloc: Global) -> Result<Vec<Node>, OutOfMemory> {
     let mut nodes = three(alloc)?;
     if let Some(first) = nodes.first_mut() {
@@ -151,7 +152,7 @@ pub fn narrow(alloc: Global) -> Result<Vec<Node>, OutOfMemory> {
     Ok(nodes)
 }
 
-/// Returns the first two nodes and the last one of a cluster of 32 nodes that send this version, at which nothing has happened.
+/// Returns the first two nodes and the last one of a cluster of 32 nodes that send this version, at which nothing has happened. Returns
 /// `Err` if memory is refused.
 pub fn far(alloc: Global, version: Version) -> Result<Vec<Node>, OutOfMemory>
     requires { 32 ≤ (limits_of version).nodes }
@@ -163,12 +164,12 @@ pub fn far(alloc: Global, version: Version) -> Result<Vec<Node>, OutOfMemory>
     Ok(nodes)
 }
 
-/// Where a node stands among the three: the last of 32 stands where the last of three does.
+/// Returns the index of a node among the three: the last of 32 nodes has the index of the third.
 fn place(number: u8) -> usize {
     usize::from(number).min(2)
 }
 
-/// Whether a reply is what must be told.
+/// Returns whether a reply is the expected one.
 fn is_reply(reply: &Reply, wanted: &Told) -> bool {
     match (reply, wanted) {
         (Reply::Done, Told::Done) => true,
@@ -185,7 +186,7 @@ fn is_packet(packet: &PacketText, byte: u8, len: usize) -> bool {
     bytes.len() == len && bytes.get(2) == Some(&byte)
 }
 
-/// Whether what was sent is what must be told.
+/// Returns whether the result of a send is the expected one.
 fn is_sent(sent: &Sent, wanted: &Told) -> bool {
     match (sent, wanted) {
         (Sent::Packet(packet), Told::Sent(wanted)) => is_packet(packet, 1, *wanted),
@@ -198,7 +199,7 @@ fn is_sent(sent: &Sent, wanted: &Told) -> bool {
     }
 }
 
-/// Whether what became of a packet is what must be told.
+/// Returns whether the result of a packet that came is the expected one.
 fn is_taken(taken: &PacketAnswer, wanted: &Told) -> bool {
     match wanted {
         Told::Came(from, frame, items, done) => {
@@ -215,7 +216,7 @@ fn is_taken(taken: &PacketAnswer, wanted: &Told) -> bool {
     }
 }
 
-/// Whether an answer is what must be told.
+/// Returns whether an answer is the expected one.
 fn is_told(answer: &NodeAnswer, wanted: &Told) -> bool {
     match (answer, wanted) {
         (NodeAnswer::Reply(reply), _) => is_reply(reply, wanted),
@@ -229,7 +230,7 @@ fn is_told(answer: &NodeAnswer, wanted: &Told) -> bool {
     }
 }
 
-/// Keeps a copy of the packet that was sent, if there is one.
+/// Appends a copy of the packet that was sent to `sent`, if there is one.
 fn keep(alloc: Global, sent: &mut Vec<PacketText>, answer: &NodeAnswer) -> Result<(), OutOfMemory> {
     let NodeAnswer::Sent(Sent::Packet(packet)) = answer else {
         return Ok(());
@@ -238,8 +239,8 @@ fn keep(alloc: Global, sent: &mut Vec<PacketText>, answer: &NodeAnswer) -> Resul
     Ok(sent.push(PacketText::from(bytes))?)
 }
 
-/// Takes the step of a line at its node, and appends a copy of the packet that the node sends, if any, to `sent`. Returns true if
-/// the node's answer is the line's, false if it is another or if the node is not there. `Err` if memory is refused.
+/// Takes the step of a line at its node, and appends a copy of the packet that the node sends, if any, to `sent`. Returns true if the
+/// node's answer is the line's, and false if it is another or if the node is not there. Returns `Err` if memory is refused.
 pub fn holds(
     alloc: Global,
     nodes: &mut [Node],
@@ -258,8 +259,8 @@ pub fn holds(
     }
 }
 
-/// Takes the steps of these lines in turn at their nodes, and appends the packets that they send to `sent`. The test aborts with a
-/// message at the first line whose answer is not the node's. `Err` if memory is refused.
+/// Takes the steps of these lines in turn at their nodes, and appends the packets that they send to `sent`. The test aborts with a message
+/// at the first line whose answer is not the node's. Returns `Err` if memory is refused.
 pub fn compare(
     rt: &impl Abort,
     alloc: Global,
@@ -274,8 +275,8 @@ pub fn compare(
     Ok(())
 }
 
-/// Takes the steps of these lines in turn at nodes that have sent nothing yet, as `compare` does. The test aborts with a message at
-/// the first line whose answer is not the node's. `Err` if memory is refused.
+/// Takes the steps of these lines in turn at nodes that have sent nothing yet, as `compare` does. The test aborts with a message at the
+/// first line whose answer is not the node's. Returns `Err` if memory is refused.
 pub fn run_at(
     rt: &impl Abort,
     alloc: Global,
@@ -286,8 +287,8 @@ pub fn run_at(
     compare(rt, alloc, nodes, &mut sent, lines)
 }
 
-/// Takes the steps of these lines in turn at the three nodes that `three` returns, as `compare` does. The test aborts with a
-/// message at the first line whose answer is not the node's. `Err` if memory is refused.
+/// Takes the steps of these lines in turn at the three nodes that `three` returns, as `compare` does. The test aborts with a message at the
+/// first line whose answer is not the node's. Returns `Err` if memory is refused.
 pub fn run(rt: &impl Abort, alloc: Global, lines: &[Line]) -> Result<(), OutOfMemory> {
     let mut nodes = three(alloc)?;
     run_at(rt, alloc, &mut nodes, lines)

@@ -1,4 +1,4 @@
-//! The tenants and groups of a node, by requests with tokens.
+//! The tenants and groups of a node, as requests with tokens make them.
 use crate::told::{Told, in_short};
 use gb_cap::token::token;
 use gb_cap::{Key, Need, Token};
@@ -25,7 +25,7 @@ const TENANT_KEY: Key = [2; 32];
 enum Ask {
     /// Adds a tenant that may make this number of groups.
     Tenant(u16, u32),
-    /// Makes a group of one member and the friend, who may each say this number of messages.
+    /// Makes a group of one member and the friend. Each may say this number of messages.
     Make(u16, NodeId, u32),
     Open(u16),
     Shut(u16),
@@ -136,7 +136,7 @@ fn compare_each(
     Ok(())
 }
 
-/// Compares the answers of the table of a node of this version with four places; the tenant 7 may make two groups.
+/// Compares the answers of the table of a node of this version that has four places; the tenant 7 may make two groups.
 fn compare_at(
     rt: &impl Abort,
     alloc: Global,
@@ -147,7 +147,7 @@ fn compare_at(
     compare_each(rt, alloc, &mut table, steps)
 }
 
-/// Does the same at a node of version 1.
+/// Compares the answers of the table of such a node of version 1.
 fn compare(rt: &impl Abort, alloc: Global, steps: &[(Ask, Holder, Told)]) -> Result<(), Fail> {
     compare_at(rt, alloc, Version::One, steps)
 }
@@ -270,7 +270,7 @@ fn says_are_refused_in_order(rt: HostRuntime) -> Result<(), Fail> {
             (Ask::Make(0, ME, 1), Holder::Owner, Told::Done),
             (Ask::Open(0), Holder::Owner, Told::Done),
             (Ask::Say(0, 1), Holder::Member(0), Told::Done),
-            // Too long, all messages are said, too many bytes, and the window is closed.
+            // In turn: the payload is too long, all messages are said, the bytes are too many, and the window is closed.
             (
                 Ask::Say(0, 1_025),
                 Holder::Member(0),
@@ -312,7 +312,7 @@ fn says_are_refused_in_order_in_version_two(rt: HostRuntime) -> Result<(), Fail>
                 Holder::Member(0),
                 Told::Refused(Refusal::TooLong),
             ),
-            // Not too long any more, and more bytes than may be said.
+            // In turn: the payload is not too long any more, and it has more bytes than may be said.
             (
                 Ask::Say(0, 4_096),
                 Holder::Member(0),

@@ -1,5 +1,4 @@
-//! Packets from the first node to the second that no node sent, and texts that are no packet for the second node, for tests of whole
-//! nodes.
+//! Packets from the first node to the second that no node sent, and texts that are no packet for the second node, for tests of whole nodes.
 use crate::steps::SECOND;
 use gb_cap::Key;
 use gb_cap::hmac::hmac;
@@ -13,14 +12,14 @@ pub const CLUSTER_KEY: Key = [0x11; 32];
 
 const OTHER_KEY: Key = [4; 32];
 
-/// Appends the tag of a text under a key.
+/// Appends to a text its tag under a key.
 fn seal(text: &mut Vec<u8>, key: &Key) -> Result<(), OutOfMemory> {
     let tag = hmac(key, text);
     text.extend_from_slice(&tag[..8])?;
     Ok(())
 }
 
-/// Appends numbers and items, and seals the text.
+/// Appends numbers and items to a text, and then its tag.
 fn spell(text: &mut Vec<u8>, numbers: &[u64], items: &[u8]) -> Result<(), OutOfMemory> {
     for number in numbers {
         text.extend_from_slice(&number.to_be_bytes())?;
@@ -29,8 +28,8 @@ fn spell(text: &mut Vec<u8>, numbers: &[u64], items: &[u8]) -> Result<(), OutOfM
     seal(text, &CLUSTER_KEY)
 }
 
-/// Returns a packet of version 1 from the first node to the second, with a good tag. `numbers` are the base, the mask and the
-/// frame's number; `items` are the two bytes of the number of items, and the items. `Err` if memory is refused.
+/// Returns a packet of version 1 from the first node to the second, with a good tag. `numbers` are the base, the mask and the frame's
+/// number. `items` are the two bytes of the number of items, and the items. Returns `Err` if memory is refused.
 pub fn packet(alloc: Global, numbers: &[u64], items: &[u8]) -> Result<PacketText, OutOfMemory> {
     let mut text = Vec::from_slice(alloc, b"GB\x01\0\x01")?;
     spell(&mut text, numbers, items)?;
@@ -47,8 +46,8 @@ fn put_item(text: &mut Vec<u8>, seq: u8, len: u16) -> Result<(), OutOfMemory> {
     Ok(())
 }
 
-/// Returns a packet of version 2 from the first node to the second, with a good tag: frame 1, three items with payloads of 4,096
-/// bytes and one with `last` bytes. `Err` if memory is refused.
+/// Returns a packet of version 2 from the first node to the second, with a good tag: frame 1, three items with payloads of 4,096 bytes and
+/// one with `last` bytes. Returns `Err` if memory is refused.
 pub fn long_packet(alloc: Global, last: u16) -> Result<PacketText, OutOfMemory> {
     let mut items = Vec::from_slice(alloc, b"\0\x04")?;
     for seq in 1..4u8 {
@@ -60,22 +59,22 @@ pub fn long_packet(alloc: Global, last: u16) -> Result<PacketText, OutOfMemory> 
     Ok(PacketText::from(text))
 }
 
-/// A packet from the first node to the second without its tag, frame 1 with one item; then nine zeros.
+/// A packet from the first node to the second without its tag, which is frame 1 with one item; then nine zeros.
 const TEXT: &[u8] =
     b"GB\x01\0\x01\0\0\0\0\0\0\0\x01\0\0\0\0\0\0\0\0\0\0\0\0\0\0\0\x01\0\x01\0\x07\0\x01\0\0\x01\0\x01a\0\0\0\0\0\0\0\0\0";
 
-/// What is appended to a text.
+/// The bytes that are appended to a text.
 enum Tag {
     Nothing,
     /// Its tag under a key, with these bits of the last byte flipped.
     Under(Key, u8),
 }
 
-/// A number of bytes of `TEXT`, the index and the value of the one that is changed, what is appended, and the answer.
+/// The number of bytes of `TEXT` that are used, the index and the new value of the one that is changed, what is appended, and the fault.
 type Faulty = (usize, usize, u8, Tag, PacketFault);
 
 const FAULTY: &[Faulty] = &[
-    // With eight zeros in place of the tag.
+    // Texts with eight zeros instead of the tag.
     (49, 0, 0, Tag::Nothing, PacketFault::Magic),
     (49, 2, 2, Tag::Nothing, PacketFault::Tag),
     (49, 2, 3, Tag::Nothing, PacketFault::Length),
@@ -89,7 +88,7 @@ const FAULTY: &[Faulty] = &[
     (49, 0, b'G', Tag::Nothing, PacketFault::Tag),
     (49, 40, b'b', Tag::Nothing, PacketFault::Tag),
     (50, 0, b'G', Tag::Nothing, PacketFault::Trailing),
-    // Under another key, with another tag, for another node, and from outside the cluster.
+    // Texts with a tag under another key, with another tag, for another node, and from outside the cluster.
     (41, 0, b'G', Tag::Under(OTHER_KEY, 0), PacketFault::Tag),
     (41, 0, b'G', Tag::Under(CLUSTER_KEY, 1), PacketFault::Tag),
     (41, 4, 2, Tag::Under(CLUSTER_KEY, 0), PacketFault::Node),
@@ -106,7 +105,7 @@ fn changed(alloc: Global, length: usize, at: usize, byte: u8) -> Result<Vec<u8>,
     Ok(text)
 }
 
-/// Appends a tag to a text.
+/// Appends a tag to a text, or nothing.
 fn end(text: &mut Vec<u8>, tag: &Tag) -> Result<(), OutOfMemory> {
     let Tag::Under(key, turned) = tag else {
         return Ok(());
@@ -118,12 +117,12 @@ fn end(text: &mut Vec<u8>, tag: &Tag) -> Result<(), OutOfMemory> {
     Ok(())
 }
 
-/// Returns true if the node answers a text with this fault.
+/// Returns whether the node answers a text with this fault.
 fn answers(node: &mut Node, text: &[u8], fault: PacketFault) -> bool {
     node.packet(text) == PacketAnswer::Fault(fault)
 }
 
-/// Returns true if the node answers the text with its fault.
+/// Returns whether the node answers the text with its fault.
 fn answers_faulty(alloc: Global, node: &mut Node, faulty: &Faulty) -> Result<bool, OutOfMemory> {
     let (length, at, byte, tag, fault) = faulty;
     let mut text = changed(alloc, *length, *at, *byte)?;
@@ -131,7 +130,7 @@ fn answers_faulty(alloc: Global, node: &mut Node, faulty: &Faulty) -> Result<boo
     Ok(answers(node, &text, *fault))
 }
 
-/// Returns true if the node answers the first bytes of `TEXT`, without the last zeros, by their fault.
+/// Returns whether the node answers the first `length` bytes of `TEXT` with their fault.
 fn answers_cut(node: &mut Node, length: usize) -> bool {
     let text = TEXT.get(..length).unwrap_or(TEXT);
     if length < 39 {
@@ -141,7 +140,7 @@ fn answers_cut(node: &mut Node, length: usize) -> bool {
     }
 }
 
-/// The items of long messages, from the first number on, before their payloads.
+/// The headers of the items of long messages, from the first number on.
 const LONG_HEADS: &[&[u8]] = &[
     b"\0\x07\0\x01\0\0\x01\x04\0",
     b"\0\x07\0\x01\0\0\x02\x04\0",
@@ -172,7 +171,7 @@ fn put_long(text: &mut Vec<u8>) -> Result<(), OutOfMemory> {
     Ok(())
 }
 
-/// Returns true if the node answers that a text with eight items of 1,024 bytes each is too long.
+/// Returns whether the node answers that a text with eight items of 1,024 bytes each is too long.
 fn answers_long(alloc: Global, node: &mut Node) -> Result<bool, OutOfMemory> {
     let mut text = changed(alloc, 31, 30, 8)?;
     put_long(&mut text)?;
@@ -180,7 +179,7 @@ fn answers_long(alloc: Global, node: &mut Node) -> Result<bool, OutOfMemory> {
     Ok(answers(node, &text, PacketFault::TooLong))
 }
 
-/// Hands each of the texts to a node. The node answers it with its fault.
+/// Gives each of the texts to a node, and checks that the node answers each with its fault.
 fn disturb_node(rt: &impl Abort, alloc: Global, node: &mut Node) -> Result<(), OutOfMemory> {
     for length in 0..49 {
         let cut = answers_cut(node, length);
@@ -195,8 +194,8 @@ fn disturb_node(rt: &impl Abort, alloc: Global, node: &mut Node) -> Result<(), O
     Ok(())
 }
 
-/// Hands texts with a fault to the second of the nodes. The test aborts with a message unless the node answers each with its fault,
-/// or if there is no second node. `Err` if memory is refused.
+/// Gives texts with a fault to the second of the nodes. The test aborts with a message if the node answers one of them otherwise than with
+/// its fault, or if there is no second node. Returns `Err` if memory is refused.
 pub fn disturb(rt: &impl Abort, alloc: Global, nodes: &mut [Node]) -> Result<(), OutOfMemory> {
     match nodes.get_mut(usize::from(SECOND)) {
         Some(node) => disturb_node(rt, alloc, node),

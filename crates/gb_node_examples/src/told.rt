@@ -1,4 +1,4 @@
-//! Replies of a node in short, as tests compare them.
+//! Replies of a node in short, for tests to compare.
 use gb_types::{Refusal, Reply};
 
 #[derive(Clone, Copy, PartialEq)]
@@ -9,7 +9,7 @@ pub enum Told {
     Refused(Refusal),
 }
 
-/// Returns what a test looks at in a reply: the refusal, the number of entries of a log, or `Done` for each other reply.
+/// Returns what a test compares of a reply: the refusal, the number of entries of a log, or `Done` for each other reply.
 pub fn in_short(reply: &Reply) -> Told {
     match reply {
         Reply::Refused(why) => Told::Refused(*why),

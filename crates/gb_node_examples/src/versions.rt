@@ -22,33 +22,33 @@ const NEXT: Addr = Addr {
     generation: 1,
 };
 
-/// The longest payload of version 1, and those that are too long.
+/// The longest payload of version 1, and one that is too long.
 const LONGEST_OF_ONE: &[u8] = &[b'a'; 1_024];
 
 const TOO_LONG_FOR_ONE: &[u8] = &[b'a'; 1_025];
 
-/// The same of version 2.
+/// The longest payload of version 2, and one that is too long.
 const LONGEST_OF_TWO: &[u8] = &[b'a'; 4_096];
 
 const TOO_LONG_FOR_TWO: &[u8] = &[b'a'; 4_097];
 
-/// Behind seven payloads of 1,024 bytes, the longest that fills a packet of version 1, and a longer one.
+/// The longest payload that still fits in a packet of version 1 behind seven payloads of 1,024 bytes, and one that does not.
 const FILLS_ONE: &[u8] = &[b'a'; 913];
 
 const OVERFILLS_ONE: &[u8] = &[b'a'; 914];
 
-/// Behind three payloads of 4,096 bytes, the longest that fills a packet of version 2, and a longer one.
+/// The longest payload that still fits in a packet of version 2 behind three payloads of 4,096 bytes, and one that does not.
 const FILLS_TWO: &[u8] = &[b'a'; 4_021];
 
 const OVERFILLS_TWO: &[u8] = &[b'a'; 4_022];
 
-/// The same of version 3.
+/// The same two payloads for version 3.
 const FILLS_THREE: &[u8] = &[b'a'; 4_005];
 
 const OVERFILLS_THREE: &[u8] = &[b'a'; 4_006];
 
-/// The first node is of version 2 and the second of version 1. What is too long at the second is let fall there, and the
-/// frame is acknowledged.
+/// The first node sends version 2 and the second version 1. An item that is too long for the second node is let fall there, and its frame
+/// is acknowledged.
 const VERSIONS_ARE_UNLIKE: &[Line] = &[
     (FIRST, Step::Tenant(7), Told::Done),
     (FIRST, Step::Make(GROUP, Module::Eager), Told::Done),
@@ -83,7 +83,7 @@ const VERSIONS_ARE_UNLIKE: &[Line] = &[
         Step::Arrive(1),
         Told::Came(SECOND, Frame::Nothing, 0, 1),
     ),
-    // The second node's own message, and the one that it took in and relays.
+    // The second node sends its own message, and the one that it took in and relays.
     (SECOND, Step::Pack(FIRST), Told::Sent(2_105)),
     (
         FIRST,
@@ -100,7 +100,7 @@ fn what_is_too_long_for_a_node_is_let_fall(rt: HostRuntime) -> Result<(), Fail> 
     Ok(())
 }
 
-/// A node of version 1 takes the longest packet of version 2, and no longer one.
+/// A node of version 1 takes in the longest packet of version 2, and no longer one.
 const LONGEST_PACKETS: &[Line] = &[
     (
         SECOND,
@@ -192,7 +192,7 @@ fn room_of_version_two(rt: HostRuntime) -> Result<(), Fail> {
     Ok(())
 }
 
-/// A packet of version 3 has 16,345 bytes for items, each with a header of 13. A frame is sent again as it was, and acknowledged.
+/// A packet of version 3 has 16,345 bytes for items, each with a header of 13. A frame is sent again unchanged, and acknowledged.
 const ROOM_OF_THREE: &[Line] = &[
     (FIRST, Step::Tenant(7), Told::Done),
     (FIRST, Step::MakeFar(BESIDE, BEST_EFFORT), Told::Done),
@@ -229,7 +229,7 @@ fn room_of_version_three(rt: HostRuntime) -> Result<(), Fail> {
     Ok(())
 }
 
-/// A node with room for 1,400 bytes of items a packet. An item that is longer travels in a packet of its own.
+/// A node has room for 1,400 bytes of items in a packet. An item that is longer is sent in a packet of its own.
 const ROOM_OF_A_PLAN: &[Line] = &[
     (FIRST, Step::Tenant(7), Told::Done),
     (FIRST, Step::Make(GROUP, BEST_EFFORT), Told::Done),
@@ -254,7 +254,7 @@ fn room_of_a_plan(rt: HostRuntime) -> Result<(), Fail> {
     Ok(())
 }
 
-/// The last of 32 nodes says and hears, and is relayed for once it is noticed.
+/// The last of 32 nodes says and receives messages. Once it is noticed, its messages are relayed.
 const THE_LAST_NODE: &[Line] = &[
     (FIRST, Step::Tenant(7), Told::Done),
     (FIRST, Step::MakeFar(GROUP, Module::Lazy), Told::Done),
@@ -291,7 +291,7 @@ const THE_LAST_NODE: &[Line] = &[
     (FIRST, Step::Tick, Told::Noticed(LAST, true)),
     (FIRST, Step::Say(GROUP, b"more"), Told::Said(2)),
     (FIRST, Step::Pack(LAST), Told::Nothing),
-    // The first node's two messages, and the last node's between them.
+    // The first node sends its two messages, and the last node's between them.
     (FIRST, Step::Pack(SECOND), Told::SentTwo(79)),
     (
         SECOND,
@@ -312,7 +312,7 @@ fn the_last_node_says_and_hears(rt: HostRuntime) -> Result<(), Fail> {
     Ok(())
 }
 
-/// The first packet, with the message `a` of the group and the message `b` of its next generation, each the first one there.
+/// The first packet, with the message `a` of the group and the message `b` of its next generation. Each is the first message of its group.
 const TWO_GENERATIONS: &[u8] = b"GB\x03\0\x01\
     \0\0\0\0\0\0\0\x01\0\0\0\0\0\0\0\0\0\0\0\0\0\0\0\x01\0\x02\
     \0\x07\0\x01\0\0\0\0\0\0\x01\0\x01a\

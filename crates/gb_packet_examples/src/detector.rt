@@ -4,12 +4,12 @@ use gb_types::limits::NODES;
 use gb_types::{NodeId, NodeSet};
 use std::process::Abort;
 
-/// The node with this number, below 32.
+/// Returns the node with this number, which is below 32.
 fn node(number: u8) -> NodeId {
     NodeId::new(number % 32)
 }
 
-/// Whether the set has the nodes with these numbers, and no others.
+/// Returns whether the set has the nodes with these numbers, and no others.
 fn has(set: &NodeSet, numbers: &[u8]) -> bool {
     for number in 0..NODES as u8 {
         if set.contains(node(number)) != numbers.contains(&number) {
@@ -19,7 +19,7 @@ fn has(set: &NodeSet, numbers: &[u8]) -> bool {
     true
 }
 
-/// A call of a detector, and the nodes that it must give.
+/// A call of a detector, and the nodes that it must return.
 enum Step {
     Heard(u8),
     Tick(&'static [u8]),
@@ -27,7 +27,7 @@ enum Step {
     Noticed(&'static [u8]),
 }
 
-/// Makes the call, and says whether it gives what it must.
+/// Makes the call, and returns whether it returns the nodes that it must.
 fn holds(detector: &mut Detector, step: &Step) -> bool {
     match step {
         Step::Heard(number) => {
@@ -40,7 +40,7 @@ fn holds(detector: &mut Detector, step: &Step) -> bool {
     }
 }
 
-/// Makes the calls, this number of times.
+/// Makes the calls, this number of times, and compares what they return.
 fn compare(rt: &impl Abort, detector: &mut Detector, times: usize, steps: &[Step]) {
     for _ in 0..times {
         for step in steps {

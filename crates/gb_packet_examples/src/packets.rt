@@ -1,4 +1,4 @@
-//! Packets: what is written and read, each fault, and each limit at its last allowed and first refused value.
+//! Packets: how they are written and read, each fault, and each limit at its last allowed and first refused value.
 ghost use Rattle.std.specs.Prelude.{All, IsTrue};
 ghost use Rattle.gb_frame.specs.Common.{item_of, HasGeneration};
 
@@ -13,15 +13,15 @@ use std::alloc::Global;
 use std::process::Abort;
 use std::test::Fail;
 
-/// A packet of node 0 to node 1: frame 1 with one item, before its tag.
+/// A packet of node 0 to node 1, without its tag: frame 1 with one item.
 const BODY: &str =
     "4742010001000000000000000100000000000000000000000000000001000100070001000001000161";
 
-/// The same with its tag under `key`.
+/// The same packet with its tag under `key`.
 const TEXT: &str =
     "4742010001000000000000000100000000000000000000000000000001000100070001000001000161185b249b24f186ab";
 
-/// An acknowledgement of node 1 to node 0 after frame 2 came and frame 1 did not, with its tag.
+/// An acknowledgement of node 1 to node 0, with its tag: frame 2 came and frame 1 did not.
 const ACKNOWLEDGEMENT: &str =
     "474201010000000000000000010000000000000002000000000000000000007b6df7ba3c0f6a12";
 
@@ -33,8 +33,8 @@ const FAR: &str =
 const GENERATIONS: &str =
     "4742030001000000000000000100000000000000000000000000000001000200070001000000000000010001610007000100000001000001000162f55173670c2d4225";
 
-/// A version of the text and its limits: its byte, its last node, the number beyond it (0 stands for no such number), its longest
-/// payload, the payloads of a packet of the greatest length, that length, and how many of its bytes are for items.
+/// A version of the text and its limits: its byte, its last node, the number after that (0 if there is none), its longest payload, the
+/// payloads of a packet of the greatest length, that length, and how many of its bytes are for items.
 struct Longest {
     version: Version,
     byte: u8,
@@ -83,7 +83,7 @@ fn key() -> HmacKey {
     HmacKey::new(&[0x11; 32])
 }
 
-/// The node with this number, below 32.
+/// Returns the node with this number, which is below 32.
 fn node(number: u8) -> NodeId {
     NodeId::new(number % 32)
 }
@@ -108,7 +108,7 @@ fn item(alloc: Global, len: u16) -> Result<Item, OutOfMemory> {
     })
 }
 
-/// A packet of this version of node 0 to node 1 with items of these payloads, in frame 1.
+/// Returns a packet of this version of node 0 to node 1 with items of these payloads, in frame 1.
 fn packet(alloc: Global, version: Version, payloads: &[u16]) -> Result<Packet, OutOfMemory> {
     let mut items = Vec::new(alloc);
     for len in payloads {
@@ -125,7 +125,7 @@ fn packet(alloc: Global, version: Version, payloads: &[u16]) -> Result<Packet, O
     })
 }
 
-/// Whether the version can tell the generation of an item.
+/// Returns whether the version can express the generation of an item.
 fn can_tell(version: Version, item: ItemView<'_>) -> bool
     ensures { IsTrue result → HasGeneration version (item_of item.entry) }
 {
@@ -135,7 +135,7 @@ fn can_tell(version: Version, item: ItemView<'_>) -> bool
     }
 }
 
-/// Whether the version can tell the generation of each item.
+/// Returns whether the version can express the generation of each item.
 fn are_told(version: Version, items: &[Item]) -> bool
     ensures { IsTrue result → All (HasGeneration version) items.now }
 {
@@ -147,7 +147,7 @@ fn are_told(version: Version, items: &[Item]) -> bool
     true
 }
 
-/// The packet's text, if it can be written.
+/// Returns the packet's text, or `None` if the packet cannot be written.
 fn written(alloc: Global, packet: &Packet) -> Result<Option<Vec<u8>>, OutOfMemory> {
     if !packet.is_within_limits() || !are_told(packet.version, &packet.items) {
         return Ok(None);
@@ -155,8 +155,7 @@ fn written(alloc: Global, packet: &Packet) -> Result<Option<Vec<u8>>, OutOfMemor
     Ok(Some(encode(alloc, packet, &key())?))
 }
 
-/// A text like `BODY`, of the version with this byte, with items of these payloads, and eight zero bytes in place of the
-/// tag.
+/// Returns a text like `BODY`, of the version with this byte, with items of these payloads, and eight zero bytes instead of the tag.
 fn shaped(alloc: Global, version: u8, payloads: &[u16]) -> Result<Vec<u8>, Fail> {
     let mut text = bytes(alloc, BODY)?;
     text.truncate(31);
@@ -181,7 +180,7 @@ fn shaped(alloc: Global, version: u8, payloads: &[u16]) -> Result<Vec<u8>, Fail>
     Ok(text)
 }
 
-/// The same with the one item of `BODY`, and one byte changed.
+/// Returns the text that `shaped` makes with the item of `BODY`, and one byte changed.
 fn changed(alloc: Global, version: u8, at: usize, byte: u8) -> Result<Vec<u8>, Fail> {
     let mut text = shaped(alloc, version, &[1])?;
     if let Some(place) = text.get_mut(at) {
@@ -194,7 +193,7 @@ fn fault_of(text: &[u8]) -> Option<PacketFault> {
     decode(text, &key()).err()
 }
 
-/// Whether these bytes have these digits.
+/// Returns whether these bytes have these digits.
 fn spells(alloc: Global, text: &[u8], digits: &str) -> Result<bool, Fail> {
     let told = bytes(alloc, digits)?;
     Ok(text == told.as_slice())
@@ -214,7 +213,7 @@ fn one_item(rt: HostRuntime) -> Result<(), Fail> {
     compare(&rt, rt.alloc(), &packet, TEXT)
 }
 
-/// The packet of `FAR`.
+/// Returns the packet of `FAR`.
 fn far_packet(alloc: Global) -> Result<Packet, OutOfMemory> {
     let mut packet = packet(alloc, Version::Two, &[1])?;
     packet.from = NodeId { number: 31 };
@@ -245,7 +244,7 @@ fn acknowledgement(rt: HostRuntime) -> Result<(), Fail> {
     compare(&rt, rt.alloc(), &packet, ACKNOWLEDGEMENT)
 }
 
-/// The head of `TEXT`.
+/// Returns the head of `TEXT`.
 fn told_head() -> Head {
     Head {
         version: Version::One,
@@ -257,7 +256,7 @@ fn told_head() -> Head {
     }
 }
 
-/// Whether one item of the byte `a` stands in the frame, which is none where payloads have no bytes.
+/// Returns whether the frame has one item with the payload `a`, and no item if payloads may have no bytes.
 fn has_one_item(frame: &[u8]) -> bool {
     match first_item(Version::One, 1, frame) {
         Some((first, rest)) => {
@@ -300,13 +299,13 @@ fn a_frame_is_wrapped(rt: HostRuntime) -> Result<(), Fail> {
     Ok(())
 }
 
-/// Whether this is the item of `TEXT`.
+/// Returns whether this is the item of `TEXT`.
 fn is_told(item: &ItemView<'_>) -> bool {
     let numbers = (item.tenant, item.group, item.origin, item.seq);
     numbers == (7, 1, 0, 1) && item.payload == b"a".as_slice()
 }
 
-/// Compares what is read of `TEXT`.
+/// Compares the packet that was read with that of `TEXT`.
 fn compare_read(rt: &impl Abort, read: &PacketView<'_>) {
     let head = read.head();
     assert!(rt; head == told_head());
@@ -329,7 +328,7 @@ fn what_was_written_is_read(rt: HostRuntime) -> Result<(), Fail> {
     Ok(())
 }
 
-/// Whether this is the head of `FAR` and its one item.
+/// Returns whether this packet has the head of `FAR` and its one item.
 fn is_far(read: &PacketView<'_>) -> bool {
     let head = read.head();
     let nodes = (head.from.number, head.to.number);
@@ -350,7 +349,7 @@ fn version_two_is_read(rt: HostRuntime) -> Result<(), Fail> {
     Ok(())
 }
 
-/// The packet of `GENERATIONS`.
+/// Returns the packet of `GENERATIONS`.
 fn packet_of_generations(alloc: Global) -> Result<Packet, OutOfMemory> {
     let mut packet = packet(alloc, Version::Three, &[1, 1])?;
     if let Some(item) = packet.items.last_mut() {
@@ -360,7 +359,7 @@ fn packet_of_generations(alloc: Global) -> Result<Packet, OutOfMemory> {
     Ok(packet)
 }
 
-/// Whether these are the items of `GENERATIONS`.
+/// Returns whether the packet has the items of `GENERATIONS`.
 fn are_of_generations(read: &PacketView<'_>) -> bool {
     let mut items = read.items();
     let (Some(first), Some(second)) = (items.next(), items.next()) else {
@@ -431,7 +430,7 @@ fn cut_short(rt: HostRuntime) -> Result<(), Fail> {
     Ok(())
 }
 
-/// The byte of a version, a place, a byte that stands there in place of the good one, and the fault that is found.
+/// The byte of a version, an index, the byte that replaces the good one at that index, and the fault that is found.
 type Changed = (u8, usize, u8, PacketFault);
 
 const FAULTS: &[Changed] = &[
@@ -464,14 +463,14 @@ const FAULTS: &[Changed] = &[
     (3, 42, 0x10, PacketFault::Length),
 ];
 
-/// Whether the changed text has this fault.
+/// Returns whether the changed text has this fault.
 fn has_fault(alloc: Global, case: &Changed) -> Result<bool, Fail> {
     let (version, at, byte, fault) = *case;
     let text = changed(alloc, version, at, byte)?;
     Ok(fault_of(&text) == Some(fault))
 }
 
-/// Whether a text with a byte more trails.
+/// Returns whether a text with one more byte has the fault `Trailing`.
 fn trails(alloc: Global) -> Result<bool, Fail> {
     let mut text = shaped(alloc, 1, &[1])?;
     let is_tag = fault_of(&text) == Some(PacketFault::Tag);
@@ -479,14 +478,14 @@ fn trails(alloc: Global) -> Result<bool, Fail> {
     Ok(is_tag && fault_of(&text) == Some(PacketFault::Trailing))
 }
 
-/// Whether a text of 8,303 bytes is too long for version 1, and not for version 2.
+/// Returns whether a text of 8,303 bytes is too long for version 1, and not for version 2.
 fn is_too_long(alloc: Global) -> Result<bool, Fail> {
     let (one, len) = shaped_fault(alloc, 1, &[1_024; 8])?;
     let (two, _) = shaped_fault(alloc, 2, &[1_024; 8])?;
     Ok(len == 8_303 && one == Some(PacketFault::TooLong) && two == Some(PacketFault::Tag))
 }
 
-/// Each fault, and the bytes of a header at their last good value and one beyond it.
+/// Each fault is found, and bytes of a header are tried at their last good value and one above it.
 #[test]
 fn each_fault(rt: HostRuntime) -> Result<(), Fail> {
     for case in FAULTS {
@@ -513,14 +512,14 @@ fn last_byte_of_the_tag(rt: HostRuntime) -> Result<(), Fail> {
     Ok(())
 }
 
-/// Whether a packet of this version with items of these payloads can be written.
+/// Returns whether a packet of this version with items of these payloads can be written.
 fn is_within(alloc: Global, version: Version, payloads: &[u16]) -> Result<bool, OutOfMemory> {
     let packet = packet(alloc, version, payloads)?;
     let text = written(alloc, &packet)?;
     Ok(text.is_some())
 }
 
-/// The fault of a text with items of these payloads, and its length.
+/// Returns the fault of a text with items of these payloads, and its length.
 fn shaped_fault(
     alloc: Global,
     version: u8,
@@ -530,7 +529,7 @@ fn shaped_fault(
     Ok((fault_of(&text), text.len()))
 }
 
-/// Whether an item with this payload is within the version's limits, when it is written and when it is read.
+/// Returns whether an item with this payload is within the version's limits as `within` says, when it is written and when it is read.
 fn has_limit(alloc: Global, case: &Longest, payload: u16, within: bool) -> Result<bool, Fail> {
     let fault = if within {
         PacketFault::Tag
@@ -554,7 +553,7 @@ fn longest_payload(rt: HostRuntime) -> Result<(), Fail> {
     Ok(())
 }
 
-/// Whether the last node may be named, and the one beyond it, where there is one, not.
+/// Returns whether a packet may name the last node of the version, and may not name the one after it, if there is one.
 fn has_last_node(alloc: Global, case: &Longest) -> Result<bool, OutOfMemory> {
     let mut packet = packet(alloc, case.version, &[1])?;
     packet.from = node(case.node);
@@ -572,14 +571,14 @@ fn last_node(rt: HostRuntime) -> Result<(), Fail> {
     Ok(())
 }
 
-/// Whether the longest packet of the version has its length, and is read.
+/// Returns whether the longest packet of the version has its length, and is read.
 fn longest_is_read(alloc: Global, case: &Longest) -> Result<bool, Fail> {
     let packet = packet(alloc, case.version, &case.payloads)?;
     let text = written(alloc, &packet)?.ok_or("within limits")?;
     Ok(text.len() == case.packet && fault_of(&text).is_none() && room(case.version) == case.room)
 }
 
-/// Whether a packet of a byte more is too long, when it is written and when it is read.
+/// Returns whether a packet with one more byte is too long, when it is written and when it is read.
 fn longer_is_refused(alloc: Global, case: &Longest) -> Result<bool, Fail> {
     let mut payloads = case.payloads;
     payloads[7] = payloads[7].saturating_add(1);

@@ -1,4 +1,4 @@
-//! Worked ports.
+//! Ports: packets that cross rings and sockets.
 ghost use Rattle.std.specs.Prelude.{◌≤◌};
 
 use gb_port::mesh::SLOTS;
@@ -11,10 +11,10 @@ use std::test::Fail;
 use std::thread;
 use std::time::Duration;
 
-// The port of node 0's socket in the tests.
+// The port number of node 0's socket in the tests.
 const BASE: u16 = 47_310;
 
-// What a port answers to a packet: `+` for sent, `.` for no room, `!` for a fault of the device, `?` for want of memory.
+// Sends a packet and returns the port's answer: `+` for sent, `.` for no room, `!` for a fault of the device, `?` if memory ran out.
 fn sent<P: Port>(port: &mut P, to: NodeId, packet: &[u8]) -> u8 {
     match port.send(to, packet) {
         Ok(true) => b'+',
@@ -24,7 +24,7 @@ fn sent<P: Port>(port: &mut P, to: NodeId, packet: &[u8]) -> u8 {
     }
 }
 
-// What was received: a packet's first byte, `-` for an empty packet, `.` for nothing there, `!` for a fault.
+// Returns a character for the result of `recv`: the packet's first byte, `-` for an empty packet, `.` for no packet, `!` for a fault.
 fn seen(answer: &Result<Option<Vec<u8>>, PortFault>) -> u8 {
     match answer {
         Ok(Some(packet)) => match packet.as_slice() {
@@ -36,17 +36,17 @@ fn seen(answer: &Result<Option<Vec<u8>>, PortFault>) -> u8 {
     }
 }
 
-// What a port answers when it is asked for a packet, as `seen` has it.
+// Receives a packet from a port, and returns the character that `seen` gives for the result.
 fn received<P: Port>(port: &mut P) -> u8 {
     seen(&port.recv())
 }
 
-// A port may be moved to another thread. How many failures it counted.
+// Returns how many failures a port counted. The bound `Send` shows that it may be moved to another thread.
 fn may_move<P: Port + Send>(port: &P) -> u64 {
     port.failures()
 }
 
-// A call of the port of the node that is named first, and what it answers.
+// A call of the port of the node that is named first, and its answer.
 #[derive(Clone, Copy)]
 enum Call {
     // A packet to the second node.
@@ -55,7 +55,7 @@ enum Call {
     Failures(u8, u64),
 }
 
-// Whether a port answers the call so.
+// Returns whether the port answers the call in this way.
 fn is_answered(ports: &mut [RingPort], call: Call) -> bool {
     match call {
         Call::Send(node, to, packet, answer) => {
@@ -75,7 +75,7 @@ fn is_answered(ports: &mut [RingPort], call: Call) -> bool {
     }
 }
 
-// Whether ports answer these calls so, one after another.
+// Returns whether the ports answer these calls in this way, one after another.
 fn are_answered(ports: &mut [RingPort], calls: &[Call]) -> bool {
     for call in calls {
         if !is_answered(ports, *call) {
@@ -85,7 +85,7 @@ fn are_answered(ports: &mut [RingPort], calls: &[Call]) -> bool {
     true
 }
 
-// The packets of three nodes. The rings to a node are looked at in turn, and there is no node 3.
+// The packets of three nodes. Each node reads its rings in turn. There is no node 3.
 const CROSSING: &[Call] = &[
     Call::Send(0, 1, b"1", b'+'),
     Call::Send(0, 1, b"2", b'+'),
@@ -114,7 +114,7 @@ fn packets_cross_a_mesh_in_order(rt: HostRuntime) -> Result<(), Fail> {
     Ok(())
 }
 
-// Node 1's packets fill the ring from node 0.
+// The ring from node 0 to node 1 is full of packets `1`.
 const FULL: &[Call] = &[
     Call::Send(0, 1, b"2", b'.'),
     Call::Send(0, 2, b"2", b'+'),
@@ -133,7 +133,7 @@ fn the_packet_after_sixty_four_has_no_room(rt: HostRuntime) -> Result<(), Fail> 
     Ok(())
 }
 
-// Sends a packet from node 0 to node 1. Returns whether it was taken.
+// Sends a packet from node 0 to node 1, and returns whether the port took it.
 fn is_taken_by(ports: &mut [RingPort], packet: &[u8]) -> bool {
     match ports.get_mut(0) {
         Some(port) => sent(port, NodeId::new(1), packet) == b'+',
@@ -141,7 +141,7 @@ fn is_taken_by(ports: &mut [RingPort], packet: &[u8]) -> bool {
     }
 }
 
-// Returns whether node 1 receives just this packet.
+// Returns whether node 1 receives exactly this packet.
 fn is_found(ports: &mut [RingPort], packet: &[u8]) -> bool {
     match ports.get_mut(1) {
         Some(port) => match port.recv() {
@@ -164,8 +164,8 @@ fn the_longest_packet_crosses_a_ring(rt: HostRuntime) -> Result<(), Fail> {
 
 const TWO_FOR_THE_FIRST: &[Call] = &[Call::Send(1, 0, b"1", b'+'), Call::Send(1, 0, b"2", b'+')];
 
-// Two packets come to a port that fails at a call. What it tells of two packets to another port and of three receivings,
-// in turn, and how many failures it counted.
+// Runs calls of a port one of which fails, after two packets came to it. Returns the answers to two sends and three receivings, in turn,
+// and how many failures it counted.
 fn calls(alloc: Global, at: u64) -> Result<([u8; 5], u64), OutOfMemory> {
     let mut ports = RingPort::mesh(alloc, 2)?;
     let _ = are_answered(&mut ports, TWO_FOR_THE_FIRST);
@@ -199,7 +199,7 @@ fn one_call_fails(rt: HostRuntime) -> Result<(), Fail> {
     Ok(())
 }
 
-// Returns whether the next packet that comes within a second is this one.
+// Returns whether a packet comes within a second, and is this one.
 fn is_heard(rt: &HostRuntime, port: &mut UdpPort, packet: &[u8]) -> bool {
     for _ in 0..1_000 {
         match port.recv() {
@@ -211,7 +211,7 @@ fn is_heard(rt: &HostRuntime, port: &mut UdpPort, packet: &[u8]) -> bool {
     false
 }
 
-// Another socket of node 1 is refused while it has one.
+// Returns whether another socket of node 1 is refused while it has one.
 fn is_taken(rt: &HostRuntime) -> bool {
     match UdpPort::bind_loopback(rt, rt.alloc(), NodeId::new(1), 2, BASE) {
         Ok(_) => false,
@@ -219,7 +219,7 @@ fn is_taken(rt: &HostRuntime) -> bool {
     }
 }
 
-// Returns bytes that differ from their neighbours.
+// Returns this number of bytes, each unlike its neighbours.
 fn numbered(alloc: Global, len: usize) -> Result<Vec<u8>, OutOfMemory> {
     let mut bytes = Vec::new(alloc);
     for index in 0..len {
@@ -228,7 +228,7 @@ fn numbered(alloc: Global, len: usize) -> Result<Vec<u8>, OutOfMemory> {
     Ok(bytes)
 }
 
-// Sends a packet of this length from node 1 to node 0. Returns whether its first bytes come, this number of them.
+// Sends a packet of this length from node 1 to node 0. Returns whether its first bytes arrive, `come` of them.
 fn is_carried(
     rt: &HostRuntime,
     a: &mut UdpPort,
@@ -242,7 +242,7 @@ fn is_carried(
     Ok(is_sent && is_heard(rt, a, &packet))
 }
 
-// The bytes of packets, and how many of them come. A packet has 16,384 bytes at most; of a longer datagram one byte more is kept.
+// Lengths of packets, and how many of their bytes arrive. A packet has at most 16,384 bytes; of a longer datagram one more byte is kept.
 const CARRIED: &[(usize, usize)] = &[
     (0, 0),
     (8_192, 8_192),
@@ -252,7 +252,7 @@ const CARRIED: &[(usize, usize)] = &[
     (16_386, 16_385),
 ];
 
-// Nodes 0 and 1, as their ports stand.
+// Sends packets between nodes 0 and 1 by their ports, and compares what arrives.
 fn talk(
     rt: &impl Abort,
     host: &HostRuntime,
@@ -270,7 +270,7 @@ fn talk(
     Ok(())
 }
 
-// The system takes no datagram of 65,508 bytes, and there is no third node.
+// Sends fail: the system takes no datagram of 65,508 bytes, and there is no third node.
 fn fail(
     rt: &impl Abort,
     host: &HostRuntime,
@@ -300,12 +300,12 @@ fn packets_cross_sockets(rt: HostRuntime) -> Result<(), Fail> {
     Ok(())
 }
 
-// Returns this port of the address 127.0.0.1.
+// Returns the address 127.0.0.1 with this port.
 fn place(port: u16) -> SocketAddr {
     SocketAddr::V4(SocketAddrV4::new(Ipv4Addr::new(127, 0, 0, 1), port))
 }
 
-// Sends a datagram from a socket, this number of times. Returns true if the system took each.
+// Sends a datagram from a socket, this number of times. Returns whether the system took each.
 fn is_flooded(socket: &UdpSocket, to: u16, count: usize) -> bool {
     let mut are_taken = true;
     for _ in 0..count {
@@ -314,7 +314,7 @@ fn is_flooded(socket: &UdpSocket, to: u16, count: usize) -> bool {
     are_taken
 }
 
-// Returns what is received in this number of calls, as `seen` has it, one call after the other.
+// Returns the characters that `seen` gives for the results of this number of calls, in order.
 fn received_all(alloc: Global, port: &mut UdpPort, calls: usize) -> Result<Vec<u8>, OutOfMemory> {
     let mut all = Vec::new(alloc);
     for _ in 0..calls {
@@ -323,7 +323,8 @@ fn received_all(alloc: Global, port: &mut UdpPort, calls: usize) -> Result<Vec<u
     Ok(all)
 }
 
-// A port of node 0 of three, with an own socket for each other one. It reads a socket only after `wake` if it is watched.
+// Returns a port of node 0 of three nodes, with a socket of its own for each other node. If it is watched, it reads a socket only after
+// `wake`.
 fn parted<N: Net>(rt: &N, alloc: Global, base: u16, is_watched: bool) -> Option<UdpPort>
     requires { (1 ≤ base) × (base ≤ 65000) }
 {
@@ -343,8 +344,8 @@ fn parted<N: Net>(rt: &N, alloc: Global, base: u16, is_watched: bool) -> Option<
     Some(port)
 }
 
-// What a port returns of 20 datagrams of a stranger and one of node 1, which came last: the node's first, and of the stranger all if no
-// source is watched.
+// The packets that a port returns of one datagram of node 1 that came last, and of 20 datagrams of a stranger before it: the node's first,
+// and then all of the stranger's, because no source is watched.
 const OF_STRANGERS: &[u8] = b"1jjjjjjjjjjjjjjjjjjjj..";
 
 #[test]
@@ -360,7 +361,7 @@ fn strangers_are_read_last(rt: HostRuntime) -> Result<(), Fail> {
     Ok(())
 }
 
-// A node without an own socket is no stranger: its packets come by the socket of all, as many in a row as there are.
+// A node without a socket of its own is no stranger: its packets come by the socket of all nodes, any number in a row.
 #[test]
 fn a_node_without_a_socket_is_no_stranger(rt: HostRuntime) -> Result<(), Fail> {
     let mut port = UdpPort::bind_loopback(&rt, rt.alloc(), NodeId::new(0), 3, 47_450).expect(
@@ -385,12 +386,12 @@ fn a_full_buffer_of_strangers_keeps_no_packet_out(rt: HostRuntime) -> Result<(),
     port.refuse_strangers();
     let stranger = UdpSocket::bind(&rt, place(0))?;
     let node = UdpSocket::bind(&rt, place(47_411))?;
-    // More than a buffer of 4 MiB has: the system counts each as some 700 bytes and more.
+    // These are more than a buffer of 4 MiB holds: the system counts each as at least 700 bytes.
     assert!(rt; is_flooded(&stranger, 47_410, 20_000));
     assert!(rt; node.send_to(b"1 packet", place(47_410)).is_ok());
     assert!(rt; received(&mut port) == b'1');
     assert!(rt; port.news().strangers == 0);
-    // Strangers are lost, eight in a call.
+    // Datagrams of strangers are discarded, eight in a call.
     assert!(rt; received(&mut port) == b'.' && received(&mut port) == b'.');
     assert!(rt; port.news().strangers == 16 && port.failures() == 0);
     Ok(())
@@ -423,7 +424,7 @@ fn a_watched_source_is_read_after_it_was_woken_and_few_of_strangers(
     Ok(())
 }
 
-// A packet to a node that is not up is a lost packet: the port goes on, and counts what the system says.
+// A packet to a node that is not up is a lost packet: the port goes on, and counts the errors that the system reports.
 #[test]
 fn a_node_that_is_not_up_is_no_fault(rt: HostRuntime) -> Result<(), Fail> {
     let mut port = parted(&rt, rt.alloc(), 47_430, false).expect(&rt, "node 0's sockets");
@@ -439,7 +440,7 @@ fn a_node_that_is_not_up_is_no_fault(rt: HostRuntime) -> Result<(), Fail> {
     Ok(())
 }
 
-// While a node has its sockets nobody else gets one at its address.
+// While a node has its sockets, no other socket gets its address.
 #[test]
 fn an_address_is_no_longer_shared(rt: HostRuntime) {
     let port = parted(&rt, rt.alloc(), 47_440, false);

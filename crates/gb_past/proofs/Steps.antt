@@ -9,7 +9,7 @@ use Rattle.gb_past.specs.Marks.{IsKept, last_key, entries_from, AreHome, Begins,
 use Rattle.gb_past.proofs.Lists.{prefix_trans}
 use Rattle.gb_past.proofs.Walks.{home_set, home_more, home_here, away_past_end, AreHome-kept, AreHome-append, AreHome-later, last_key-append, entries_from-append, none_at_away, last_past-snoc}
 
--- what a step makes of the head's number
+-- the head's number after a step
 abbrev pub turn : ℕ → ℕ
 turn n = either (n == 0) 0 n
 
@@ -41,7 +41,7 @@ module _ {E : Type 0} where
       let entries : entries_from c (marks ++ Begun c ∷ []) ≡ [] = entries_from-append c marks (Begun c ∷ []) ∙ (append-nil (entries_from c marks) ∙ none.1) in
       (kept.has_head, kept.head, (adds, Begun c ∷ [], None, tt, kept_more cells _ marks (Begun c ∷ []) kept tt, inl (refl, refl), (refl, last_past-snoc marks (Begun c), key, entries)))
 
-  -- of the past whose owner's cell is not at home, no entry is missing
+  -- if the cell of a past's owner is not at home, no entry of the past is missing
   all_known : (cells : List Cell) (k key : ℕ) (marks all : List (Mark E)) → AreHome cells all → IsPrefix marks all → last_key k marks ≡ key → (cell cells key).1 ≡ false
       → (entries_from k all ≡ entries_from k marks) × (last_key k all ≡ key)
   all_known cells k key marks all home pre last away =

@@ -1,4 +1,4 @@
--- What the marks of a book say about one past.
+-- The meaning of the marks of a book for one past.
 use Rattle.std.proofs.Common.{◌≡◌, ℕ, zero, suc, ◌<◌, ◌==◌, Bool, true, false, cond, List, [], ◌∷◌, ◌++◌, length, refl, ap, sym, ◌∙◌, arith, set}
 use Rattle.std.proofs.lemmas.Bool.Decides.{nat_tests}
 use mathlib.Core.List.{IsPrefix}
@@ -9,7 +9,7 @@ use Rattle.gb_past.specs.Marks.{last_key, entries_from, past_of, last_past, AreH
 abbrev IsHome : List Cell → ℕ → Type 0
 IsHome cells k = (cell cells k).1 ≡ true
 
--- a cell that comes home, and a new cell, leave each other cell at home where it is
+-- a cell that comes home, and a new cell, change nothing for the other cells that are at home
 pub home_set : (cells : List Cell) (i : ℕ) (n : ℕ) (k : ℕ) → (cell cells k).1 ≡ true → (cell (set cells i (n, true)) k).1 ≡ true
 home_set [] i n k h = h
 home_set (c ∷ cells) zero n zero h = refl
@@ -81,7 +81,7 @@ module _ {E : Type 0} where
   last_past-snoc (a ∷ []) m = refl
   last_past-snoc (a ∷ b ∷ marks) m = last_past-snoc (b ∷ marks) m
 
-  -- what is added to a book ends no past
+  -- marks that are added to a book only add entries to its pasts
   pub entries_from-prefix : (k : ℕ) (marks all : List (Mark E)) → IsPrefix marks all → IsPrefix (entries_from k marks) (entries_from k all)
   entries_from-prefix k marks all pre = (
     entries_from (last_key k marks) pre.0,

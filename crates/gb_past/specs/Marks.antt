@@ -1,4 +1,4 @@
--- How pasts lie in the log of a book of `logbook`: the book's rule, and what each step says.
+-- How pasts are stored in the log of a book of `logbook`: the book's rule, and the contract of each step.
 use Rattle.std.specs.Prelude.{ℕ, ◌≡◌, ◌<◌, ◌==◌, ◌++◌, true, List, [], ◌∷◌, length, if◌then◌else◌}
 use mathlib.Core.List.{IsPrefix}
 use Rattle.logbook.specs.Pages.{Cell, cell, Step, View, Book, Named, Nib, may_write, may_make}
@@ -27,7 +27,7 @@ last_past [] = 0
 last_past (m ∷ []) = past_of m
 last_past (m ∷ n ∷ more) = last_past (n ∷ more)
 
--- What clauses see of the past of the last mark
+-- The past of the last mark, as clauses see it
 abbrev pub known_of : {E : Type 0} → Book → List (Mark E) → Known E
 known_of b marks = record { book = (b, last_past marks); log = entries_from (last_past marks) marks }
 
@@ -37,7 +37,7 @@ AreHome cells [] = Unit {0}
 AreHome cells (Begun p ∷ more) = AreHome cells more
 AreHome cells (Added a ∷ more) = ((cell cells a.at).1 ≡ true) × AreHome cells more
 
--- The rule. The cell 0 is the word on which each step is made
+-- The rule of the book. The cell 0 is the word on which each step is made
 pub record IsKept {E : Type 0} (cells : List Cell) (marks : List (Mark E)) : Type 0 where
   pub has_head : 0 < length cells
   pub head : (cell cells 0).1 ≡ true
@@ -46,7 +46,7 @@ pub record IsKept {E : Type 0} (cells : List Cell) (marks : List (Mark E)) : Typ
 abbrev pub head_of : Book → Named
 head_of b = record { tracked = true; key = 0; book = b }
 
--- The pen is that of the owner
+-- The pen is the one of the owner
 pub record IsOwned {E : Type 0} (goes_on : List E → E → Type 0) (head : Named) (book : Book) (marks : List (Mark E)) (pen_book : Book) (pen : Nib) : Type 0 where
   pub head_is : head ≡ head_of book
   pub pen_is : pen_book ≡ book
@@ -68,7 +68,7 @@ abbrev pub Looks : {E : Type 0} → Step (Mark E) → View (Mark E) ℕ → ℕ 
 Looks {E} s v found w =
     (w.1.0 ≡ v.1.0) × ((k : ℕ) (marks : List (Mark E)) → IsPrefix marks v.0 → last_key k marks ≡ v.1.0.key → entries_from k w.0 ≡ entries_from k marks)
 
--- The entry is added to what the owner knew
+-- The entry is added to those that the owner knew
 abbrev pub IsAdded : {E : Type 0} → Mark E → View (Mark E) ℕ → View (Mark E) ℕ → Type 0
 IsAdded (Begun p) v w = Unit {0}
 IsAdded (Added a) v w =

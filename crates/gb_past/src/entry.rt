@@ -1,24 +1,24 @@
-//! How a past lies in a book of `logbook`. The owner holds a pen whose cell is not at home. The step that adds an entry brings
-//! this cell home and names the key of the owner's next cell. So while a cell is not at home, no entry was added at it: what its
-//! owner knows is the whole past.
+//! How a past is stored in a book of `logbook`. The owner has a pen whose cell is not at home. The step that adds an entry brings this cell
+//! home and names the key of the owner's next cell. So while a cell is not at home, no entry was added at it, and the entries that its
+//! owner knows are the whole past.
 ghost use Rattle.std.specs.Prelude.{List};
 
 use crate::story::Told;
 use logbook::{Gain, Pen, Plain, Play, Rule};
 use std::marker::PhantomData;
 
-/// An entry of a past, with its place in the book. No value of it is made.
+/// An entry of a past, with its position in the book. No value of this type is made.
 pub struct Place<E> {
     /// The key of the past's first cell.
     pub past: u64,
-    /// The key of the cell that came home.
+    /// The key of the cell that the entry brought home.
     pub at: u64,
     /// The key of the owner's next cell.
     pub next: u64,
     pub entry: E,
 }
 
-/// What stands in the book. No value of it is made.
+/// A mark in the book. No value of this type is made.
 pub enum Mark<E> {
     /// A past begins, whose first cell has this key.
     Begun(u64),
@@ -46,7 +46,7 @@ impl<E> Rule<Mark<E>, u64> for Law {
     ghost moves = { λ ask before after answer. Unit {0} };
 }
 
-/// What a step trades: nothing.
+/// The trade of a step that trades nothing.
 pub struct Nothing;
 
 impl<E> Gain<Mark<E>, u64> for Nothing {
@@ -91,7 +91,7 @@ impl<E> Play<Mark<E>, u64> for Add {
     ghost then = { Adds };
 }
 
-/// A step that asks for nothing.
+/// The step asks for nothing.
 impl<E> Plain<u64, Mark<E>, u64> for Look {
     ghost use Rattle.std.specs.Prelude.{None};
     ghost use Rattle.gb_past.specs.declared.entry.Mark.TheVariants.{Begun};
@@ -101,7 +101,7 @@ impl<E> Plain<u64, Mark<E>, u64> for Look {
     ghost state = { λ n. None };
 }
 
-/// What a step asks to be added, and by whom.
+/// The arguments of a step that adds an entry: the marks that are known, the owner's pen and the next one, and the value to record.
 pub struct Asked<'a, X, E> {
     pub marks: &'a logbook::Seen<Mark<E>, u64, Law>,
     pub pen: &'a Pen,

@@ -11,7 +11,7 @@ use crate::story::{Story, Told};
 use logbook::{Offer, Pen, Start, Word};
 use std::marker::{Model, PhantomData};
 
-/// The only owner of a past. It may go to another thread. Clauses see which past it is, and all its entries, oldest first.
+/// The only owner of a past. It may be moved to another thread. Clauses see the identity of the past, and all its entries, oldest first.
 #[derive(Drop)]
 pub struct Past<E, S: Story<E>> {
     head: Word<Mark<E>, u64, Law>,
@@ -68,8 +68,8 @@ impl<E, S: Story<E>> Past<E, S> {
         }
     }
 
-    /// Adds an entry behind the others: the one that `M` says stands for `about`. Makes two atomic steps on a word that only the
-    /// owner has. Takes no memory.
+    /// Adds an entry behind the others, namely the entry as which `M` records `about`. Makes two atomic steps on a word that only the owner
+    /// has. Takes no memory.
     pub fn add<X, M: Told<X, E>>(&mut self, about: &X)
         requires { S.goes_on self.old.log (M.entry about.now) }
         ensures book { self.new.book ≡ self.old.book }
@@ -120,8 +120,7 @@ impl<E, S: Story<E>> Seen<E, S> {
         self.marks = past.marks.again();
     }
 
-    /// A law: of two witnesses of one past, the entries of one begin with all entries of the other. The function does nothing; its
-    /// contract is the law.
+    /// A law, with nothing to run: of two witnesses of one past, the entries of one begin with all entries of the other.
     pub fn compare(&self, other: &Seen<E, S>)
         requires { self.now.book ≡ other.now.book }
         ensures { IsPrefix self.now.log other.now.log ⊎ IsPrefix other.now.log self.now.log }
@@ -130,8 +129,7 @@ impl<E, S: Story<E>> Seen<E, S> {
         both.learn(&other.marks);
     }
 
-    /// A law: each entry that the witness knows was one that may come after those before it, as the past's `Story` says. The
-    /// function does nothing; its contract is the law.
+    /// A law, with nothing to run: each entry that the witness knows was one that may follow those before it, as the past's `Story` says.
     pub fn is_story(&self)
         ensures { IsStory S.goes_on self.now.log }
     {
@@ -139,7 +137,7 @@ impl<E, S: Story<E>> Seen<E, S> {
     }
 }
 
-/// Returns the pen that may write a new cell, which is not at home.
+/// Returns a pen for a new cell, which is not at home.
 fn new_cell<E>(head: &Word<Mark<E>, u64, Law>, marks: &logbook::Seen<Mark<E>, u64, Law>) -> Pen
     requires { head.now ≡ head_of marks.now.book }
     ensures { (result.book ≡ marks.now.book) × (result.nib.right ≡ may_write) }
@@ -152,7 +150,7 @@ fn new_cell<E>(head: &Word<Mark<E>, u64, Law>, marks: &logbook::Seen<Mark<E>, u6
     pen
 }
 
-/// Returns what the step that adds an entry asks for.
+/// Returns the arguments of the step that adds an entry, as an offer.
 fn offer_of<X, E, M: Told<X, E>>(
     marks: &logbook::Seen<Mark<E>, u64, Law>,
     pen: &Pen,

@@ -1,5 +1,5 @@
-//! Serves one node of a cluster of several machines: reads the cluster's keys on standard input, and writes what it serves and how it ended. Why it
-//! did not serve to its end is told on standard error.
+//! Serves one node of a cluster of several machines: reads the cluster's keys on standard input, and writes what it serves and how it
+//! ended. The reason why it did not serve to its end is written to standard error.
 #![tactic(auto)]
 
 use gb_peer_run::peer_main::peer_main;
@@ -11,7 +11,7 @@ use std::io;
 use std::io::{ErrorKind, Write};
 use std::process::ExitCode;
 
-// The words of the command line; none if they cannot be read although there is memory.
+// Returns the words of the command line. They are none if they cannot be read although there is memory.
 fn words_of(rt: &HostRuntime, alloc: Global) -> Result<Vec<String>, AllocError> {
     match std::env::args(rt) {
         Ok(words) => words.collect(alloc),
@@ -22,7 +22,7 @@ fn words_of(rt: &HostRuntime, alloc: Global) -> Result<Vec<String>, AllocError> 
     }
 }
 
-// The same, borrowed.
+// Returns the words, borrowed.
 fn texts_of(alloc: Global, words: &[String]) -> Result<Vec<&str>, AllocError> {
     let mut texts: Vec<&str> = Vec::new(alloc);
     for word in words {
@@ -31,14 +31,14 @@ fn texts_of(alloc: Global, words: &[String]) -> Result<Vec<&str>, AllocError> {
     Ok(texts)
 }
 
-// Tells that there is no memory for the words. The exit status.
+// Reports that there is no memory for the words. Returns the exit status.
 fn give_up(rt: &HostRuntime) -> ExitCode {
     let outcome = Err(ServeFault::OutOfMemory);
     let _ = tell_end(&mut io::writer(rt), outcome);
     ExitCode::from(status_of(outcome))
 }
 
-// Prints what was asked for. The exit status.
+// Prints the help or the version. Returns the exit status.
 fn show(rt: &HostRuntime, text: &str) -> ExitCode {
     if tell(&mut io::writer(rt), text.as_bytes()) {
         ExitCode::from(0)
@@ -47,7 +47,8 @@ fn show(rt: &HostRuntime, text: &str) -> ExitCode {
     }
 }
 
-/// Status 0: all connections were served, the node was told to end, or help was asked for; 1: a fault; 2: refused words or a refused file.
+/// Returns status 0 if all connections were served, the node received `stop`, or help was asked for; 1 for a fault; 2 for refused words or
+/// a refused file.
 fn main(rt: HostRuntime) -> ExitCode {
     let alloc = rt.alloc();
     let Ok(strings) = words_of(&rt, alloc) else {

@@ -1,4 +1,4 @@
--- Which line tells a fault.
+-- The line that reports a fault.
 use Rattle.gb_types.specs.Common.{◌≡◌, ◌++◌, ℕ, List, refl, codes}
 use Rattle.gb_server.specs.Told.{lined}
 use Rattle.gb_server.specs.declared.fault.ServeFault.{ServeFault}
@@ -6,7 +6,7 @@ use Rattle.gb_peer_run.specs.Complaint.{complaint, fault_words}
 use Rattle.gb_peer_run.specs.declared.fault.PeerFault.{PeerFault}
 use Rattle.gb_peer_run.specs.declared.fault.PeerFault.TheVariants.{RefusedFile, NoNode, Remote, NotFound, Begun, Unmarked, Packets, Sessions, Serve}
 
--- a fault that is told nowhere else
+-- a fault that is reported only here
 pub own_complaint : (dir : List ℕ) (fault : PeerFault) → (fault ≡ RefusedFile → ⊥) → ((f : ServeFault) → fault ≡ Serve f → ⊥) → lined (codes "gb_peer: " ++ fault_words dir fault) ≡ complaint dir fault
 own_complaint dir RefusedFile file serve = absurd (file refl)
 own_complaint dir (NoNode node nodes) file serve = refl

@@ -1,4 +1,4 @@
--- What follows where a node was served.
+-- Facts that follow if a node was served.
 use Rattle.gb_types.specs.Common.{◌++◌, ℕ, List, [], Option, Result, Ok, Err, ap, append-nil, length, subst, OnOk}
 use Rattle.std.specs.Io.KnownBytes.{Appends}
 use Rattle.clap.specs.Words.{Text}
@@ -13,7 +13,7 @@ pub on_ok3 : {T E : Type 0} {A B C D : Type 0} (r : Result T E) → (A → B →
 on_ok3 (Ok v) f a b c = f a b c
 on_ok3 (Err e) f a b c = tt
 
--- the last line stands behind the one that tells what is served
+-- the last line follows the line that says what is served
 pub served_closed : (words : List Text) (input rest before mid after : Option (List ℕ)) → HasServed words input rest before mid [] → Appends mid after closed_line
     → HasServed words input rest before after closed_line
 served_closed words input rest before mid after h told =

@@ -1,4 +1,4 @@
--- What is told on standard error of a node that did not serve to its end.
+-- The lines on standard error about a node that did not serve to its end.
 use Rattle.std.specs.Prelude.{ℕ, List, [], ◌++◌, codes, decimal}
 use Rattle.std.specs.Net.Text.{socket_text}
 use Rattle.gb_server.specs.Told.{lined}
@@ -6,7 +6,7 @@ use Rattle.gb_peer_run.specs.Marks.{mark_name}
 use Rattle.gb_peer_run.specs.declared.fault.PeerFault.{PeerFault}
 use Rattle.gb_peer_run.specs.declared.fault.PeerFault.TheVariants.{RefusedFile, NoNode, Remote, NotFound, Begun, Unmarked, Packets, Sessions, Serve}
 
--- why a node does not serve to its end, and what to do about it, with the folder for its mark
+-- the reason why a node does not serve to its end, and what to do about it, with the folder for its mark
 abbrev pub fault_words : List ℕ → PeerFault → List ℕ
 fault_words dir RefusedFile = []
 fault_words dir (NoNode node nodes) = codes "the cluster file has no node " ++ decimal node ++ codes ": it has " ++ decimal nodes ++ codes ", from 0 on"
@@ -22,7 +22,7 @@ fault_words dir (Packets address) = codes "the address " ++ socket_text address 
 fault_words dir (Sessions address) = codes "the address " ++ socket_text address ++ codes " for sessions could not be bound"
 fault_words dir (Serve fault) = []
 
--- the line that tells it; none if it is told elsewhere: when the words or the file are read, or as a server's own fault
+-- the line of a fault on standard error; empty if the fault is reported elsewhere: when words or file are read, or as a server's own fault
 abbrev pub complaint : List ℕ → PeerFault → List ℕ
 complaint dir RefusedFile = []
 complaint dir (Serve fault) = []

@@ -1,4 +1,4 @@
--- What the start of a node in a run leaves on disk.
+-- The file that the start of a node in a run leaves on disk.
 use Rattle.std.specs.Prelude.{ℕ, List, ◌++◌, codes, decimal}
 
 -- the name of the mark of a node in a run, in a folder

@@ -9,8 +9,8 @@ use Rattle.gb_keys.specs.Keys.{run_key}
 use Rattle.gb_server.specs.{Behaviour.beat_of, Behaviour.rates_by, Told.places}
 use Rattle.gb_keys.specs.declared.keys.Keys.{Keys}
 
--- the host of nodes of a cluster, with keys; each node sends the version of the file, and packets are tagged under the key of the run; what
--- happens goes through rings where records are wanted
+-- the host of nodes of a cluster, with keys; each node sends the version of the file, and packets are tagged under the key of the run; the events go
+-- through rings if records are wanted
 abbrev pub host_of : ClusterFile → Keys → Bool → HostPlan
 host_of file keys records = record {
   cluster = record { nodes = length file.nodes.items; versions = replicate NODES file.version; silence = file.silence; places = places; room = file.room; cluster_key = run_key keys.cluster file.run; admin_key = keys.admin };

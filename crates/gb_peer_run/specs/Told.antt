@@ -1,4 +1,4 @@
--- What a node of a cluster prints, and its exit status.
+-- The lines that a node of a cluster prints, and its exit status.
 use Rattle.std.specs.Prelude.{◌<◌, ℕ, List, ◌++◌, Option, codes, decimal, length}
 use Rattle.std.specs.Io.KnownBytes.{Appends, Consumes}
 use Rattle.clap.specs.Words.{Text, matches_of}
@@ -12,11 +12,11 @@ use Rattle.gb_keys.specs.declared.keys.Keys.{Keys}
 use Rattle.gb_peer_run.specs.declared.fault.PeerFault.{PeerFault}
 use Rattle.gb_peer_run.specs.declared.fault.PeerFault.TheVariants.{RefusedFile, NoNode, Remote, NotFound, Begun, Unmarked, Packets, Sessions, Serve}
 
--- the line that tells what is served: the node, how many nodes there are, and the number of the run
+-- the line that says what is served: the node, the number of nodes, and the number of the run
 abbrev pub serving_line : ℕ → ℕ → ℕ → List ℕ
 serving_line node nodes run = lined (codes "serving node " ++ decimal node ++ codes " of " ++ decimal nodes ++ codes " in run " ++ decimal run)
 
--- the line that tells of a second start
+-- the line about a second start
 abbrev pub begun_line : ℕ → ℕ → List ℕ
 begun_line node run = lined (codes "node " ++ decimal node ++ codes " has begun in run " ++ decimal run ++ codes " already")
 
@@ -35,7 +35,7 @@ fault_line (Serve fault) = server_line fault
 abbrev pub closed_line : List ℕ
 closed_line = lined (codes "closed")
 
--- 2: the words or the file of the cluster are refused, or would serve at an address that the words do not allow; 1: all else
+-- 2 if the words or the file of the cluster are refused, or would serve at an address that the words do not allow; 1 for each other fault
 abbrev pub fault_status : PeerFault → ℕ
 fault_status RefusedFile = 2
 fault_status (NoNode node nodes) = 2
@@ -43,8 +43,8 @@ fault_status (Remote address) = 2
 fault_status (Serve fault) = server_status fault
 fault_status other = 1
 
--- The file that the words name says what the cluster is, which has the node of the words; what was read are keys and what stood behind them; and what
--- was written tells what is served, and then this.
+-- The file that the words name is a cluster's file with the node of the words. The input that was read is keys and some bytes behind them. The
+-- output that was written is the line that says what is served, and then the text `then`.
 pub record IsServedBy (read : PeerWords) (file : ClusterFile) (input rest before after : Option (List ℕ)) (then : List ℕ) : Type 0 where
   pub text : List ℕ
   pub filed : IsFileOf text file

@@ -1,5 +1,4 @@
-//! What a node of a cluster of several machines is started with, by the cluster's file and its keys: the plan of its host and the
-//! options of its loop.
+//! The host plan and the loop options of a node of a cluster of several machines, by the cluster's file and its keys.
 ghost use Rattle.std.specs.Prelude.{◌≡◌, ◌≤◌, ◌<◌, IfOk, IfErr, length};
 ghost use Rattle.gb_cluster_file.specs.Cluster.{IsWithin};
 ghost use Rattle.gb_host.specs.Common.{IsPlan};
@@ -28,8 +27,8 @@ pub fn node_count(file: &ClusterFile) -> u8
     file.nodes.len() as u8
 }
 
-/// Returns the plan of a host of this cluster's nodes, with its keys. Each node sends the version of the file, and packets are
-/// tagged under the key of the file's run. The host keeps what happens in rings for a record exactly if `records` is true.
+/// Returns the plan of a host of this cluster's nodes, with its keys. Each node sends the version of the file, and packets are tagged under
+/// the key of the file's run. The host keeps its events in rings for a record exactly if `records` is true.
 pub fn host_plan(file: &ClusterFile, keys: Keys, records: bool) -> HostPlan
     requires { IsWithin file.now }
     ensures is { result ≡ host_of file.now keys records }

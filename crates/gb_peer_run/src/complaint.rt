@@ -1,4 +1,4 @@
-//! What a node tells on standard error of why it does not serve to its end.
+//! The lines of a node on standard error about the reason why it does not serve to its end.
 ghost use Rattle.std.specs.Prelude.{◌≡◌, ◌++◌, true, OnOk, IfOk, codes, decimal};
 ghost use Rattle.std.specs.{Io.KnownBytes.Appends, Net.Text.socket_text};
 ghost use Rattle.gb_peer_run.specs.Complaint.{complaint, fault_words};
@@ -66,7 +66,7 @@ fn put_name(text: &mut Vec<u8>, front: &[u8], name: &[u8], back: &[u8]) -> Resul
     put_bytes(text, back)
 }
 
-// Appends that a node has begun in a run already, where its mark is, and what to do about it.
+// Appends that a node has begun in a run already, the path of its mark, and what to do about it.
 fn put_begun(text: &mut Vec<u8>, node: u8, run: u64, dir: &str) -> Result<(), OutOfMemory>
     ensures { OnOk result (text.new.items ≡ text.old.items ++ fault_words dir.now (PeerFault.Begun node run)) }
 {
@@ -89,7 +89,7 @@ fn put_begun(text: &mut Vec<u8>, node: u8, run: u64, dir: &str) -> Result<(), Ou
     )
 }
 
-// Appends why a node does not serve to its end, where that is not told elsewhere.
+// Appends the reason why a node does not serve to its end, if that is not reported elsewhere.
 fn put_words(text: &mut Vec<u8>, fault: PeerFault, dir: &str) -> Result<(), OutOfMemory>
     ensures { OnOk result (text.new.items ≡ text.old.items ++ fault_words dir.now fault) }
 {
@@ -138,7 +138,7 @@ fn put_words(text: &mut Vec<u8>, fault: PeerFault, dir: &str) -> Result<(), OutO
     }
 }
 
-// The line of a fault that is not told elsewhere.
+// Returns the line of a fault that is not reported elsewhere.
 fn line_of(alloc: Global, fault: PeerFault, dir: &str) -> Result<Vec<u8>, OutOfMemory>
     ensures { IfOk result (λ line. line.items ≡ lined (codes "gb_peer: " ++ fault_words dir.now fault)) }
 {
@@ -149,9 +149,9 @@ fn line_of(alloc: Global, fault: PeerFault, dir: &str) -> Result<Vec<u8>, OutOfM
     Ok(line)
 }
 
-/// Writes a line to `errors` that tells why a node does not serve to its end, and what to do about it. `dir` is the folder of the
-/// marks. Returns true if it was written, or if the fault is told elsewhere: a refused file or a server's own fault. Returns false
-/// if it could not be written, or if memory is refused.
+/// Writes a line to `errors` with the reason why a node does not serve to its end, and what to do about it. `dir` is the folder of the
+/// marks. Returns true if it was written, or if the fault is reported elsewhere: a refused file or a server's own fault. Returns false if
+/// it could not be written, or if memory is refused.
 pub fn complain<E: Write>(alloc: Global, fault: PeerFault, dir: &str, errors: &mut E) -> bool
     ensures { result ≡ true → Appends (E.contents errors.old) (E.contents errors.new) (complaint dir.now fault) }
 {

@@ -1,20 +1,20 @@
-//! Why a node does not serve to its end.
+//! The reasons why a node does not serve to its end.
 use gb_serve_words::WordFault;
 use gb_server::{RunFault, ServeFault};
 use gb_types::OutOfMemory;
 use std::net::SocketAddr;
 use thiserror::Error;
 
-/// Why a node of a cluster does not serve to its end.
+/// The reason why a node of a cluster does not serve to its end.
 #[derive(Clone, Copy, Debug, PartialEq, Eq, Error)]
 pub enum PeerFault {
-    /// The file of the cluster cannot be read, or is no such file. Why was told where it was read.
+    /// The file of the cluster cannot be read, or is no such file. The reason was printed when it was read.
     #[error("refused cluster file")]
     RefusedFile,
     /// The file has no node `node`: it has this number of them.
     #[error("no node {node} of {nodes}")]
     NoNode { node: u8, nodes: u8 },
-    /// The node's sessions are at this address, at which other machines reach it, and the words do not allow that.
+    /// The node's sessions are at this address, which other machines reach, and the words do not allow that.
     #[error("sessions at {0}")]
     Remote(SocketAddr),
     /// The address of the node with this number is not found.
@@ -32,7 +32,7 @@ pub enum PeerFault {
     /// The address for sessions could not be bound.
     #[error("sessions at {0}")]
     Sessions(SocketAddr),
-    /// A fault that a server of all nodes may have too.
+    /// A fault that a server of all nodes can have too.
     #[error("{0}")]
     Serve(ServeFault),
 }

@@ -14,7 +14,7 @@ use std::fs::{File, Files};
 use std::io::{Read, Write};
 use std::str;
 
-// Says why a file is refused.
+// Prints the reason why a file is refused. Returns the fault.
 fn refuse<E: Write>(errors: &mut E, name: &str, why: &str) -> PeerFault
     ensures { result ≡ PeerFault.RefusedFile }
 {
@@ -22,7 +22,7 @@ fn refuse<E: Write>(errors: &mut E, name: &str, why: &str) -> PeerFault
     PeerFault::RefusedFile
 }
 
-// Says why a text is no file of a cluster.
+// Prints the reason why a text is no file of a cluster. Returns the fault.
 fn refuse_text<E: Write>(
     alloc: Global,
     errors: &mut E,
@@ -41,7 +41,7 @@ fn refuse_text<E: Write>(
     }
 }
 
-// Returns the bytes of the file with this name, of which at most one more is read than a cluster file may have. `None` if it cannot be
+// Returns the bytes of the file with this name. At most one byte more is read than a cluster file may have. `None` if the file cannot be
 // read.
 fn bytes_of<F: Files>(files: &F, alloc: Global, name: &str) -> Option<Vec<u8>> {
     let file = File::open(files, name).ok()?;
@@ -52,9 +52,9 @@ fn bytes_of<F: Files>(files: &F, alloc: Global, name: &str) -> Option<Vec<u8>> {
     }
 }
 
-/// Reads the cluster file with this name from the disk, and returns what it says. Reads no more of it than shows that it is too long.
-/// `Err` with `RefusedFile` if it cannot be read, is too long, is no UTF-8 text or is no cluster file; then a line in `errors` says
-/// why. `Err` with `OutOfMemory`, as a server's fault, if memory is refused.
+/// Reads the cluster file with this name from the disk, and returns its content. If it is too long, only the part is read that shows this.
+/// `Err` with `RefusedFile` if it cannot be read, is too long, is no UTF-8 text or is no cluster file; then a line in `errors` says why.
+/// `Err` with `OutOfMemory`, as a server's fault, if memory is refused.
 pub fn read_file<F: Files, E: Write>(
     files: &F,
     alloc: Global,

@@ -1,4 +1,4 @@
-//! The mark: the file that the start of a node in a run leaves on disk, so that a node number speaks once in a run.
+//! The mark: the file that the start of a node in a run leaves on disk, so that a node number is used once in a run.
 ghost use Rattle.std.specs.Prelude.{◌≡◌, ◌++◌, OnOk, IfOk};
 ghost use Rattle.gb_peer_run.specs.Marks.{mark_name};
 
@@ -12,7 +12,7 @@ use std::io::{ErrorKind, Write};
 use std::os::unix::fs::OpenOptionsExt;
 use std::{fs, str};
 
-/// What came of a mark.
+/// The result of making a mark.
 #[derive(Clone, Copy, Debug, PartialEq, Eq)]
 pub enum Marked {
     /// It is there now, and was not before.
@@ -45,8 +45,7 @@ pub fn mark_name(alloc: Global, dir: &str, run: u64, node: u8) -> Result<Vec<u8>
     Ok(name)
 }
 
-// Makes a file that was not there, which its owner alone may read, and sees that it is on the disk. A file that cannot be written is
-// removed.
+// Makes a new file that only its owner may read, and syncs it to the disk. If the file cannot be written, it is removed.
 fn make<F: Files>(files: &F, name: &str) -> Marked {
     let mut options = OpenOptions::new();
     options.write(true).create_new(true).mode(0o600);
@@ -67,9 +66,9 @@ fn make<F: Files>(files: &F, name: &str) -> Marked {
     }
 }
 
-/// Marks that a node begins in a run, by a new file in the folder `dir`. The folder is made if it was not there, for its owner alone,
-/// and the file is on the disk when the function returns. Returns `New` if the file was made now, `Old` if it was there before,
-/// `Failed` if it could not be made or written; then it is not there. `Err` if memory is refused.
+/// Marks that a node begins in a run, by a new file in the folder `dir`. The folder is made if it does not exist, for its owner alone, and
+/// the file is on the disk when the function returns. Returns `New` if the file was made now, `Old` if it existed before, `Failed` if it
+/// could not be made or written; then it does not exist. `Err` if memory is refused.
 pub fn mark<F: Files>(
     files: &F,
     alloc: Global,

@@ -83,7 +83,7 @@ fn allow(plan: PeerPlan, sessions: SocketAddr) -> Result<(), PeerFault>
     }
 }
 
-// Returns why a node does not begin, by what came of its mark, if it does not.
+// Returns the reason why a node does not begin, by the result of making its mark. `Ok` if it begins.
 fn begun_by(marked: Marked, run: u64, me: NodeId) -> Result<(), PeerFault>
     ensures ok { OnOk result (marked ≡ Marked.New) }
     ensures old { marked ≡ Marked.Old → result ≡ Err (PeerFault.Begun me.number run) }
@@ -130,7 +130,7 @@ fn begin<F: Files>(
     begun_by(marked, run, me)
 }
 
-// Returns what the first line of the log begins with: the version of the program, the node, how many there are, the run, and the addresses.
+// Returns the beginning of the first line of the log: the version of the program, the node, the number of nodes, the run, and the addresses.
 fn begin_front(
     alloc: Global,
     me: NodeId,
@@ -155,7 +155,7 @@ fn begin_front(
     Ok(front)
 }
 
-// What the server of the node is told.
+// Returns the service of the node: its lines, and its options by the words.
 fn service_of(
     alloc: Global,
     file: &ClusterFile,
@@ -417,7 +417,7 @@ fn open_files<F: Files<File = File>>(
     }
 }
 
-// Refuses to serve where the process may hold too few descriptors for the node.
+// Refuses to serve if the process may hold too few descriptors for the node.
 fn allow_descriptors(plan: PeerPlan) -> Result<(), PeerFault>
     ensures { IfErr result (λ fault. fault_status fault ≡ 1) }
 {
@@ -427,7 +427,7 @@ fn allow_descriptors(plan: PeerPlan) -> Result<(), PeerFault>
     }
 }
 
-// Serves a node of a cluster whose places are known, with keys.
+// Serves a node of a cluster whose addresses are known, with keys.
 fn serve_node<
     H: Net<Listener = TcpListener, Stream = TcpStream>
         + Threads
@@ -502,7 +502,7 @@ fn serve_node<
     )
 }
 
-// Serves a node of the cluster of a file, with the keys that the reader has and what it has behind them.
+// Serves a node of the cluster of a file. `reader` gives the keys and then the line `stop`.
 fn serve_file<
     H: Net<Listener = TcpListener, Stream = TcpStream>
         + Threads
@@ -542,7 +542,7 @@ fn serve_file<
     )
 }
 
-// Tells why a node did not serve to its end, if it did not.
+// Writes the reason why a node did not serve to its end, if it did not.
 fn explain<E: Write>(alloc: Global, outcome: Result<(), PeerFault>, dir: &str, errors: &mut E) {
     match outcome {
         Ok(()) | Err(PeerFault::Serve(ServeFault::RefusedWords)) => (),
@@ -555,7 +555,7 @@ fn explain<E: Write>(alloc: Global, outcome: Result<(), PeerFault>, dir: &str, e
     }
 }
 
-// Serves a node by words. Its log is written to `errors`, and why it did not serve to its end.
+// Serves a node by words. Writes its log to `errors`, and the reason if it did not serve to its end.
 fn serve_words<
     H: Net<Listener = TcpListener, Stream = TcpStream>
         + Threads
@@ -586,7 +586,7 @@ fn serve_words<
     outcome
 }
 
-// Serves a node by the words of a command line. The answer is how it ended, which is still to be told.
+// Serves a node by the words of a command line. Returns its outcome, which is still to be reported.
 fn serve<
     H: Net<Listener = TcpListener, Stream = TcpStream>
         + Threads
@@ -616,14 +616,14 @@ fn serve<
     serve_words(rt, alloc, &read, reader, writer, errors)
 }
 
-/// Serves one node of a cluster by the words of a command line, until it ends. The first word is the program's name; the others
-/// name the cluster's file, the node, and a folder for the mark of its start. `reader` has the keys, and behind them the line
-/// `stop`, which ends the node. Writes a line for what is served and a line for how it ended to `writer`. Writes the log to
-/// `errors`, and there too why the node did not serve to its end, unless the words were refused.
+/// Serves one node of a cluster by the words of a command line, until it ends. The first word is the program's name; the others name the
+/// cluster's file, the node, and a folder for the mark of its start. `reader` has the keys, and then the line `stop`, which ends the node.
+/// Writes a line that says what is served and a line about the end to `writer`. Writes the log to `errors`, and the reason why the node did
+/// not serve to its end, unless the words were refused.
 ///
-/// Returns the exit status: 0 if all connections were served or the node was told to end; 2 if the words, the cluster's file or the
-/// address for sessions are refused; 1 for any other fault, or if the last line could not be written. When it returns, its threads
-/// have ended and its sockets are closed.
+/// Returns the exit status: 0 if all connections were served or the node received `stop`; 2 if the words, the cluster's file or the address
+/// for sessions are refused; 1 for any other fault, or if the last line could not be written. When it returns, its threads have ended and
+/// its sockets are closed.
 pub fn peer_main<
     H: Net<Listener = TcpListener, Stream = TcpStream>
         + Threads

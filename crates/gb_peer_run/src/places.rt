@@ -1,4 +1,4 @@
-//! Where the nodes of a cluster are reached, once their names are resolved.
+//! The addresses of the nodes of a cluster, once their names are resolved.
 ghost use Rattle.std.specs.Prelude.{◌≡◌, ◌<◌, IfErr, IfOk, IfSome, true, length, vec_len};
 ghost use Rattle.std.specs.List.{All};
 ghost use Rattle.gb_peer_run.specs.Refused.{AreAlike, IsPlaceFault};
@@ -9,14 +9,14 @@ use gb_types::{NodeId, OutOfMemory};
 use std::alloc::Global;
 use std::net::{Net, SocketAddr, ToSocketAddrs};
 
-/// Where the packets of each node go, by its number, and where one of them takes sessions.
+/// The address for packets of each node, by its number, and the address for sessions of one node.
 #[derive(Drop)]
 pub struct Places {
     pub packets: Vec<SocketAddr>,
     pub sessions: SocketAddr,
 }
 
-// Whether an address is of the family of another one, if there is one.
+// Returns true if `like` is an address of the same family, or if there is none to compare with.
 fn is_like(like: Option<SocketAddr>, address: SocketAddr) -> bool
     ensures { result ≡ true → IfSome like (λ one. AreAlike one address) }
 {
@@ -26,7 +26,7 @@ fn is_like(like: Option<SocketAddr>, address: SocketAddr) -> bool
     }
 }
 
-// Returns the first address of a place, or the first of the same family as another address.
+// Returns the first address of a place, or, if `like` is an address, its first address of the same family. `None` if there is none.
 fn resolve<H: Net>(rt: &H, place: &Place, like: Option<SocketAddr>) -> Option<SocketAddr>
     ensures { IfSome result (λ found. IfSome like (λ one. AreAlike one found)) }
 {
@@ -39,7 +39,7 @@ fn resolve<H: Net>(rt: &H, place: &Place, like: Option<SocketAddr>) -> Option<So
     None
 }
 
-// Resolves where each node takes packets, in the family of an address.
+// Resolves the address for packets of each node, in the family of an address.
 fn resolve_all<H: Net>(
     rt: &H,
     alloc: Global,
@@ -64,9 +64,9 @@ fn resolve_all<H: Net>(
     Ok(places)
 }
 
-/// Resolves the names of a cluster's file, once, by asking the system. Returns where each node takes packets, and where node `me`
-/// takes sessions. All addresses for packets are of the family of the node's own, IPv4 or IPv6. `Err` with `NotFound` and a node's
-/// number if an address of it is not found, and with `OutOfMemory`, as a server's fault, if memory is refused.
+/// Resolves the names of a cluster's file, once, with the system's resolver. Returns the address for packets of each node, and the address
+/// for sessions of node `me`. All addresses for packets are of the family of the node's own, IPv4 or IPv6. `Err` with `NotFound` and a
+/// node's number if an address of it is not found, and with `OutOfMemory`, as a server's fault, if memory is refused.
 pub fn places_of<H: Net>(
     rt: &H,
     alloc: Global,

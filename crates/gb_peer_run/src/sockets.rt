@@ -11,9 +11,9 @@ use gb_types::NodeId;
 use std::alloc::Global;
 use std::net::{Net, TcpListener, TcpStream};
 
-/// Binds the sockets of node `me`, and returns them alone in a list: UDP for packets at its own place in `places`, with an own socket
-/// for each other node as far as the system gives them, and TCP for sessions. `Err` with `Packets` or `Sessions` and the address if that one cannot be bound, and with `OutOfMemory`, as a server's
-/// fault, if memory is refused. Then no socket is left open.
+/// Binds the sockets of node `me`, and returns them in a list with no others: UDP for packets at the node's address in `places`, with a
+/// socket of its own for each other node as far as the system gives them, and TCP for sessions. `Err` with `Packets` or `Sessions` and the
+/// address if that one cannot be bound, and with `OutOfMemory`, as a server's fault, if memory is refused. Then no socket is left open.
 pub fn open_sockets<H: Net<Listener = TcpListener, Stream = TcpStream>>(
     rt: &H,
     alloc: Global,

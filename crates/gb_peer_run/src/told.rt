@@ -1,4 +1,4 @@
-//! What one node of a cluster of several machines prints on standard output, and its exit status.
+//! The lines that one node of a cluster of several machines prints on standard output, and its exit status.
 ghost use Rattle.std.specs.Prelude.{◌≡◌, ◌++◌, true, Err, IfOk, OnOk, decimal};
 ghost use Rattle.std.specs.Io.KnownBytes.{Appends};
 ghost use Rattle.gb_peer_run.specs.Told.{begun_line, closed_line, fault_line, fault_status, serving_line};
@@ -11,8 +11,8 @@ use gb_types::memory::put_bytes;
 use std::alloc::Global;
 use std::io::Write;
 
-/// Returns the line that tells which node is served, of how many, and in which run: `serving node I of N in run R`. `Err` if memory
-/// is refused.
+/// Returns the line that says which node is served, of how many, and in which run: `serving node I of N in run R`. `Err` if memory is
+/// refused.
 pub fn serving_line(alloc: Global, node: u8, nodes: u8, run: u64) -> Result<Vec<u8>, OutOfMemory>
     ensures { IfOk result (λ line. line.items ≡ serving_line node nodes run) }
 {
@@ -27,7 +27,7 @@ pub fn serving_line(alloc: Global, node: u8, nodes: u8, run: u64) -> Result<Vec<
     Ok(line)
 }
 
-// Returns the line that tells of a second start.
+// Returns the line about a second start.
 fn begun_line(alloc: Global, node: u8, run: u64) -> Result<Vec<u8>, OutOfMemory>
     ensures { IfOk result (λ line. line.items ≡ begun_line node run) }
 {
@@ -40,7 +40,7 @@ fn begun_line(alloc: Global, node: u8, run: u64) -> Result<Vec<u8>, OutOfMemory>
     Ok(line)
 }
 
-// Writes the line that tells of a second start. False: there was no memory for it, or it could not be written.
+// Writes the line about a second start. Returns false if there was no memory for it, or if it could not be written.
 fn tell_begun<W: Write>(alloc: Global, writer: &mut W, node: u8, run: u64) -> bool
     ensures { result ≡ true → Appends (W.contents writer.old) (W.contents writer.new) (begun_line node run) }
 {
@@ -57,8 +57,8 @@ pub fn tell_closed<W: Write>(writer: &mut W) -> bool
     tell(writer, b"closed\n")
 }
 
-/// Writes the line that tells why a node did not serve to its end to `writer`. Returns false if it could not be written, or if
-/// memory for it is refused.
+/// Writes the line with the reason why a node did not serve to its end to `writer`. Returns false if it could not be written, or if memory
+/// for it is refused.
 pub fn tell_fault<W: Write>(alloc: Global, writer: &mut W, fault: PeerFault) -> bool
     ensures { result ≡ true → Appends (W.contents writer.old) (W.contents writer.new) (fault_line fault) }
 {

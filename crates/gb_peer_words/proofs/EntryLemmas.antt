@@ -1,4 +1,4 @@
--- What a parse by gb_peer's command leaves of its options.
+-- The entries of the options after a parse by gb_peer's command.
 use Rattle.gb_types.specs.Common.{◌≡◌, true, refl, codes, arith}
 use Rattle.clap.specs.Words.{IsParsedFrom, app_of, found_of, rows_of}
 use Rattle.clap.specs.declared.{builder.command.Command.Command, parser.matches.ArgMatches.ArgMatches}
@@ -11,7 +11,7 @@ use Rattle.gb_peer_words.specs.declared.words.TheConstants.{LAST_NODE, MOST_WAIT
 has_own : has_own_options peer_app ≡ true
 has_own = refl
 
--- what a parse by gb_peer's command leaves of its options
+-- the entries of the options after a parse by gb_peer's command
 pub given_by : (c : Command) (m : ArgMatches) → IsParsedFrom c m → app_of c ≡ peer_app → IsGiven (rows_of (found_of m))
 given_by c m p app =
     let r = flag_rule (codes "quiet") in

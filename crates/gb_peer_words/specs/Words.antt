@@ -1,4 +1,4 @@
--- The words of gb_peer's command line: the command, as `clap` reads it, and what it makes of the words.
+-- The words of gb_peer's command line: the command, as `clap` reads it, and the plan that it makes from the words.
 use Rattle.std.specs.Prelude.{◌≡◌, ◌≤◌, true, false, List, Some, is_some, unwrap_or, codes}
 use Rattle.clap.specs.Words.{App, Row, Rule, Text, first_of, new_app, one_of, with_rule}
 use Rattle.gb_serve_words.specs.Limits.{HasLimits, IsLimitsOf, IsLimitsWithin, limit_rule, limit_texts}
@@ -40,8 +40,7 @@ pub record CanServe (rows : List Row) : Type 0 where
   pub resumed : may_stand (is_set rows (codes "record")) (is_set rows (codes "resume")) ≡ true
   pub folder : names_folder (first_of (codes "dir") rows) ≡ true
 
--- each field of the plan is what its option was given in these matches, or else what stands for an option that is left
--- out; the node was given
+-- each field of the plan is the value that its option was given in these matches, or the default of an option that was left out; the node was given
 pub record IsPlanOf (rows : List Row) (plan : PeerPlan) : Type 0 where
   pub node : given rows (codes "node") ≡ Some plan.node
   pub wait : plan.wait ≡ unwrap_or (given rows (codes "wait")) WAIT
@@ -74,7 +73,7 @@ pub record IsWithin (plan : PeerPlan) : Type 0 where
   pub session_requests : plan.session_requests ≤ MOST_REQUESTS
   pub limits : IsLimitsWithin plan.limits
 
--- what a parse by the command leaves
+-- the properties of the matches after a parse by the command
 pub record IsGiven (rows : List Row) : Type 0 where
   pub some_cluster : is_some (first_of (codes "cluster") rows) ≡ true
   pub some_dir : is_some (first_of (codes "dir") rows) ≡ true

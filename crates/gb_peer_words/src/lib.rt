@@ -1,5 +1,5 @@
-//! The command line of gb_peer: from the words that a shell hands over to what a node is told, by `clap`. What that comes to is
-//! gb_peer's. Read `words::read_words` first.
+//! The command line of gb_peer: reads the words of a shell into the plan of a node, by `clap`. gb_peer carries the plan out. Read
+//! `words::read_words` first.
 #![tactic(auto)]
 
 pub mod plan;

@@ -20,7 +20,7 @@ use std::net::SocketAddr;
 /// The greatest number that a node has.
 pub const LAST_NODE: u32 = NODES as u32 - 1;
 
-/// The seconds that ticks wait for the other nodes where words give none.
+/// The seconds that ticks wait for the other nodes if the words give none.
 pub const WAIT: u16 = 60;
 
 /// The most seconds that ticks wait for the other nodes.
@@ -29,11 +29,11 @@ pub const MOST_WAIT: u32 = 60_000;
 // Definitions cite these values.
 const _: () = prove!(LAST_NODE == 31 && WAIT == 60 && MOST_WAIT == 60_000);
 
-// The command line.
+// Returns the command, as `clap` reads it.
 fn command<'a>(alloc: Global) -> Result<Command<'a>, AllocError>
     ensures { IfOk result (λ made. app_of made ≡ peer_app) }
 {
-    // Each option is added as soon as it is made, so that none waits where adding another fails.
+    // Each option is added as soon as it is made, so none is left over if adding another one fails.
     let bare = Command::new(alloc, "gb_peer")
         .about("Serves one node of a cluster of several machines")
         .after_help(AFTER);
@@ -74,7 +74,7 @@ fn command<'a>(alloc: Global) -> Result<Command<'a>, AllocError>
     with_resume.arg(limit_arg(alloc))
 }
 
-/// What the help says behind the options.
+/// The text of the help behind the options.
 static AFTER: &str =
     "Standard input gives two lines of 64 hexadecimal digits each: the cluster's key and the administrator's key, the same keys at each node. \
 A line `stop` behind them ends the node in order, as gb_ctl's shutdown does.\n\n\
@@ -85,7 +85,7 @@ Example:\n\n\
   gb_peer --cluster cluster.toml --node 0 --dir marks < keys\n\n\
 Exit status: 0 when all connections were served, or the node was ended in order; 1 for a fault, 2 for words or a cluster file that are refused.";
 
-// The plan of words that `clap` took, with the address for the status and the limits of tenants.
+// Returns the plan of words that `clap` accepted, with the address for the status and the limits of tenants.
 fn plan_of(matches: &ArgMatches<'_>, status: Option<SocketAddr>, limits: TenantLimits) -> PeerPlan
     requires given { IsGiven (rows_of (found_of matches.now)) }
     requires address { IsAddressOf (one_of (codes "status") (rows_of (found_of matches.now))) status }
@@ -171,7 +171,7 @@ pub fn read_words<'a>(alloc: Global, words: &'a [&'a str]) -> Result<PeerWords<'
     }
 }
 
-// Returns why words that `clap` took are refused. It is empty if they are not.
+// Returns the reason why words that `clap` accepted are refused. It is empty if they are not.
 fn words_refusal(alloc: Global, matches: &ArgMatches<'_>) -> Result<String, AllocError> {
     if status_of(matches).is_none() {
         return status_refusal(alloc, matches);
@@ -182,7 +182,7 @@ fn words_refusal(alloc: Global, matches: &ArgMatches<'_>) -> Result<String, Allo
     folder_refusal(alloc, matches)
 }
 
-/// Returns why `read_words` refuses these words, for the user. The text is empty if it takes them. `Err` if memory is refused.
+/// Returns the reason why `read_words` refuses these words, for the user. The text is empty if it accepts them. `Err` if memory is refused.
 pub fn refusal_text(alloc: Global, words: &[&str]) -> Result<String, AllocError> {
     match command(alloc)?.try_get_matches_from(words) {
         Ok(matches) => words_refusal(alloc, &matches),
@@ -190,8 +190,8 @@ pub fn refusal_text(alloc: Global, words: &[&str]) -> Result<String, AllocError>
     }
 }
 
-/// Returns the text that words ask for: the help, or, if the word behind the program's name is `-V`, the program's name and
-/// version. `None` if they ask for neither. `Err` if memory is refused.
+/// Returns the text that words ask for: the help, or, if the word after the program's name is `-V`, the program's name and version. `None`
+/// if they ask for neither. `Err` if memory is refused.
 pub fn asked_text(alloc: Global, words: &[&str]) -> Result<Option<String>, AllocError>
     ensures taken { takes peer_app (map (λ word. word.now) words.entry.now) ≡ true → IfOk result (λ text. text ≡ None) }
 {

@@ -9,48 +9,48 @@ use std::io::ErrorKind;
 use std::net::{SocketAddr, UdpSocket};
 use std::os::fd::{AsRawFd, OwnedFd, RawFd};
 
-/// How many bytes of datagrams that were not read yet the system is asked to keep at each socket.
+/// The number of bytes of unread datagrams that the system is asked to keep at each socket.
 pub const BUFFER: u64 = 4_194_304;
 
-/// How often in a row a socket is read again after the system said that a packet had reached nobody.
+/// How often in a row a socket is read if the system reports each time that a packet had reached nobody.
 pub const TRIES: usize = 4;
 
 const _: () = prove!(BUFFER == 4_194_304 && TRIES == 4);
 
-/// What reading a socket gave.
+/// The result of reading a socket.
 #[derive(Drop)]
 pub(crate) enum Reading {
-    /// The first `count` bytes of the space are those of a datagram, or of its beginning.
+    /// The first `count` bytes of the space are a datagram, or its beginning.
     Datagram { count: usize, from: SocketAddr },
     Nothing,
     /// The system failed.
     Failed,
 }
 
-/// A socket, and whether something may wait at it.
+/// A socket, and whether a datagram may wait at it.
 #[derive(Drop)]
 pub(crate) struct Source {
     socket: UdpSocket,
     is_connected: bool,
-    // The caller says when something may have come.
+    // The caller calls `wake` when something may have come.
     is_watched: bool,
     may_have: bool,
 }
 
-// Returns a number as options of sockets have it.
+// Returns a number in the form of a socket option.
 fn option_of(number: i32) -> [u8; 16] {
     let mut value = [0u8; 16];
     value[..4].copy_from_slice(&number.to_ne_bytes());
     value
 }
 
-// Sets whether other sockets may be bound at the address of a socket. Returns true if the system did it.
+// Sets whether other sockets may be bound at the address of a socket. Returns true if the system did it, and false otherwise.
 fn share(fd: RawFd, is_shared: bool) -> bool {
     let value = option_of(i32::from(is_shared));
     unsafe { c::setsockopt(fd, c::SOL_SOCKET, c::SO_REUSEADDR, &value, 4) == 0 }
 }
 
-// Returns the bytes that the system keeps at a socket; 0 if it does not say. It counts its own part in, as much again.
+// Returns the number of bytes that the system keeps at a socket, or 0 if it does not say. The system's number is twice that.
 fn buffer_of(fd: RawFd) -> u64 {
     let mut value = [0u8; 16];
     let mut len = 16;
@@ -74,7 +74,7 @@ fn datagram(like: SocketAddr) -> Option<UdpSocket> {
     Some(UdpSocket::from(unsafe { OwnedFd::from_raw_fd(fd) }))
 }
 
-// Binds one socket at the address of another one. Returns true if the system did it.
+// Binds one socket at the address of another one. Returns true if the system did it, and false otherwise.
 fn bind_beside(fd: RawFd, other: RawFd) -> bool {
     let mut address = [0u8; c::_SS_SIZE];
     let mut len = 128;
@@ -83,7 +83,7 @@ fn bind_beside(fd: RawFd, other: RawFd) -> bool {
 }
 
 impl Source {
-    /// Returns a source over a socket whose calls do not wait. `is_connected` says whether only one address can send to it.
+    /// Returns a source over a socket whose calls do not wait. If `is_connected` is true, only one address can send to it.
     pub(crate) fn new(socket: UdpSocket, is_connected: bool) -> Source {
         Source {
             socket,
@@ -107,8 +107,8 @@ impl Source {
         let _ = share(self.fd(), is_shared);
     }
 
-    /// Returns a source at the same address to which only `peer` can send. `None` if the system does not give it. This one and each other
-    /// source at the address has to be shared, and the new one is.
+    /// Returns a source at the same address to which only `peer` can send, or `None` if the system refuses it. This source and each other
+    /// one at the address must be shared, and the new one is.
     pub(crate) fn connected(&self, peer: SocketAddr) -> Option<Source> {
         let socket = datagram(peer)?;
         let fd = socket.as_raw_fd();
@@ -118,14 +118,14 @@ impl Source {
         Some(Source::new(socket, true))
     }
 
-    /// Asks the system for a buffer of `BUFFER` bytes. Returns how many it gives, or 0 if it does not say.
+    /// Asks the system for a buffer of `BUFFER` bytes. Returns the number of bytes that it gives, or 0 if it does not say.
     pub(crate) fn widen(&self) -> u64 {
         let wanted = option_of(BUFFER as i32);
         let _ = unsafe { c::setsockopt(self.fd(), c::SOL_SOCKET, c::SO_RCVBUF, &wanted, 4) };
         buffer_of(self.fd())
     }
 
-    /// Returns the descriptor of the socket. From now on it is read only after `wake`, until it gives nothing.
+    /// Returns the descriptor of the socket. From now on the socket is read only after `wake`, until it has nothing more.
     pub(crate) fn watch(&mut self) -> RawFd {
         self.is_watched = true;
         self.fd()
@@ -136,23 +136,23 @@ impl Source {
         self.may_have = true;
     }
 
-    /// Notes that the socket is not to be read before the next `wake`, if it is watched.
+    /// Notes that the socket need not be read before the next `wake`, if it is watched.
     pub(crate) fn rest(&mut self) {
         self.may_have = !self.is_watched;
     }
 
-    /// Returns true if the caller says when something may have come.
+    /// Returns true if the caller calls `wake` when something may have come, and false otherwise.
     pub(crate) fn is_watched(&self) -> bool {
         self.is_watched
     }
 
-    /// Returns true if the socket is to be read.
+    /// Returns true if the socket is to be read, and false otherwise.
     pub(crate) fn may_have(&self) -> bool {
         self.may_have
     }
 
-    /// Returns the next datagram that came, cut to the length of `space`, into which it is put. What the system says of packets that
-    /// reached nobody is counted in `unreached` and passed over: at a connected socket it is all that can be said.
+    /// Reads the next datagram that came into `space`, cut to its length. Returns the number of its bytes and its sender. If the system
+    /// reports that packets reached nobody, these are counted in `unreached` and skipped: at a connected socket it can report nothing else.
     pub(crate) fn take(&mut self, space: &mut Vec<u8>, unreached: &mut u64) -> Reading
         ensures within { IsWithin (vec_len space.new) result }
         ensures space { vec_len space.new ≡ vec_len space.old }

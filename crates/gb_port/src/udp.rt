@@ -16,7 +16,7 @@ use std::net::{Ipv4Addr, Net, SocketAddr, SocketAddrV4, UdpSocket};
 use std::os::fd::RawFd;
 use thiserror::Error;
 
-/// The bytes of the buffer for a received packet: those of the longest packet and one more. A longer datagram is cut to this
+/// The number of bytes of the buffer for a received packet: those of the longest packet and one more. A longer datagram is cut to this
 /// length, and is then too long for a packet.
 pub const SPACE: usize = PACKET + 1;
 
@@ -25,10 +25,10 @@ const _: () = prove!(SPACE == 16_385);
 /// Why a port could not be bound.
 #[derive(Clone, Copy, Debug, PartialEq, Eq, Error)]
 pub enum BindFault {
-    /// There is no such socket, or it is bound already.
+    /// There is no such socket, or the address is in use.
     #[error("the port could not be bound")]
     Port,
-    /// A request for memory was refused. No socket is left.
+    /// A request for memory was refused. No socket is left open.
     #[error("out of memory")]
     OutOfMemory,
 }
@@ -54,16 +54,16 @@ impl From<AllocError> for BindFault {
     }
 }
 
-/// How many datagrams from no node's address are read in a row, until `recv` answers that there is none.
+/// The number of datagrams from no node's address that are read in a row, until `recv` returns `None`.
 pub const STRANGERS: usize = 8;
 
-/// After so many packets in a row from own sockets of nodes that socket is looked at first, once.
+/// After this number of packets in a row from nodes' own sockets, the socket of all is read first, once.
 pub const ROW: usize = 56;
 
 const _: () = prove!(STRANGERS == 8 && ROW == 56);
 
-/// What a port has of the system: how many other nodes have an own socket, of how many other nodes, and how many bytes of datagrams that
-/// were not read yet are kept at each socket at least; 0 if the system does not say, or was not asked.
+/// The sockets that a port has: the number of other nodes that have a socket of their own, the number of other nodes, and the least number
+/// of bytes of unread datagrams that the system keeps at each socket. The last is 0 if the system does not say, or was not asked.
 #[derive(Clone, Copy, Debug, PartialEq, Eq)]
 pub struct PortSockets {
     pub own: u64,
@@ -71,20 +71,20 @@ pub struct PortSockets {
     pub buffer: u64,
 }
 
-/// A node's sockets, and where the packets of each node go.
+/// The sockets of a node, and the addresses of all nodes.
 pub struct UdpPort {
-    // Anybody may send to it.
+    // The socket of all: anybody may send to it.
     all: Source,
-    // By the number of a node: only that node can send to it.
+    // The socket of each other node, by the node's number: only that node can send to it.
     own: Vec<Option<Source>>,
     space: Vec<u8>,
     me: NodeId,
     // The address of each node, by its number.
     places: Vec<SocketAddr>,
     failures: u64,
-    // The number of the own socket that is looked at first.
+    // The number of the own socket that is read first.
     next: usize,
-    // How many packets in a row came from own sockets, and how many more in a row may come from the other one.
+    // The number of packets in a row that came from own sockets, and how many more in a row may come from the socket of all.
     row: usize,
     left: usize,
     takes_strangers: bool,
@@ -124,14 +124,14 @@ impl Model for UdpPort {
     ghost invariant = { λ port. vec_len port.space ≡ SPACE };
 }
 
-// Returns this port of the address 127.0.0.1.
+// Returns the address 127.0.0.1 with this port.
 fn loopback(port: u16) -> SocketAddr
     ensures { IsLoopback port result }
 {
     SocketAddr::V4(SocketAddrV4::new(Ipv4Addr::new(127, 0, 0, 1), port))
 }
 
-/// Returns the addresses of `nodes` nodes on this machine, by number: node i has port `base` + i of the address 127.0.0.1. `Err` if
+/// Returns the addresses of `nodes` nodes on this machine, by number: node i has port `base` + i of the address 127.0.0.1. Returns `Err` if
 /// memory is refused. No socket is opened.
 pub fn loopback_places(alloc: Global, nodes: u8, base: u16) -> Result<Vec<SocketAddr>, OutOfMemory>
     requires nodes { nodes ≤ NODES }
@@ -152,7 +152,7 @@ fn bound<R: Net>(rt: &R, address: SocketAddr) -> io::Result<UdpSocket> {
     Ok(socket)
 }
 
-// Returns the node whose address this is.
+// Returns the node that has this address, or `None`.
 fn node_at(places: &[SocketAddr], address: SocketAddr) -> Option<NodeId> {
     let mut number = 0u8;
     for place in places {
@@ -165,9 +165,9 @@ fn node_at(places: &[SocketAddr], address: SocketAddr) -> Option<NodeId> {
 }
 
 impl UdpPort {
-    /// Binds a UDP socket at the address of node `me`, and returns a port over it, to which anybody may send. `places` are the addresses
-    /// of all nodes, by number. `Err` with `Port` if the system does not bind it, and with `OutOfMemory` if memory is refused; then no
-    /// socket is left.
+    /// Binds a UDP socket at the address of node `me`, and returns a port over it, to which anybody may send. `places` are the addresses of
+    /// all nodes, by number. Returns `Err` with `Port` if the system does not bind it, and with `OutOfMemory` if memory is refused; then no
+    /// socket is left open.
     pub fn bind<R: Net>(
         rt: &R,
         alloc: Global,
@@ -203,8 +203,8 @@ impl UdpPort {
         })
     }
 
-    /// Binds a UDP socket for node `me` of `nodes` nodes on this machine, and returns a port over it. Node i is at port `base` + i
-    /// of the address 127.0.0.1. `Err` as with `bind`.
+    /// Binds a UDP socket for node `me` of `nodes` nodes on this machine, and returns a port over it. Node i is at port `base` + i of the
+    /// address 127.0.0.1. Returns `Err` in the same cases as `bind`.
     pub fn bind_loopback<R: Net>(
         rt: &R,
         alloc: Global,
@@ -222,7 +222,7 @@ impl UdpPort {
 }
 
 impl UdpPort {
-    // Returns an own socket for the node at an index, if it is another one and the system gives one.
+    // Returns a socket for the node with this number alone, if it is another node and the system gives one. Returns `None` otherwise.
     fn own_source(&self, at: usize) -> Option<Source> {
         let place = self.places.get(at).copied()?;
         if at == self.me.index() {
@@ -257,9 +257,9 @@ impl UdpPort {
         Ok(())
     }
 
-    /// Takes a socket for each other node, to which only that node's address can send, as far as the system gives them. The packets of
-    /// a node without one come to the socket of all. `Err` if memory is refused. Until it returns, other programs of this machine can bind
-    /// the node's address too.
+    /// Opens a socket for each other node, to which only that node's address can send, if the system gives one. The packets of a node
+    /// without such a socket come to the socket of all. Returns `Err` if memory is refused. Until it returns, other programs of this
+    /// machine can bind the node's address too.
     pub fn part(&mut self) -> Result<(), OutOfMemory>
         ensures { self.new ≡ self.old }
     {
@@ -269,7 +269,7 @@ impl UdpPort {
         opened
     }
 
-    /// Asks the system to keep 4 MiB of datagrams that were not read yet at each socket. It may give less.
+    /// Asks the system to keep 4 MiB of unread datagrams at each socket. It may keep less.
     pub fn widen(&mut self)
         ensures { self.new ≡ self.old }
     {
@@ -282,14 +282,14 @@ impl UdpPort {
         self.sockets.buffer = least;
     }
 
-    /// Loses what comes from no node's address from now on. Until then it is returned by `recv`.
+    /// Discards the datagrams that come from no node's address from now on. Until this call `recv` returns them.
     pub fn refuse_strangers(&mut self)
         ensures { self.new ≡ self.old }
     {
         self.takes_strangers = false;
     }
 
-    /// Returns what the port has of the system.
+    /// Returns the number and the buffers of the port's sockets.
     pub fn sockets(&self) -> PortSockets {
         self.sockets
     }
@@ -299,7 +299,7 @@ impl UdpPort {
 #[derive(Drop)]
 struct Unread;
 
-// What reading the socket of all gave: a packet of this length, a datagram that is lost since it came from a stranger, or nothing.
+// The result of reading the socket of all: a packet of this length, a datagram that is lost because it came from a stranger, or nothing.
 #[derive(Drop)]
 enum Rest {
     Packet(usize),
@@ -308,7 +308,7 @@ enum Rest {
 }
 
 impl UdpPort {
-    // Reads the own socket of a node into the space. Returns the length of what came.
+    // Reads the socket of a node into the space. Returns the length of the datagram, or `None`.
     fn read_own(&mut self, at: usize) -> Option<usize>
         ensures same { self.new ≡ self.old }
         ensures within { IfSome result (λ count. count ≤ SPACE) }
@@ -329,7 +329,7 @@ impl UdpPort {
         }
     }
 
-    // Reads the own sockets in turn.
+    // Reads the sockets of nodes in turn. Returns the length of the first datagram, or `None`.
     fn read_nodes(&mut self) -> Option<usize>
         ensures same { self.new ≡ self.old }
         ensures within { IfSome result (λ count. count ≤ SPACE) }
@@ -371,7 +371,8 @@ impl UdpPort {
         }
     }
 
-    // Reads the socket of all until something is to be returned, while more of strangers may be taken in a row.
+    // Reads the socket of all until there is a datagram to return, or no more of strangers may be taken in a row. Returns its length, or
+    // `None`.
     fn read_rest(&mut self) -> Result<Option<usize>, Unread>
         ensures same { self.new ≡ self.old }
         ensures within { IfOk result (λ answer. IfSome answer (λ count. count ≤ SPACE)) }
@@ -394,7 +395,8 @@ impl UdpPort {
         Ok(None)
     }
 
-    // Reads the next datagram into the space: those of own sockets first, and of the socket of all where its turn has come.
+    // Reads the next datagram into the space: from the nodes' own sockets first, but from the socket of all if its turn has come. Returns
+    // its length.
     fn read(&mut self) -> Result<Option<usize>, Unread>
         ensures same { self.new ≡ self.old }
         ensures within { IfOk result (λ answer. IfSome answer (λ count. count ≤ SPACE)) }
@@ -425,8 +427,8 @@ impl Port for UdpPort {
 
     ghost receives = { λ old _ new. IsSamePort old new };
 
-    /// Hands the packet to the system. Returns false if the system has no room. `Err` with `Device` if the system failed, or if
-    /// there is no such node.
+    /// Gives the packet to the system. Returns true if the system took it, and false if it has no room. Returns `Err` with `Device` if the
+    /// system failed, or if there is no such node.
     fn send(&mut self, to: NodeId, bytes: &[u8]) -> Result<bool, PortFault>
         ensures fault { OnErr result (self.new.failures ≡ self.old.failures + 1) }
         ensures well { OnOk result (self.new.failures ≡ self.old.failures) }
@@ -445,9 +447,9 @@ impl Port for UdpPort {
         }
     }
 
-    /// Returns the next datagram that came, cut to `SPACE` bytes: those of nodes with an own socket first, in turn, and then those of the
-    /// socket of all. If that one is watched, at most 8 from no node's address are read in a row. `None` if there is none. `Err` with `Device` if the system failed, and with
-    /// `OutOfMemory` if memory is refused; then the datagram is lost.
+    /// Returns the next datagram that came, cut to `SPACE` bytes, or `None` if there is none. Those of nodes with a socket of their own
+    /// come first, in turn, and then those of the socket of all. If that one is watched, at most 8 from no node's address are read in a
+    /// row. Returns `Err` with `Device` if the system failed, and with `OutOfMemory` if memory is refused; then the datagram is lost.
     fn recv(&mut self) -> Result<Option<Vec<u8>>, PortFault>
         ensures fault { OnErr result (self.new.failures ≡ self.old.failures + 1) }
         ensures well { OnOk result (self.new.failures ≡ self.old.failures) }
@@ -471,7 +473,7 @@ impl Port for UdpPort {
         self.failures
     }
 
-    /// Returns the descriptor of a source: the own socket of the node with this number, or the socket of all at the port's own number.
+    /// Returns the descriptor of a source: the socket of the node with this number, or the socket of all for the port's own number.
     fn watch(&mut self, source: u8) -> Option<RawFd>
         ensures same { self.new ≡ self.old }
     {

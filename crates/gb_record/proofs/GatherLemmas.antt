@@ -1,4 +1,4 @@
--- What is gathered, one after another.
+-- The entries that are gathered, one after another.
 use Rattle.gb_types.specs.Common.{◌≡◌, ℕ, Bool, true, false, List, [], ◌∷◌, ◌++◌, sym, ap, ◌∙◌, append_assoc, if◌then◌else◌, append-nil}
 use Rattle.gb_node.specs.declared.tape.TapeEntry.{TapeEntry}
 use Rattle.gb_host.specs.Common.{RecorderValue}

@@ -1,4 +1,4 @@
--- What is written, and what is known of it.
+-- The lines that are written, and the entries that are known to be.
 use Rattle.gb_types.specs.Common.{◌≡◌, ℕ, Bool, true, false, ◌||◌, ◌≤◌, ◌-◌, length, take, drop, arith, List, [], ◌∷◌, ◌++◌, ◌⊎◌, inl, inr, Option, Some, None, refl, sym, ap, subst, ◌∙◌, cond, true≢false, append_assoc, filter, list_any, append-nil, drop_at, length-append, length-drop, take-length, list_any-append}
 use Rattle.std.specs.Io.KnownBytes.{Appends, Keeps}
 use Rattle.std.proofs.Math.Logic.{∥∥₁_map}
@@ -23,7 +23,7 @@ appends_both (Some xs) None new a b first next = absurd first
 appends_both (Some xs) (Some ys) None a b first next = absurd next
 appends_both (Some xs) (Some ys) (Some zs) a b first next = next ∙ (ap (λ q. q ++ b) first ∙ append_assoc xs a b)
 
--- nothing written
+-- no bytes were appended
 appends_none : (old : Option (List ℕ)) → Appends old old []
 appends_none None = tt
 appends_none (Some xs) = sym (append-nil xs)
@@ -32,7 +32,7 @@ or_either : (a b : Bool) → (a || b) ≡ true → (a ≡ true) ⊎ (b ≡ true)
 or_either true b h = inl refl
 or_either false b h = inr h
 
--- what passes a test among those that pass another
+-- an element that passes a test among those that pass another is one of all elements
 filtered_step : {X : Type 0} (p : X → Bool) (x : X) (xs ys : List X) (b : Bool) → (list_any p ys ≡ true → list_any p xs ≡ true) → list_any p (cond b (x ∷ ys) ys) ≡ true → list_any p (x ∷ xs) ≡ true
 filtered_step p x xs ys true behind h = elim (or_either (p x) (list_any p ys) h) [ inl here ↦ or_first (p x) (list_any p xs) here | inr there ↦ or_second (p x) (list_any p xs) (behind there) ]
 filtered_step p x xs ys false behind h = or_second (p x) (list_any p xs) (behind h)
@@ -41,18 +41,18 @@ any_filtered : {X : Type 0} (p q : X → Bool) (xs : List X) → list_any p (fil
 any_filtered p q [] h = h
 any_filtered p q (x ∷ xs) h = filtered_step p x xs (filter q xs) (q x) (any_filtered p q xs) h
 
--- what is kept of entries that were written, behind others
+-- a packet that a kept entry sent was sent by an entry kept before or by a new one
 pub sent_behind : (kept entries all left : List TapeEntry) → all ≡ kept ++ entries → left ≡ filter (λ e. gives_some e.answer) all → (bytes : List ℕ) → is_sent bytes left ≡ true → (is_sent bytes kept || is_sent bytes entries) ≡ true
 sent_behind kept entries all left are is bytes h =
     let test : TapeEntry → Bool = λ e. gives bytes e.answer in
     let some : list_any test all ≡ true = any_filtered test (λ e. gives_some e.answer) all (subst (λ (es : List TapeEntry). list_any test es ≡ true) is h) in
     sym (list_any-append test kept entries) ∙ subst (λ (es : List TapeEntry). list_any test es ≡ true) are some
 
--- a part of a list to its end
+-- a part of a list up to its end
 pub rest_is : (n : ℕ) (es : List TapeEntry) → take (length es - n) (drop n es) ≡ drop n es
 rest_is n es = ap (λ k. take k (drop n es)) (sym (length-drop n es)) ∙ take-length (drop n es)
 
--- the part behind the entries that were kept before
+-- the entries behind those that were kept before
 pub is_within : (old new : RecorderValue) (text text' : List ℕ) (kept all : List TapeEntry) (n : ℕ) → IsGathered old new text text' kept all → n ≡ length kept → n ≤ length all
 is_within old new text text' kept all n g is = subst (λ (xs : List TapeEntry). n ≤ length xs) (sym g.behind) (omega (arith, is, length-append kept g.entries))
 

@@ -1,11 +1,11 @@
--- What a recorder took, as lines, for proofs alone.
+-- The entries that a recorder took, as lines; used in proofs only.
 use Rattle.std.specs.Prelude.{ℕ, ◌≡◌, ◌||◌, true, List, ◌++◌, Option}
 use Rattle.std.specs.Io.KnownBytes.{Appends}
 use Rattle.gb_node.specs.declared.tape.TapeEntry.{TapeEntry}
 use Rattle.gb_host.specs.Common.{RecorderValue}
 use Rattle.gb_record.specs.Recorded.{is_sent, record_lines}
 
--- A text has gained the lines of what a recorder took, and a list its entries.
+-- The lines of the entries that a recorder took were appended to a text, and the entries to a list.
 pub record IsGathered (old new : RecorderValue) (before after : List ℕ) (kept all : List TapeEntry) : Type 0 where
   pub entries : List TapeEntry
   pub lines : List ℕ
@@ -15,7 +15,7 @@ pub record IsGathered (old new : RecorderValue) (before after : List ℕ) (kept 
   pub put : after ≡ before ++ lines
   pub behind : all ≡ kept ++ entries
 
--- What a recorder took was written and noted as such; what is kept behind others sent no packet that neither they nor its entries sent.
+-- The entries that a recorder took were written and added to the log. Each packet that `all` sent was sent by `kept` or by these entries.
 pub record IsWritten (old new : RecorderValue) (before after : Option (List ℕ)) (log noted kept all : List TapeEntry) : Type 0 where
   pub entries : List TapeEntry
   pub lines : List ℕ

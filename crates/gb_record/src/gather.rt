@@ -1,4 +1,4 @@
-//! What a recorder has, as lines.
+//! The entries that a recorder has, as lines.
 ghost use Rattle.std.specs.Prelude.{◌≡◌, ◌++◌, ◌∷◌, [], OnOk};
 ghost use Rattle.gb_record.specs.Gathered.{IsGathered};
 ghost use Rattle.gb_record_text.specs.RecordText.{entry_line};
@@ -18,7 +18,7 @@ fn put_line(lines: &mut Vec<u8>, node: NodeId, entry: &TapeEntry) -> Result<(), 
     put_bytes(lines, b"\n")
 }
 
-// Takes what is next, appends its line, and keeps it. False where nothing more is there.
+// Takes the next entry or the end, appends its line, and keeps an entry. Returns false if there is nothing to take, and true otherwise.
 #[tactic(auto, using(crate::proofs::GatherLemmas::gathered_none, crate::proofs::GatherLemmas::gathered_entry, crate::proofs::GatherLemmas::gathered_end))]
 fn take_one<L: Tapes>(
     recorder: &mut Recorder<L>,
@@ -41,7 +41,7 @@ fn take_one<L: Tapes>(
     }
 }
 
-/// Takes what a recorder has, appends its lines to a text, and keeps its entries behind others. No more is taken at once than a ring
+/// Takes the entries that a recorder has, appends their lines to `lines`, and appends them to `kept`. Takes at most as many as a ring
 /// holds, and the end.
 #[tactic(auto, using(crate::proofs::GatherLemmas::gathered_none, crate::proofs::GatherLemmas::gathered_both))]
 pub(crate) fn gather<L: Tapes>(

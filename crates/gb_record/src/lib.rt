@@ -1,7 +1,7 @@
-//! Records on disk: what happened at a node is written as text while it happens, and a packet leaves only once an entry that sent
-//! it was written. A `recording::Recording` writes what its recorder takes. A `shared::SharedRecording` is one that a port and the
-//! writer of replies have in common, and `written_first::WrittenFirst` is that port. Nothing here opens a file. Read
-//! `recording::Recording` first.
+//! Records on disk: the events of a node are written as text while they happen, and a packet leaves only once an entry that sent it was
+//! written. A `recording::Recording` writes the entries that its recorder takes. A `shared::SharedRecording` is one that a port and the
+//! writer of replies have in common, and `written_first::WrittenFirst` is that port. This crate opens no file. Read `recording::Recording`
+//! first.
 #![tactic(auto)]
 
 pub mod gather;

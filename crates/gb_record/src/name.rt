@@ -1,8 +1,8 @@
 //! The name of a record.
 use std::marker::Brand;
 
-/// A record, by a name that nothing else has. It knows the book of the entries that were written, so that who has seen some of them
-/// and the recording speak of one.
+/// A record, by a name that nothing else has. The name knows the book of the entries that were written. So a witness of some of them and
+/// the recording are known to be of the same record.
 pub trait RecordName {
     ghost use Rattle.gb_host.specs.Common.{BookName};
 

@@ -19,27 +19,27 @@ use std::io::Write;
 use std::marker::PhantomData;
 use std::snapshot::Snapshot;
 
-/// What a past of entries is told: the entry itself.
+/// The entry of a past of entries, which is the entry itself.
 pub struct Itself;
 
 impl Told<TapeEntry, TapeEntry> for Itself {
     ghost entry = { λ e. e };
 }
 
-/// What is written of a node: the lines of all that its recorder takes, in order. The first line of the file is not written here but
-/// by `write_head`. After a fault nothing more is written. Contracts see the entries that were written as a past, which no memory
+/// The recording of a node: it writes the lines of all entries that its recorder takes, in order. The first line of the file is not written
+/// here but by `write_head`. After a fault nothing more is written. Contracts see the entries that were written as a past, which no memory
 /// holds; its witnesses know entries that were written.
 #[derive(Drop)]
 pub struct Recording<R: RecordName, L: Tapes, W: Write> {
     pub recorder: Recorder<L>,
     pub writer: W,
-    /// The writer as it was at first.
+    /// The writer in its first state.
     pub begun: Snapshot<W>,
     /// The entries that were written.
     pub written: NodePast,
-    /// The entries that sent packets, since a packet was last asked for.
+    /// The entries that were written since `ask` was last called, and that sent packets.
     pub recent: Vec<TapeEntry>,
-    /// Why nothing more is written.
+    /// The reason why nothing more is written, if there is one.
     pub fault: Option<WriteFault>,
     lines: Vec<u8>,
     name: PhantomData<R>,
@@ -48,8 +48,8 @@ pub struct Recording<R: RecordName, L: Tapes, W: Write> {
     pub ghost among: { (bytes : List ℕ) → is_sent bytes recent.items ≡ true → is_sent bytes written.log ≡ true },
 }
 
-/// Writes the first line of a node's record to `writer` and flushes it. `Err` with `OutOfMemory` if there is no memory for the line;
-/// then nothing is written. `Err` with `Write` if the write or the flush failed; then a part of the line may be written.
+/// Writes the first line of a node's record to `writer` and flushes it. Returns `Err` with `OutOfMemory` if there is no memory for the
+/// line; then nothing is written. Returns `Err` with `Write` if the write or the flush failed; then a part of the line may be written.
 pub fn write_head<W: Write>(
     alloc: Global,
     writer: &mut W,
@@ -63,7 +63,7 @@ pub fn write_head<W: Write>(
     write_text(writer, &line)
 }
 
-// Writes a text by one call, and flushes it.
+// Writes a text in one call, and flushes it.
 #[tactic(auto, using(crate::proofs::WriteLemmas::appends_kept))]
 fn write_text<W: Write>(writer: &mut W, text: &[u8]) -> Result<(), WriteFault>
     ensures written { OnOk result (Appends (W.contents writer.old) (W.contents writer.new) text.now) }
@@ -78,9 +78,9 @@ fn write_text<W: Write>(writer: &mut W, text: &[u8]) -> Result<(), WriteFault>
     Ok(())
 }
 
-/// Writes what a node's recorder still has, whose recording was given up: at most as many entries as its ring holds, and the end. They
-/// are lines, written to `writer` by one call and flushed. `Err` with `OutOfMemory` if there is no memory for the lines; then none is
-/// written. `Err` with `Write` if the write or the flush failed; then a part may be written.
+/// Writes the rest of the entries of a recorder whose recording was given up: at most as many as its ring holds, and the end. They are
+/// lines, written to `writer` in one call and flushed. Returns `Err` with `OutOfMemory` if there is no memory for the lines; then none is
+/// written. Returns `Err` with `Write` if the write or the flush failed; then a part may be written.
 #[tactic(auto, using(crate::proofs::WriteLemmas::is_recorded_rest))]
 pub fn write_rest<L: Tapes, W: Write>(
     alloc: Global,
@@ -95,7 +95,7 @@ pub fn write_rest<L: Tapes, W: Write>(
     write_text(writer, &lines)
 }
 
-// Notes entries as written.
+// Adds entries to the past of written ones.
 fn note(written: &mut NodePast, entries: &[TapeEntry])
     ensures book { written.new.book ≡ written.old.book }
     ensures log { written.new.log ≡ written.old.log ++ entries.now }
@@ -105,7 +105,7 @@ fn note(written: &mut NodePast, entries: &[TapeEntry])
     }
 }
 
-// Whether an entry sent a packet.
+// Returns whether an entry sent a packet.
 fn sends_some(entry: &TapeEntry) -> bool
     ensures { result ≡ gives_some entry.now.answer }
 {
@@ -115,7 +115,7 @@ fn sends_some(entry: &TapeEntry) -> bool
     }
 }
 
-// Whether an entry sent the packet with these bytes.
+// Returns whether an entry sent the packet with these bytes.
 fn sends(entry: &TapeEntry, packet: &[u8]) -> bool
     ensures { result ≡ gives packet.now entry.now.answer }
 {
@@ -125,21 +125,21 @@ fn sends(entry: &TapeEntry, packet: &[u8]) -> bool
     }
 }
 
-// Whether one of these entries sent the packet with these bytes.
+// Returns whether one of these entries sent the packet with these bytes.
 fn has_sent(entries: &[TapeEntry], packet: &[u8]) -> bool
     ensures { result ≡ is_sent packet.now entries.now }
 {
     entries.iter().any(|entry| sends(entry, packet))
 }
 
-// Forgets the entries that sent no packet.
+// Removes the entries that sent no packet.
 fn keep_packets(entries: &mut Vec<TapeEntry>)
     ensures { entries.new.items ≡ filter (λ e. gives_some e.answer) entries.old.items }
 {
     entries.retain(|entry| sends_some(entry));
 }
 
-// Writes what the recorder has, notes it as written, and keeps the entries that sent packets behind others.
+// Writes the entries that the recorder has, adds them to the past of written ones, and appends those that sent packets to `recent`.
 #[tactic(auto, using(crate::proofs::WriteLemmas::is_within, crate::proofs::WriteLemmas::written_by))]
 fn write_new<L: Tapes, W: Write>(
     recorder: &mut Recorder<L>,
@@ -163,8 +163,8 @@ fn write_new<L: Tapes, W: Write>(
 }
 
 impl<R: RecordName, L: Tapes, W: Write> Recording<R, L, W> {
-    /// Returns a recording, which writes to `writer` as lines what a node's recorder takes. The recorder has taken nothing yet. What
-    /// was written is noted in the past `written`, which is empty. Nothing is written yet.
+    /// Returns a recording, which writes the entries that a node's recorder takes to `writer` as lines. The recorder has taken nothing yet.
+    /// The entries that are written are added to the past `written`, which is empty. Nothing is written yet.
     #[tactic(auto, using(crate::proofs::WriteLemmas::filed_new, crate::proofs::WriteLemmas::among_none))]
     pub fn new(
         alloc: Global,
@@ -192,17 +192,18 @@ impl<R: RecordName, L: Tapes, W: Write> Recording<R, L, W> {
         }
     }
 
-    /// Returns true if a write of this recording failed or there was no memory for it. Then it writes nothing more.
+    /// Returns true if a write of this recording failed or there was no memory for it; then it writes nothing more. Returns false
+    /// otherwise.
     pub fn is_over(&self) -> bool
         ensures { IsTrue result ↔ IsSome self.now.fault }
     {
         self.fault.is_some()
     }
 
-    /// Takes what the node's recorder has, at most as much as its ring holds, and writes it as lines by one call of the writer, which
-    /// it flushes. `Err` with `Write` if the write or the flush failed; then a part of the lines may be written. `Err` with
-    /// `OutOfMemory` if there is no memory for the lines; then none is written. After an `Err` nothing more is taken or written, and
-    /// each later call returns the same.
+    /// Takes the entries that the node's recorder has, at most as many as its ring holds, and writes them as lines in one call of the
+    /// writer, which it flushes. Returns `Err` with `Write` if the write or the flush failed; then a part of the lines may be written.
+    /// Returns `Err` with `OutOfMemory` if there is no memory for the lines; then none is written. After an `Err` nothing more is taken or
+    /// written, and each later call returns the same.
     #[tactic(auto, using(crate::proofs::WriteLemmas::filed_more, crate::proofs::WriteLemmas::filed_over, crate::proofs::WriteLemmas::among_more, crate::proofs::WriteLemmas::among_none, crate::proofs::WriteLemmas::is_recorded))]
     pub fn record(&mut self) -> Result<(), WriteFault>
         ensures begun { self.new.begun.value ≡ self.old.begun.value }
@@ -231,8 +232,8 @@ impl<R: RecordName, L: Tapes, W: Write> Recording<R, L, W> {
         Ok(())
     }
 
-    /// Returns true if one of the entries that were written since the last call of `ask` sent the packet with these bytes. Then forgets
-    /// these entries, so the next call knows only later ones.
+    /// Returns true if one of the entries that were written since the last call of `ask` sent the packet with these bytes, and false
+    /// otherwise. Then forgets these entries, so that the next call knows only later ones.
     #[tactic(auto, using(crate::proofs::WriteLemmas::among_none))]
     pub fn ask(&mut self, packet: &[u8]) -> bool
         ensures is { result ≡ is_sent packet.now self.old.recent.items }
@@ -245,7 +246,7 @@ impl<R: RecordName, L: Tapes, W: Write> Recording<R, L, W> {
         is_sent
     }
 
-    /// Makes the witness `seen` know all entries that this recording has written. What it knew before is the beginning of these.
+    /// Makes the witness `seen` know all entries that this recording has written. The entries that it knew before are the first of these.
     pub fn show(&mut self, seen: &mut NodeSeen)
         requires { seen.old.book ≡ R.book }
         ensures all { seen.new ≡ self.new.written }
@@ -256,7 +257,7 @@ impl<R: RecordName, L: Tapes, W: Write> Recording<R, L, W> {
         seen.learn(&mut self.written);
     }
 
-    /// Gives up the recording. Returns the node's recorder and the writer. Nothing is written.
+    /// Returns the node's recorder and the writer, and consumes the recording. Nothing is written.
     pub fn into_parts(self) -> (Recorder<L>, W)
         ensures recorder { result.0 ≡ self.recorder }
         ensures writer { result.1 ≡ self.writer }

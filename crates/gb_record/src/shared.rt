@@ -1,4 +1,4 @@
-//! A record that a port and the writer of replies have in common, within one thread.
+//! A record that a port and the writer of replies share within one thread.
 ghost use Rattle.std.specs.Prelude.{◌≡◌, true};
 ghost use mathlib.Core.List.{IsPrefix};
 ghost use Rattle.gb_record.specs.Recorded.{is_sent};
@@ -9,7 +9,7 @@ use gb_host::{NodeSeen, Tapes};
 use std::cell::RefCell;
 use std::io::Write;
 
-/// A recording in a cell. No clause sees what the cell holds; a witness of the record knows entries that were written.
+/// A recording in a cell. No clause sees the content of the cell; a witness of the record knows entries that were written.
 #[derive(Drop)]
 pub struct SharedRecording<R: RecordName, L: Tapes, W: Write> {
     cell: RefCell<Recording<R, L, W>>,
@@ -23,14 +23,14 @@ impl<R: RecordName, L: Tapes, W: Write> SharedRecording<R, L, W> {
         }
     }
 
-    /// Gives up the sharing, and returns the recording.
+    /// Returns the recording, and consumes the sharing.
     pub fn into_inner(self) -> Recording<R, L, W> {
         let SharedRecording { cell } = self;
         cell.into_inner()
     }
 
-    /// Writes to the record what the node's recorder has. Returns true if all of it is written. False if this write or an earlier one
-    /// failed, or if the record is in use.
+    /// Writes the entries that the node's recorder has to the record. Returns true if all of them are written. Returns false if this write
+    /// or an earlier one failed, or if the record is in use.
     pub fn settle(&self) -> bool {
         match self.cell.try_borrow_mut() {
             Ok(mut recording) => recording.record().is_ok(),
@@ -38,8 +38,8 @@ impl<R: RecordName, L: Tapes, W: Write> SharedRecording<R, L, W> {
         }
     }
 
-    /// Writes what the node's recorder has, and shows a witness all that was written. Returns true if an entry that was written since
-    /// a packet was last asked for sent the packet with these bytes.
+    /// Writes the entries that the node's recorder has, and shows all written entries to a witness. Returns true if an entry that was
+    /// written since the last call sent the packet with these bytes, and false otherwise.
     pub(crate) fn write_packet(&self, packet: &[u8], seen: &mut NodeSeen) -> bool
         requires { seen.old.book ≡ R.book }
         ensures book { seen.new.book ≡ R.book }
@@ -53,7 +53,7 @@ impl<R: RecordName, L: Tapes, W: Write> SharedRecording<R, L, W> {
     }
 }
 
-// The same of a recording.
+// Does the same with the recording itself.
 fn write_one<R: RecordName, L: Tapes, W: Write>(
     recording: &mut Recording<R, L, W>,
     packet: &[u8],

@@ -1,4 +1,4 @@
-//! A port whose packets leave once an entry that sent them was written.
+//! A port whose packets leave only once an entry that sent them was written.
 ghost use Rattle.std.specs.Prelude.{◌≡◌, ◌+◌, ◌-◌, ◌<◌, ◌^◌, true, false, None, IfOk, IfErr, OnOk, OnErr};
 ghost use mathlib.Core.List.{IsPrefix};
 ghost use Rattle.gb_record.specs.Handed.{IsGivenOn, ReceivesStill, SendsWritten};
@@ -12,19 +12,18 @@ use gb_types::NodeId;
 use std::io::Write;
 use std::os::fd::RawFd;
 
-/// A port round a node's port. Before a packet is handed on, all that was noted at the node is written; a packet that no entry sent
-/// which was written since the last send is lost, and counted as a failure of the device. So is each packet after a fault of the
-/// record.
+/// A port round a node's port. Before a packet is passed on, all entries of the node are written. A packet is lost, and counted as a
+/// failure of the device, if no entry that was written since the last send sent it. So is each packet after a fault of the record.
 #[derive(Drop)]
 pub struct WrittenFirst<'a, R: RecordName, L: Tapes, W: Write, P> {
     pub port: P,
-    /// The failures of the port and of the record, up to 2^64 - 1.
+    /// The failures of the port and of the record, at most 2^64 - 1.
     pub failures: u64,
-    /// The record, and what is known of it.
+    /// The record, and the entries of it that are known.
     pub log: WrittenLog<'a, R, L, W>,
 }
 
-/// A record, and a witness of it, which knows what was written when a packet was last to be sent.
+/// A record, and a witness of it, which knows the entries that were written at the last send.
 #[derive(Drop)]
 pub struct WrittenLog<'a, R: RecordName, L: Tapes, W: Write> {
     pub written: NodeSeen,
@@ -33,7 +32,8 @@ pub struct WrittenLog<'a, R: RecordName, L: Tapes, W: Write> {
 }
 
 impl<R: RecordName, L: Tapes, W: Write> WrittenLog<'_, R, L, W> {
-    // Writes what the node's recorder has. Returns true if an entry that was written since a packet was last asked for sent this one.
+    // Writes the entries that the node's recorder has. Returns true if an entry that was written since the last call sent this packet, and
+    // false otherwise.
     fn write_packet(&mut self, packet: &[u8]) -> bool
         ensures before { IsPrefix self.old.written.log self.new.written.log }
         ensures book { self.new.written.book ≡ self.old.written.book }
@@ -43,7 +43,7 @@ impl<R: RecordName, L: Tapes, W: Write> WrittenLog<'_, R, L, W> {
     }
 }
 
-// Counts a failure, and returns its fault; or, where no more can be counted, the other answer.
+// Counts a failure and returns its fault. Returns `otherwise` if no more failures can be counted.
 fn failed<T: Drop>(failures: &mut u64, fault: PortFault, otherwise: T) -> Result<T, PortFault>
     ensures fault { IfErr result (λ why. (why ≡ fault) × (failures.new ≡ failures.old + 1)) }
     ensures well { IfOk result (λ answer. (answer ≡ otherwise) × (failures.new ≡ failures.old)) }
@@ -55,7 +55,7 @@ fn failed<T: Drop>(failures: &mut u64, fault: PortFault, otherwise: T) -> Result
     Err(fault)
 }
 
-// Hands a packet on, an entry that sent it being known as written.
+// Passes a packet on to the port. An entry that sent it is known to be written.
 fn hand_on<P: Port>(
     port: &mut P,
     failures: &mut u64,
@@ -76,8 +76,8 @@ fn hand_on<P: Port>(
 }
 
 impl<'a, R: RecordName, L: Tapes, W: Write, P: Port> WrittenFirst<'a, R, L, W, P> {
-    /// Returns a port round `port`. It hands a packet on only once the record has the entry that sent it; another packet is lost and
-    /// counted as a failure. `written` is a witness of what the record has.
+    /// Returns a port round `port`. It passes a packet on only once the record has the entry that sent it; another packet is lost and
+    /// counted as a failure. `written` is a witness of the record's entries.
     pub fn new(
         port: P,
         record: &'a SharedRecording<R, L, W>,
@@ -96,7 +96,7 @@ impl<'a, R: RecordName, L: Tapes, W: Write, P: Port> WrittenFirst<'a, R, L, W, P
         }
     }
 
-    /// Gives up this port, and returns the port that it stands round.
+    /// Returns the port inside, and consumes this one.
     pub fn into_port(self) -> P
         ensures { result ≡ self.entry.port }
     {

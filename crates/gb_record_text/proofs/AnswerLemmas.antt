@@ -1,4 +1,4 @@
--- Two answers to one event with one text are equal, and each turn answers its event.
+-- Two answers to the same event with the same text are equal, and each turn answers its event.
 use Rattle.gb_types.specs.Common.{◌≡◌, ℕ, ◌<◌, ◌^◌, inl, inr, Bool, true, false, List, [], ◌∷◌, ◌++◌, get_or, drop, refl, sym, ap, subst, ◌∙◌, arith, decimal, append_assoc, codes, if◌then◌else◌, length, All, flat_map, All-head, All-tail, refusal_number, refusal_name}
 use Rattle.std.proofs.lemmas.Fmt.{decimal_injective}
 use Rattle.gb_spelling.specs.Common.{FitsEntry, FitsReply, OneTextOneReply, IsLong, payload_word, entry_text, reply_spelling}
@@ -70,7 +70,7 @@ running_answers : (v : NodeValue) (event : NodeEvent) → Answers event (running
 running_answers v (Asked request) = tt
 running_answers v _ = tt
 
--- an answer for want of memory is of the kind of the answer in whose place it stands
+-- an answer that memory ran out is of the same kind as the answer that it replaces
 starved_kind : (event : NodeEvent) (should answer : NodeAnswer) → IsStarved event should answer → answer_kind answer ≡ answer_kind should
 unfolding answer_kind
 starved_kind (Asked request) (Replied reply) answer is = ap answer_kind is.0
@@ -88,7 +88,7 @@ turns_answer old event answer new is = by is
     by (inl starved) = by_kind event answer (starved_kind event _ answer starved.0 ∙ kind_is event _ (should old.stopped))
     by (inr right) = subst (Answers event) (sym right.0) (should old.stopped)
 
--- Two answers of one kind with one text are equal.
+-- Two answers of one kind with the same text are equal.
 
 abbrev first : List ℕ → ℕ
 first text = get_or text 0 0

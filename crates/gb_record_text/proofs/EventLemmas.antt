@@ -1,4 +1,4 @@
--- Two events with one line are equal.
+-- Two events with the same line are equal.
 use Rattle.gb_types.specs.Common.{◌≡◌, ℕ, ◌+◌, ◌*◌, Bool, true, false, List, [], ◌∷◌, ◌++◌, get_or, drop, Option, None, Some, refl, sym, ap, subst, ◌∙◌, arith, decimal, append_assoc, codes, ◌==◌, if◌then◌else◌, ForSome}
 use Rattle.std.proofs.lemmas.Fmt.{decimal_injective}
 use Rattle.hex.specs.Hex.{IsBytes, encode_lower}
@@ -23,7 +23,7 @@ command_words (Say message) = payload_word message.payload ∷ seq_words message
 command_words (Fetch from most) = decimal from ∷ decimal most ∷ []
 command_words command = []
 
--- what a request asks, with other words behind it
+-- the words of a request's action, followed by other words
 abbrev action_words : NodeId → Action → List (List ℕ) → List (List ℕ)
 action_words b (AddTenant row) behind =
     codes "tenant" ∷ decimal b.number ∷ decimal row.tenant ∷ decimal row.groups ∷ decimal row.msgs ∷ decimal row.bytes ∷ decimal row.window ∷ codes "key" ∷ encode_lower row.key ∷ behind
@@ -38,7 +38,7 @@ event_words b (Ack to) = codes "ack" ∷ decimal b.number ∷ decimal to.number 
 event_words b Tick = codes "tick" ∷ decimal b.number ∷ []
 event_words b Stop = codes "stop" ∷ decimal b.number ∷ []
 
--- Parts that are put together one after another, from the right. In these texts a blank is any list, so nothing computes.
+-- Parts that are joined one after another, from the right. In these texts a blank is any list, so nothing computes.
 
 row_parts : (k s b t g m y w of key by token rest : List ℕ) → ((k ++ ((s ++ b) ++ (s ++ t) ++ (s ++ g) ++ ((s ++ m) ++ (s ++ y) ++ (s ++ w)) ++ of ++ key)) ++ (by ++ token)) ++ rest ≡ k ++ (s ++ (b ++ (s ++ (t ++ (s ++ (g ++ (s ++ (m ++ (s ++ (y ++ (s ++ (w ++ (of ++ (key ++ (by ++ (token ++ rest))))))))))))))))
 row_parts k s b t g m y w of key by token rest = simp append_assoc
@@ -139,7 +139,7 @@ event_lacks c gap b (Ack to) fits = (lacks_literal c gap (codes "ack") refl, (la
 event_lacks c gap b Tick fits = (lacks_literal c gap (codes "tick") refl, (lacks_node c gap b, tt))
 event_lacks c gap b Stop fits = (lacks_literal c gap (codes "stop") refl, (lacks_node c gap b, tt))
 
--- The same words are of the same event.
+-- The same words spell the same event.
 
 same_long : (m n : ℕ) → IsLong m → IsLong n → decimal m ≡ decimal n → m ≡ n
 same_long m n hm hn e = decimal_injective m n (omega (arith, hm)) (omega (arith, hn)) e
@@ -178,7 +178,7 @@ same_seq None (Some n) t u r s hp hq ht hu e = absurd (no_by n (hq n refl) (ap (
 same_seq (Some m) None t u r s hp hq ht hu e = absurd (no_by m (hp m refl) (sym (ap (word_at 0) e)))
 same_seq (Some m) (Some n) t u r s hp hq ht hu e = (ap Some (same_long m n (hp m refl) (hq n refl) (ap (word_at 0) e)), same_hex t u ht hu (ap (word_at 2) e), ap (drop 3) e)
 
--- The first two letters of the first word tell requests apart from one another, and from other events.
+-- The first two letters of the first word distinguish requests from one another, and from other events.
 
 abbrev letters : List ℕ → ℕ
 letters word = get_or word 0 0 * 256 + get_or word 1 0

@@ -1,4 +1,4 @@
--- Lines and records that say the same.
+-- Lines and records with the same contents.
 use Rattle.gb_types.specs.Common.{◌≡◌, ◌≢◌, ℕ, ◌<◌, ◌^◌, Bool, true, false, List, [], ◌∷◌, ◌++◌, drop, inl, inr, refl, sym, ap, subst, ◌∙◌, arith, decimal, append_assoc, append-nil, codes, if◌then◌else◌, length, All, All-head, All-tail, limits_of}
 use Rattle.std.proofs.lemmas.Fmt.{decimal_injective}
 use Rattle.gb_spelling.specs.Common.{OneTextOneReply, OneWordOneKind, IsShort, words_of}
@@ -49,7 +49,7 @@ same_entry one_reply one_kind b c x y fx fy ax ay e =
 
 -- Whole records.
 
--- no line feed stands in what is torn
+-- a line that was cut short has no line feed
 unfed : (xs : List ℕ) → All (λ byte. byte ≢ 10) xs → Without 10 xs
 unfed [] none = tt
 unfed (x ∷ xs) none = (All-head (λ byte. byte ≢ 10) x xs none, unfed xs (All-tail (λ byte. byte ≢ 10) x xs none))
@@ -63,7 +63,7 @@ same_ending false false r s hr hs e = (refl, e)
 same_ending true false r s hr hs e = let parted = cut 10 (codes "end") s (10 ∷ r) [] (lacks_literal 10 feed (codes "end") refl) hs (inr (r, refl)) (inl refl) (e ∙ sym (append-nil s)) in absurd cc
 same_ending false true r s hr hs e = let parted = cut 10 r (codes "end") [] (10 ∷ s) hr (lacks_literal 10 feed (codes "end") refl) (inl refl) (inr (s, refl)) (append-nil r ∙ e) in absurd cc
 
--- no entry has the line of an ending
+-- no line of an entry is the last line or a line that was cut short
 no_line : (b : NodeId) (x : TapeEntry) (behind : List ℕ) (v : Bool) (s : List ℕ) → FitsEntry x → Without 10 s → entry_line b x ++ 10 ∷ behind ≡ ending v s → ⊥
 no_line b x behind false s fx hs e = let parted = cut 10 (entry_line b x) s (10 ∷ behind) [] (no_feed b x fx) hs (inr (behind, refl)) (inl refl) (e ∙ sym (append-nil s)) in absurd cc
 no_line b x behind true s fx hs e =

@@ -8,7 +8,7 @@ use Rattle.gb_record_text.specs.RecordText.{entry_line, entry_lines, head_line, 
 use Rattle.gb_record_text.specs.Records.{AreLines, IsRecord}
 use Rattle.gb_record_text.proofs.LineLemmas.{lines_more}
 
--- the lines of these entries were read of the text, and perhaps the last line; the rest is left
+-- the lines of these entries were read of the text, and perhaps the last line; the rest is unread
 abbrev pub AreRead : NodeId → List TapeEntry → Bool → List ℕ → List ℕ → Type 0
 AreRead b es whole rest text = text ≡ entry_lines b es ++ ((if whole then last_line else []) ++ rest)
 

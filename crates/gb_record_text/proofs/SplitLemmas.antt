@@ -92,14 +92,14 @@ words-front (w ∷ ws) rest each = slice_split_at (λ byte. eqb byte 32) w 32 (f
 pub same_words : (us vs : List (List ℕ)) (r s : List ℕ) → EachLacks 32 us → EachLacks 32 vs → front us r ≡ front vs s → us ++ words_of r ≡ vs ++ words_of s
 same_words us vs r s hu hv e = sym (words-front us r hu) ∙ (ap words_of e ∙ words-front vs s hv)
 
--- and the words only one line
+-- and a list of words is that of only one line
 pub same_line : (r s : List ℕ) → words_of r ≡ words_of s → r ≡ s
 same_line r s e = sym (join_with_byte-slice_split 32 r) ∙ (ap (join_with_byte 32) e ∙ join_with_byte-slice_split 32 s)
 
 abbrev pub word_at : ℕ → List (List ℕ) → List ℕ
 word_at k words = get_or words k []
 
--- What one word says is one thing alone.
+-- One word spells only one value.
 
 pub same_node : (b c : NodeId) → decimal b.number ≡ decimal c.number → b ≡ c
 same_node b c e = same_number b c (decimal_injective b.number c.number (node_small b) (node_small c) e)

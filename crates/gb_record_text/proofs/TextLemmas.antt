@@ -18,7 +18,7 @@ members_none s is = ap (λ ns. join_with_byte 44 (map decimal ns)) (rising_all s
 pub members_some : (s : set.FinSet nat_cmp) (n : ℕ) (rest : List ℕ) → rising_from s 0 ≡ n ∷ rest → members_word s ≡ decimal n ++ each_after_comma rest
 members_some s n rest is = ap (λ ns. join_with_byte 44 (map decimal ns)) (rising_all s ∙ is) ∙ joined_by_commas n rest
 
--- one text behind another
+-- a text to which two texts were appended
 pub joined : (old mid new a b all : List ℕ) → mid ≡ old ++ a → new ≡ mid ++ b → all ≡ a ++ b → new ≡ old ++ all
 joined old mid new a b all h k is = k ∙ (ap (λ xs. xs ++ b) h ∙ (append_assoc old a b ∙ ap (λ xs. old ++ xs) (sym is)))
 

@@ -17,15 +17,15 @@ use Rattle.gb_answer_text.specs.AnswerText.{good_spelling, fault_spelling, ticke
 abbrev pub after_space : List ℕ → List ℕ
 after_space word = codes " " ++ word
 
--- ` A T G`
+-- the words ` A T G` of a node and a group
 abbrev pub address_text : NodeId → Addr → List ℕ
 address_text b addr = after_space (decimal b.number) ++ after_space (decimal addr.tenant) ++ after_space (group_word addr)
 
--- ` by TOKEN`
+-- the words ` by TOKEN`
 abbrev pub token_text : List ℕ → List ℕ
 token_text token = codes " by " ++ encode_lower token
 
--- ` MSGS BYTES WINDOW`
+-- the words ` MSGS BYTES WINDOW`
 abbrev pub limits_text : ℕ → ℕ → ℕ → List ℕ
 limits_text msgs bytes window = after_space (decimal msgs) ++ after_space (decimal bytes) ++ after_space (decimal window)
 
@@ -40,16 +40,16 @@ each_after_comma (b ∷ bs) = codes "," ++ decimal b ++ each_after_comma bs
 abbrev pub spec_text : Spec → List ℕ
 spec_text spec = after_space (kind_word spec.kind) ++ after_space (members_word spec.members) ++ limits_text spec.msgs spec.bytes spec.window
 
--- ` SEQ`, where the message must get a number
+-- the word ` SEQ`, if the message must get a number
 abbrev pub seq_text : Option ℕ → List ℕ
 seq_text None = []
 seq_text (Some seq) = after_space (decimal seq)
 
--- ` PAYLOAD`, or ` PAYLOAD SEQ`
+-- the words ` PAYLOAD`, or ` PAYLOAD SEQ`
 abbrev pub message_text : NewMessage → List ℕ
 message_text message = after_space (payload_word message.payload) ++ seq_text message.seq
 
--- the word that a command begins with
+-- the first word of a command
 abbrev pub command_head : GroupCommand → List ℕ
 command_head (Make spec) = head_word heads.Make
 command_head Open = head_word heads.Open
@@ -58,19 +58,19 @@ command_head Drop = head_word heads.Drop
 command_head (Say message) = head_word heads.Say
 command_head (Fetch from most) = head_word heads.Fetch
 
--- what a command has behind the group's address
+-- the words of a command behind the group's address
 abbrev pub command_text : GroupCommand → List ℕ
 command_text (Make spec) = spec_text spec
 command_text (Say message) = message_text message
 command_text (Fetch from most) = after_space (decimal from) ++ after_space (decimal most)
 command_text command = []
 
--- what a request asks, as in a schedule, with a tenant's key behind it
+-- the action of a request, as in a schedule, with a tenant's key behind it
 abbrev pub action_text : NodeId → Action → List ℕ
 action_text b (AddTenant row) = codes "tenant" ++ row_text b row
 action_text b (Group addr command) = command_head command ++ address_text b addr ++ command_text command
 
--- a request: what it asks, with the token behind it
+-- a request: its action, with the token behind it
 abbrev pub request_text : NodeId → Request → List ℕ
 request_text b request = action_text b request.what ++ token_text request.token
 
@@ -84,19 +84,19 @@ event_text b (Ack to) = codes "ack " ++ decimal b.number ++ after_space (decimal
 event_text b Tick = codes "tick " ++ decimal b.number
 event_text b Stop = codes "stop " ++ decimal b.number
 
--- what became of bytes that came, as in a schedule, and behind a packet that was taken its sender
+-- the result of bytes that came, as in a schedule; behind a packet that was taken is its sender
 abbrev pub taken_text : PacketAnswer → List ℕ
 taken_text (TakenGood good) = good_spelling good ++ after_space (decimal good.from.number)
 taken_text (TakenFault fault) = fault_spelling fault
 taken_text (TakenRefused why) = reply_spelling (Refused why)
 
--- what was sent, with all its bytes
+-- the result of a send, with all bytes of a packet
 abbrev pub sent_text : SentValue → List ℕ
 sent_text (SentPacket text) = codes "packet " ++ payload_word text
 sent_text Nothing = codes "nothing"
 sent_text (SentRefused why) = reply_spelling (Refused why)
 
--- an answer as in a schedule, with a packet's bytes for its number, and behind `good` the packet's sender
+-- an answer as in a schedule, with a packet's bytes instead of its number, and with the packet's sender behind `good`
 abbrev pub answer_text : NodeAnswer → List ℕ
 answer_text (Replied reply) = reply_spelling reply
 answer_text (Taken taken) = taken_text taken
@@ -113,11 +113,11 @@ abbrev pub entry_lines : NodeId → List TapeEntry → List ℕ
 entry_lines b [] = []
 entry_lines b (e ∷ es) = entry_line b e ++ 10 ∷ entry_lines b es
 
--- a text, and behind it ` NODE NODES SILENCE PLACES VERSION ROOM`
+-- a text, followed by ` NODE NODES SILENCE PLACES VERSION ROOM`
 abbrev pub with_cluster : List ℕ → RecordHead → List ℕ
 with_cluster text h = text ++ after_space (decimal h.node.number) ++ after_space (decimal h.nodes) ++ after_space (decimal h.silence) ++ after_space (decimal h.places) ++ after_space (decimal (limits_of h.version).byte) ++ after_space (decimal h.room)
 
--- what a record says of its node and its cluster: `tape 1 NODE NODES SILENCE PLACES VERSION ROOM`
+-- the first line of a record, with its node and its cluster: `tape 1 NODE NODES SILENCE PLACES VERSION ROOM`
 abbrev pub head_line : RecordHead → List ℕ
 head_line h = with_cluster (codes "tape 1") h
 
@@ -125,11 +125,11 @@ abbrev pub sync_word : Bool → List ℕ
 sync_word true = codes "sync"
 sync_word false = codes "nosync"
 
--- what a part says besides: `tape 2 NODE NODES SILENCE PLACES VERSION ROOM PART BEFORE BOOT SYNC TAG`
+-- the first line of a part: `tape 2 NODE NODES SILENCE PLACES VERSION ROOM PART BEFORE BOOT SYNC TAG`
 abbrev pub part_line : PartHead → List ℕ
 part_line h = with_cluster (codes "tape 2") h.cluster ++ after_space (decimal h.part) ++ after_space (decimal h.before) ++ after_space (encode_lower h.boot) ++ after_space (sync_word h.syncs) ++ after_space (encode_lower h.tag)
 
--- the name of a part's file: `run-RUN-node-NODE.record`, and with `.PART` behind NODE if it is not part 0
+-- the name of a part's file: `run-RUN-node-NODE.record`, with `.PART` behind NODE if it is not part 0
 abbrev pub part_suffix : ℕ → List ℕ
 part_suffix zero = []
 part_suffix (suc part) = codes "." ++ decimal (suc part)

@@ -1,4 +1,4 @@
--- The record that a text is, its parts, and the record that parts are together.
+-- The record that a text spells, its parts, and the record that parts are together.
 use Rattle.std.specs.Prelude.{◌≡◌, ℕ, ◌+◌, ◌≤◌, Bool, false, List, [], ◌∷◌, ◌++◌, All, ◌≢◌, IsPermutation, length, map, if◌then◌else◌}
 use Rattle.gb_types.specs.declared.node.NodeId.{NodeId}
 use Rattle.gb_node.specs.declared.tape.TapeEntry.{TapeEntry}
@@ -12,14 +12,14 @@ pub record IsRecord (record_read : Record) (text : List ℕ) : Type 0 where
   pub torn_is : length torn ≡ record_read.torn
   pub no_line : All (λ byte. byte ≢ 10) torn
 
--- the text is a line for each of a node's entries, `end` if the node ended there, and then this number of bytes of a line that was cut short
+-- the text is a line for each of a node's entries, `end` if the node ended there, and then `torn` bytes of a line that was cut short
 pub record AreLines (b : NodeId) (entries : List TapeEntry) (is_whole : Bool) (torn : ℕ) (text : List ℕ) : Type 0 where
   pub cut : List ℕ
   pub lines : text ≡ entry_lines b entries ++ ((if is_whole then last_line else []) ++ cut)
   pub torn_is : length cut ≡ torn
   pub no_line : All (λ byte. byte ≢ 10) cut
 
--- what a part says: its first line, its entries, and whether its node ended it
+-- the contents of a part: its first line, its entries, and whether its node ended it
 pub record PartValue : Type 0 where
   pub head : PartHead
   pub entries : List TapeEntry
@@ -34,18 +34,18 @@ pub record IsPart (p : PartValue) (torn : ℕ) (text : List ℕ) : Type 0 where
   pub head : text ≡ part_line p.head ++ 10 ∷ behind
   pub lines : AreLines p.head.cluster.node p.entries p.is_whole torn behind
 
--- a part of a record with this cluster and tag, with this number of entries before it
+-- a part of the record with this cluster and tag, with this number of entries before it
 pub record IsNext (c : RecordHead) (t : List ℕ) (n : ℕ) (p : PartValue) : Type 0 where
   pub cluster : p.head.cluster ≡ c
   pub tag : p.head.tag ≡ t
   pub count : p.head.before ≡ n
 
--- parts of one record, of which each says how many entries stand before it
+-- parts of one record, each of which names the number of entries before it
 abbrev pub Follow : RecordHead → List ℕ → ℕ → List PartValue → Type 0
 Follow cluster tag before [] = Unit {0}
 Follow cluster tag before (p ∷ ps) = IsNext cluster tag before p × Follow cluster tag (before + length p.entries) ps
 
--- the numbers of parts rise, from this one on at least
+-- the numbers of parts rise, and the first is at least this one
 abbrev pub AreRising : ℕ → List PartValue → Type 0
 AreRising least [] = Unit {0}
 AreRising least (p ∷ ps) = (least ≤ p.head.part) × AreRising (p.head.part + 1) ps
@@ -55,12 +55,12 @@ abbrev pub entries_of : List PartValue → List TapeEntry
 entries_of [] = []
 entries_of (p ∷ ps) = p.entries ++ entries_of ps
 
--- the last part's node ended it
+-- whether the node ended the last part
 abbrev pub is_last_whole : Bool → List PartValue → Bool
 is_last_whole is_whole [] = is_whole
 is_last_whole is_whole (p ∷ ps) = is_last_whole p.is_whole ps
 
--- the parts in the order of their numbers are the record
+-- the parts, in the order of their numbers, are the record
 pub record AreJoined (parts : List Part) (r : Record) : Type 0 where
   pub order : List Part
   pub same : IsPermutation parts order

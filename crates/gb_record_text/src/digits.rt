@@ -1,5 +1,5 @@
-//! Bytes as hexadecimal digits in lower case, a block of them at a time. What is written for a block has no branch and looks nothing
-//! up, so that it takes a few instructions for all of it.
+//! Bytes as hexadecimal digits in lower case, written a block at a time. The code for a block has no branch and no table, so that it takes
+//! a few instructions for the whole block.
 ghost use Rattle.std.specs.Prelude.{◌≡◌, ◌<◌, ◌*◌, ◌++◌, length, slice_index, OnOk};
 ghost use Rattle.hex.specs.Hex.{encode_lower, lower_digits};
 ghost use Rattle.gb_spelling.specs.Common.{payload_word};
@@ -7,15 +7,15 @@ ghost use Rattle.gb_spelling.specs.Common.{payload_word};
 use gb_types::OutOfMemory;
 use gb_types::memory::put_bytes;
 
-// How many bytes are written at once.
+// The number of bytes of a block, which are written at once.
 const BLOCK: usize = 16;
 
-// The number of their digits.
+// The number of digits of a block.
 const DIGITS: usize = 32;
 
 const _: () = prove!(DIGITS == 2 * BLOCK);
 
-// Returns the digit of a number.
+// Returns the digit of a number below 16.
 #[inline(always)]
 fn digit_of(number: u8) -> u8
     requires { number < 16 }
@@ -41,7 +41,7 @@ fn block_digits(bytes: &[u8; BLOCK]) -> [u8; DIGITS]
     digits
 }
 
-// Appends the digits of less than a block of bytes.
+// Appends the digits of fewer bytes than a block has.
 fn put_rest(out: &mut Vec<u8>, bytes: &[u8]) -> Result<(), OutOfMemory>
     requires { length bytes.now < BLOCK }
     ensures { OnOk result (out.new.items ≡ out.old.items ++ encode_lower bytes.now) }

@@ -1,4 +1,4 @@
-//! That each number of a value is within its type, for the clauses that name it. The functions only look at the numbers.
+//! Laws that each number of a value is within its type, for the clauses that name it. The functions only look at the numbers.
 ghost use Rattle.std.specs.{Prelude.All, Option.ForSome};
 ghost use Rattle.hex.specs.Hex.{IsBytes};
 ghost use Rattle.gb_spelling.specs.Common.{FitsReply, IsLong};
@@ -176,7 +176,7 @@ fn answer_fits(answer: &NodeAnswer)
     }
 }
 
-/// The numbers of an entry are within their types.
+/// Looks at the numbers of an entry. By the contract each of them is within its type.
 pub(crate) fn entry_fits(entry: &TapeEntry)
     ensures { FitsEntry entry.now }
 {
@@ -186,7 +186,7 @@ pub(crate) fn entry_fits(entry: &TapeEntry)
     answer_fits(&entry.answer);
 }
 
-/// The numbers of a first line are within their types.
+/// Looks at the numbers of a first line. By the contract each of them is within its type.
 pub(crate) fn head_fits(head: &RecordHead)
     ensures { FitsHead head.now }
 {
@@ -196,7 +196,7 @@ pub(crate) fn head_fits(head: &RecordHead)
     let _room = head.room;
 }
 
-/// The numbers of a part's first line are within their types.
+/// Looks at the numbers of a part's first line. By the contract each of them is within its type.
 pub(crate) fn part_fits(head: &PartHead)
     ensures { FitsPart head.now }
 {

@@ -1,4 +1,4 @@
-//! The first line of a record. It names the node and says what its cluster was made with.
+//! The first line of a record. It names the node, and the parameters that its cluster was made with.
 ghost use Rattle.std.specs.Prelude.{◌≡◌, ◌↔◌, ◌++◌, OnOk, IfOk, IfSome, IsTrue};
 ghost use Rattle.gb_record_text.specs.RecordText.{head_line, with_cluster};
 
@@ -10,20 +10,20 @@ use gb_types::memory::put_bytes;
 use gb_types::{NodeId, OutOfMemory, Version};
 use std::alloc::Global;
 
-/// What a record says of its node and its cluster.
+/// The node of a record, and its cluster, as the first line names them.
 #[derive(Clone, Copy, PartialEq, Eq)]
 pub struct RecordHead {
     /// The node whose tape the record is.
     pub node: NodeId,
-    /// How many nodes the cluster has, 1 to 32.
+    /// The number of nodes of the cluster, 1 to 32.
     pub nodes: u8,
-    /// How many ticks without a packet make a node noticed.
+    /// The number of ticks without a packet after which a node is noticed.
     pub silence: u16,
-    /// How many groups the tenants of a node may reserve in all.
+    /// The number of groups that the tenants of a node may reserve in all.
     pub places: u16,
     /// The version of packets that the node sends.
     pub version: Version,
-    /// The most bytes of the items of a packet.
+    /// The greatest number of bytes of the items of a packet.
     pub room: u16,
 }
 
@@ -39,7 +39,7 @@ pub(crate) fn put_cluster(out: &mut Vec<u8>, head: &RecordHead) -> Result<(), Ou
     put_after(out, u64::from(head.room))
 }
 
-// Returns true if it is one version.
+// Returns true if both are the same version, and false otherwise.
 fn same_version(a: Version, b: Version) -> bool
     ensures { IsTrue result ↔ (a ≡ b) }
 {
@@ -47,7 +47,7 @@ fn same_version(a: Version, b: Version) -> bool
 }
 
 impl RecordHead {
-    /// Returns true if both say the same.
+    /// Returns true if both are equal, and false otherwise.
     pub fn is(&self, other: &RecordHead) -> bool
         ensures { IsTrue result ↔ (self.now ≡ other.now) }
     {
@@ -78,7 +78,7 @@ pub fn put_head(out: &mut Vec<u8>, head: &RecordHead) -> Result<(), OutOfMemory>
     put_cluster(out, head)
 }
 
-// Returns what six words may say of a node and its cluster.
+// Returns the node and the cluster that six words spell, or `None`.
 pub(crate) fn read_cluster(words: &[&[u8]]) -> Option<RecordHead> {
     let [node, nodes, silence, places, version, room] = words else {
         return None;
@@ -93,7 +93,8 @@ pub(crate) fn read_cluster(words: &[&[u8]]) -> Option<RecordHead> {
     })
 }
 
-/// Returns what a record says whose first line this is, without its line feed. Returns None where it is no first line.
+/// Returns the node and the cluster that the first line of a record names; `line` is without its line feed. Returns `None` if it is no
+/// first line.
 pub fn read_head(alloc: Global, line: &[u8]) -> Result<Option<RecordHead>, OutOfMemory>
     ensures { IfOk result (λ found. IfSome found (λ head. head_line head ≡ line.now)) }
 {

@@ -14,9 +14,9 @@ use std::alloc::{AllocError, Global};
 pub struct Part {
     pub head: PartHead,
     pub entries: Vec<TapeEntry>,
-    /// True if the part says that its node ended it. Otherwise the node may have done more.
+    /// True if the part has the line that its node ended it. Otherwise the node may have done more.
     pub is_whole: bool,
-    /// The number of bytes behind the last line feed: a line whose writing was cut short. It is left out.
+    /// The number of bytes behind the last line feed, which are a line that was cut short. They are left out.
     pub torn: usize,
 }
 
@@ -27,8 +27,8 @@ pub enum JoinFault {
     Other(u32),
     /// Two parts have this number.
     Twice(u32),
-    /// This part says another number of entries before it than the parts with lower numbers have: one of them is missing, or is not
-    /// what it was when this one was begun.
+    /// This part names another number of entries before it than the parts with lower numbers have. One of them is missing, or has changed
+    /// since this one was begun.
     Gap(u32),
     /// A request for memory was refused.
     OutOfMemory,
@@ -40,7 +40,7 @@ impl From<AllocError> for JoinFault {
     }
 }
 
-/// Returns the part that a text is. What stands behind the last line feed is left out; `torn` counts its bytes.
+/// Returns the part that a text spells. The bytes behind the last line feed are left out; `torn` is their number.
 pub fn read_part(alloc: Global, text: &[u8]) -> Result<Part, ReadFault>
     ensures text { IfOk result (λ part. IsPart (value_of part) part.torn text.now) }
     ensures head { IfOk result (λ part. FitsPart part.head) }
@@ -67,7 +67,7 @@ pub fn read_part(alloc: Global, text: &[u8]) -> Result<Part, ReadFault>
     })
 }
 
-// Puts a part behind a record that has the parts before it. The part has this number at least.
+// Appends the entries of a part to the record of the parts before it. Checks that the part follows them and has at least this number.
 fn put_part(tag: &[u8; 32], least: u64, joined: &mut Record, part: Part) -> Result<(), JoinFault>
     ensures next { OnOk result (IsNext joined.old.head tag.now (length joined.old.entries.items) (value_of part)) }
     ensures rising { OnOk result (least ≤ part.head.part) }
@@ -97,7 +97,7 @@ fn put_part(tag: &[u8; 32], least: u64, joined: &mut Record, part: Part) -> Resu
     Ok(())
 }
 
-/// Returns the record that these parts are, in whatever order they are given. It is whole if the part with the highest number is.
+/// Returns the record that these parts are, in whatever order they are given. It is whole if the part with the highest number is whole.
 #[tactic(auto, using(crate::proofs::JoinLemmas::joining_none, crate::proofs::JoinLemmas::joining_more, crate::proofs::JoinLemmas::are_joined))]
 pub fn join(parts: Vec<Part>) -> Result<Record, JoinFault>
     requires { 0 < vec_len parts }

@@ -18,29 +18,29 @@ use gb_types::{NodeId, OutOfMemory};
 use hex::FromHex;
 use std::alloc::Global;
 
-/// What a part of a record says of itself, of its node and of the cluster.
+/// The head of a part of a record: the part itself, its node and its cluster.
 #[derive(Clone, Copy, PartialEq, Eq)]
 pub struct PartHead {
-    /// The node and its cluster, the same in each part of a record.
+    /// The node and its cluster, which are the same in each part of a record.
     pub cluster: RecordHead,
-    /// How many starts the node had before in this run.
+    /// The number of starts that the node had before in this run.
     pub part: u32,
-    /// How many entries stand in the parts before.
+    /// The number of entries in the parts before.
     pub before: u64,
     /// The identifier of the system's boot in which the part was begun.
     pub boot: [u8; 16],
-    /// What leaves the node was on the disk before.
+    /// True if each entry was on the disk before anything that it led to left the node.
     pub syncs: bool,
-    /// HMAC-SHA-256 of the run's key over what the node's plan says (RFC 2104), the same in each part of a record.
+    /// HMAC-SHA-256 (RFC 2104) of the node's plan under the run's key, which is the same in each part of a record.
     pub tag: [u8; 32],
 }
 
 /// Why a line is no first line of a part.
 #[derive(Clone, Copy, Debug, PartialEq, Eq)]
 pub enum PartFault {
-    /// It is the first line of a record without parts, which a node does not go on from.
+    /// It is the first line of a record without parts, which a node cannot continue.
     Undivided,
-    /// It is no first line of a record, or is not spelled as one.
+    /// It is no first line of a record, or is not spelt as one.
     NoHead,
     /// A request for memory was refused.
     OutOfMemory,
@@ -95,7 +95,7 @@ pub fn put_part_head(out: &mut Vec<u8>, head: &PartHead) -> Result<(), OutOfMemo
     Ok(())
 }
 
-// Returns what the words of a first line may say.
+// Returns the head that the words of a first line spell, or `None`.
 fn read_words(words: &[&[u8]]) -> Option<PartHead> {
     let [_tape, _two, cluster @ .., part, before, boot, sync, tag] = words else {
         return None;
@@ -110,7 +110,7 @@ fn read_words(words: &[&[u8]]) -> Option<PartHead> {
     })
 }
 
-// Returns what a part says whose first line this may be. What was read is written again and compared with the line.
+// Returns the head of the part whose first line this may be. It is written again and compared with the line.
 fn read_line(alloc: Global, line: &[u8]) -> Result<Option<PartHead>, OutOfMemory>
     ensures line { IfOk result (λ found. IfSome found (λ head. part_line head ≡ line.now)) }
     ensures fits { IfOk result (λ found. IfSome found FitsPart) }
@@ -128,7 +128,7 @@ fn read_line(alloc: Global, line: &[u8]) -> Result<Option<PartHead>, OutOfMemory
     Ok(Some(head))
 }
 
-/// Returns what a part says whose first line this is, without its line feed.
+/// Returns the head of the part whose first line this is, without its line feed.
 pub fn read_part_head(alloc: Global, line: &[u8]) -> Result<PartHead, PartFault>
     ensures line { IfOk result (λ head. part_line head ≡ line.now) }
     ensures fits { IfOk result FitsPart }

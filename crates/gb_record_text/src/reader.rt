@@ -1,4 +1,4 @@
-//! Reading a whole record: one that its node ended, or one that was cut short.
+//! Reads a whole record, one that its node ended or one that was cut short.
 ghost use Rattle.std.specs.Prelude.{◌≡◌, ◌≢◌, ◌++◌, ◌∷◌, IfOk, IfSome, IfNone, All};
 ghost use Rattle.gb_record_text.specs.Fits.{FitsEntry, FitsRecord};
 ghost use Rattle.gb_record_text.specs.Records.{AreLines, IsRecord};
@@ -15,9 +15,9 @@ use std::alloc::{AllocFailed, Global};
 pub struct Record {
     pub head: RecordHead,
     pub entries: Vec<TapeEntry>,
-    /// True if the record says that the tape is whole. Otherwise its node may have done more.
+    /// True if the record has the line that the tape is whole. Otherwise its node may have done more.
     pub is_whole: bool,
-    /// The number of bytes behind the last line feed: a line whose writing was cut short. It is left out.
+    /// The number of bytes behind the last line feed, which are a line that was cut short. They are left out.
     pub torn: usize,
 }
 
@@ -42,7 +42,7 @@ impl<T: Drop> From<AllocFailed<T>> for ReadFault {
     }
 }
 
-/// Returns the first line of a text and what stands behind its line feed. `None` if the text has no line feed.
+/// Returns the first line of a text and the bytes behind its line feed, or `None` if the text has no line feed.
 pub fn cut_line(text: &[u8]) -> Option<(&[u8], &[u8])>
     ensures some { IfSome result (λ cut. text.now ≡ cut.0.now ++ 10 ∷ cut.1.now) }
     ensures none { IfNone result (All (λ byte. byte ≢ 10) text.now) }
@@ -51,7 +51,7 @@ pub fn cut_line(text: &[u8]) -> Option<(&[u8], &[u8])>
     Some((&text[..end], &text[end + 1..]))
 }
 
-// What stands behind a first line.
+// The contents of a record or a part behind its first line.
 #[derive(Drop)]
 pub(crate) struct Lines {
     pub(crate) entries: Vec<TapeEntry>,
@@ -59,7 +59,7 @@ pub(crate) struct Lines {
     pub(crate) torn: usize,
 }
 
-// Returns what stands behind the first line of a record or part of this node. That line has number 1.
+// Returns the contents behind the first line of a record or part of this node. That line has number 1.
 #[tactic(auto, using(crate::proofs::RecordLemmas::are_lines))]
 pub(crate) fn read_lines(alloc: Global, node: NodeId, text: &[u8]) -> Result<Lines, ReadFault>
     ensures lines { IfOk result (λ read. AreLines node read.entries.items read.is_whole read.torn text.now) }
@@ -93,7 +93,7 @@ pub(crate) fn read_lines(alloc: Global, node: NodeId, text: &[u8]) -> Result<Lin
     Ok(found)
 }
 
-/// Returns the record that a text is. What stands behind the last line feed is left out; `torn` counts its bytes.
+/// Returns the record that a text spells. The bytes behind the last line feed are left out; `torn` is their number.
 #[tactic(auto, using(crate::proofs::RecordLemmas::is_record))]
 pub fn read_record(alloc: Global, text: &[u8]) -> Result<Record, ReadFault>
     ensures text { IfOk result (λ read. IsRecord read text.now) }

@@ -1,4 +1,4 @@
-//! How the line of an entry is read. What was read is written again and compared with the line, so each line is read exactly.
+//! Reads the line of an entry. The entry that was read is written again and compared with the line, so each line is read exactly.
 ghost use Rattle.std.specs.Prelude.{◌≡◌, IfOk, IfSome};
 ghost use Rattle.gb_record_text.specs.Fits.{FitsEntry};
 ghost use Rattle.gb_record_text.specs.RecordText.{entry_line};
@@ -55,7 +55,7 @@ fn read_row(words: &[&[u8]]) -> Option<TenantRow> {
     })
 }
 
-// Returns what a request with this head asks. The words are those behind its node.
+// Returns the action of a request with this head. The words are those behind its node.
 fn read_action(alloc: Global, head: &[u8], words: &[&[u8]]) -> Result<Option<Action>, OutOfMemory> {
     if head == b"tenant".as_slice() {
         return Ok(read_row(words).map(|row| Action::AddTenant(row)));
@@ -70,7 +70,7 @@ fn read_action(alloc: Global, head: &[u8], words: &[&[u8]]) -> Result<Option<Act
     Ok(command.map(|command| Action::Group(addr, command)))
 }
 
-// Returns the request with this head, and its node, which is the first of the words behind it. The last two of them are `by TOKEN`.
+// Returns the request with this head, and its node, which is the first of the words behind the head. The last two words are `by TOKEN`.
 fn read_request(
     alloc: Global,
     head: &[u8],
@@ -89,7 +89,7 @@ fn read_request(
     Ok(what.map(|what| (node, Request { token, what })))
 }
 
-// Returns the step with this head: one between nodes, or one of a node.
+// Returns the step with this head, which is one between nodes or one of a node.
 fn read_step(head: &[u8], words: &[&[u8]]) -> Option<(NodeId, NodeEvent)> {
     match words {
         [node] => {
@@ -198,7 +198,7 @@ fn read_fault(word: &[u8]) -> Option<PacketFault> {
     })
 }
 
-// Returns what `FRAME ITEMS DONE FROM` say of a packet that was taken.
+// Returns the result of a packet that was taken, as `FRAME ITEMS DONE FROM` spell it.
 fn read_good(words: &[&[u8]]) -> Option<Good> {
     let [frame, items, done, from] = words else {
         return None;
@@ -342,7 +342,7 @@ fn read_answer(
     })
 }
 
-// Returns the entry that the words of a line may spell.
+// Returns the entry that the words of a line spell, or `None`.
 fn read_words(alloc: Global, words: &[&[u8]]) -> Result<Option<ReadEntry>, OutOfMemory> {
     let Some(arrow) = words.iter().position(|word| *word == b">".as_slice()) else {
         return Ok(None);
@@ -370,7 +370,8 @@ fn read_words(alloc: Global, words: &[&[u8]]) -> Result<Option<ReadEntry>, OutOf
     }))
 }
 
-/// Returns the entry of a line without its line feed, and the node that the line names. `None` if it is not the line of an entry.
+/// Returns the entry that a line spells, and the node that the line names; `line` is without its line feed. Returns `None` if it is not the
+/// line of an entry.
 pub fn read_entry(alloc: Global, line: &[u8]) -> Result<Option<ReadEntry>, OutOfMemory>
     ensures line { IfOk result (λ found. IfSome found (λ read. entry_line read.node read.entry ≡ line.now)) }
     ensures fits { IfOk result (λ found. IfSome found (λ read. FitsEntry read.entry)) }

@@ -1,4 +1,4 @@
-//! What can go wrong where a record is written.
+//! The faults of writing a record.
 use gb_types::OutOfMemory;
 use thiserror::Error;
 

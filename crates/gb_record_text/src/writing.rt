@@ -1,4 +1,4 @@
-//! How an entry of a tape is written. If there is no memory, a part of it may have been appended.
+//! Writes an entry of a tape. If there is no memory, a part of it may have been appended.
 ghost use Rattle.std.specs.Prelude.{◌≡◌, ◌++◌, [], ◌∷◌, codes, decimal, OnOk, OnErr};
 ghost use Rattle.hex.specs.Hex.{encode_lower};
 ghost use Rattle.gb_spelling.specs.Common.{head_word, members_word, group_word};
@@ -48,7 +48,7 @@ fn put_token(out: &mut Vec<u8>, token: &[u8; 32]) -> Result<(), OutOfMemory>
     put_key(out, token)
 }
 
-// Appends a group's word after a space: its number, and behind a dot its generation, if it is not the first.
+// Appends a group's word after a space: its number, and then a dot and its generation if that is not the first.
 fn put_group(out: &mut Vec<u8>, addr: &Addr) -> Result<(), OutOfMemory>
     ensures { OnOk result (out.new.items ≡ out.old.items ++ after_space (group_word addr.now)) }
 {
@@ -154,7 +154,7 @@ fn head_of(command: &GroupCommand) -> CommandHead
     }
 }
 
-/// Appends what a command has behind the group's address.
+/// Appends the words of a command behind the group's address.
 fn put_command(out: &mut Vec<u8>, command: &GroupCommand) -> Result<(), OutOfMemory>
     ensures { OnOk result (out.new.items ≡ out.old.items ++ command_text command.now) }
 {
@@ -169,7 +169,7 @@ fn put_command(out: &mut Vec<u8>, command: &GroupCommand) -> Result<(), OutOfMem
     }
 }
 
-/// Appends what a request asks of a node.
+/// Appends the action of a request at a node.
 fn put_action(out: &mut Vec<u8>, node: NodeId, what: &Action) -> Result<(), OutOfMemory>
     ensures { OnOk result (out.new.items ≡ out.old.items ++ action_text node what.now) }
 {
@@ -232,7 +232,7 @@ pub fn put_event(out: &mut Vec<u8>, node: NodeId, event: &NodeEvent) -> Result<(
     }
 }
 
-// Appends what became of bytes that came, and behind a packet that was taken its sender.
+// Appends the result of bytes that came. Behind a packet that was taken is its sender.
 fn put_taken(out: &mut Vec<u8>, taken: &PacketAnswer) -> Result<(), OutOfMemory>
     ensures { OnOk result (out.new.items ≡ out.old.items ++ taken_text taken.now) }
 {
@@ -244,7 +244,7 @@ fn put_taken(out: &mut Vec<u8>, taken: &PacketAnswer) -> Result<(), OutOfMemory>
     }
 }
 
-// Appends what was sent, with all its bytes.
+// Appends the result of a send, with all bytes of a packet.
 fn put_sent(out: &mut Vec<u8>, sent: &Sent) -> Result<(), OutOfMemory>
     ensures { OnOk result (out.new.items ≡ out.old.items ++ sent_text sent.now) }
 {

@@ -22,7 +22,7 @@ use Rattle.gb_audit_run.specs.declared.audit.Verdict.TheVariants.{Whole, Left, R
 use Rattle.gb_redact.specs.Redacted.{redacted_event, redacted_entry, rows_in, AreRedacted}
 use Rattle.gb_redact.specs.Copies.{AreAuditedAlike, AreCopies, copied_plan}
 
--- Redacted entries, one after the other.
+-- Lists of redacted entries, one entry after the other.
 
 -- the second entries are the first ones, redacted at a node with these tenants
 abbrev Redacts : List ℕ → NodeId → List TenantRow → List TapeEntry → List TapeEntry → Type 0
@@ -56,7 +56,7 @@ redacts_each admin me rows (x ∷ xs) (y ∷ ys) all (suc i) d lt =
     redacts_each admin me (rows ++ added x.event x.answer) xs ys all.1 i d (omega (arith, lt))
     ∙ ap (λ (r : List TenantRow). redacted_entry admin me r (get_or xs i d)) (append_assoc rows (added x.event x.answer) (rows_in (take i xs)))
 
--- the first of them
+-- the first entries of two such lists
 redacts_front : (admin : List ℕ) (me : NodeId) (rows : List TenantRow) (xs more ys others : List TapeEntry) → length ys ≡ length xs → Redacts admin me rows (xs ++ more) (ys ++ others) → Redacts admin me rows xs ys
 redacts_front admin me rows [] more [] others len all = tt
 redacts_front admin me rows [] more (y ∷ ys) others len all = absurd (omega (arith, len))
@@ -71,7 +71,7 @@ none_added (Asked request) (Replied (Said seq)) wants = refl
 none_added (Asked request) (Replied (Log entries)) wants = refl
 none_added event answer wants = refl
 
--- those that were not refused for lack of memory
+-- the entries that were not refused for lack of memory
 redacts_fed : (admin : List ℕ) (me : NodeId) (rows : List TenantRow) (xs ys : List TapeEntry) → Redacts admin me rows xs ys → Redacts admin me rows (fed_of xs) (fed_of ys)
 redacts_fed admin me rows [] [] all = subst (λ (es : List TapeEntry). Redacts admin me rows es es) (sym fed_of-none) tt
 redacts_fed admin me rows [] (y ∷ ys) all = absurd all
@@ -90,7 +90,7 @@ redacts_fed admin me rows (x ∷ xs) (y ∷ ys) all = by (wants_or_not (wants_me
         let both : Redacts admin me rows (x ∷ fed_of xs) (y ∷ fed_of ys) = (all.0, more) in
         subst (λ (es : List TapeEntry). Redacts admin me rows es (fed_of (y ∷ ys))) (sym (fed_of-fed x xs fed)) (subst (λ (es : List TapeEntry). Redacts admin me rows (x ∷ fed_of xs) es) (sym (fed_of-fed y ys (same ∙ fed))) both)
 
--- What merging looks at.
+-- What a merge compares.
 
 -- an entry, redacted at a node with some tenants
 abbrev IsCopy : List ℕ → NodeId → TapeEntry → TapeEntry → Type 0
@@ -137,14 +137,14 @@ zip_alike plan admin me a [] (y ∷ ys) all = absurd all
 zip_alike plan admin me a (x ∷ xs) [] all = absurd all
 zip_alike plan admin me a (x ∷ xs) (y ∷ ys) all = (copy_alike plan admin me a x y all.0, zip_alike plan admin me a xs ys all.1)
 
--- the other way round
+-- the relation in the other direction
 zip_back : {X Y : Type 0} (R : X → Y → Type 0) (xs : List X) (ys : List Y) → AllZip R xs ys → AllZip (λ y x. R x y) ys xs
 zip_back R [] [] all = tt
 zip_back R [] (y ∷ ys) all = absurd all
 zip_back R (x ∷ xs) [] all = absurd all
 zip_back R (x ∷ xs) (y ∷ ys) all = (all.0, zip_back R xs ys all.1)
 
--- What was sent, and how much there is.
+-- The packets that were sent, and the counts of entries.
 
 sent_same : (admin : List ℕ) (me : NodeId) (xs ys : List TapeEntry) → AllZip (IsCopy admin me) xs ys → sent_of xs ≡ sent_of ys
 unfolding sent_of
@@ -203,9 +203,9 @@ module _ (law : AlikeTapesMergeAlike) (plan : Plan) (tapes copies : List (List T
   counts_all : sum (map fed_count tapes) ≡ sum (map fed_count copies)
   counts_all =
       ap sum (counts_same tapes copies are.count (λ a.
-        sym (fed_counted (tape_of tapes a))
-        ∙ (sym (redacts_count plan.admin_key (node_numbered a) [] (fed_of (tape_of tapes a)) (fed_of (tape_of copies a)) (redacts_fed plan.admin_key (node_numbered a) [] (tape_of tapes a) (tape_of copies a) (all_of a)))
-        ∙ fed_counted (tape_of copies a))))
+      sym (fed_counted (tape_of tapes a))
+      ∙ (sym (redacts_count plan.admin_key (node_numbered a) [] (fed_of (tape_of tapes a)) (fed_of (tape_of copies a)) (redacts_fed plan.admin_key (node_numbered a) [] (tape_of tapes a) (tape_of copies a) (all_of a)))
+      ∙ fed_counted (tape_of copies a))))
 
   events_same : length others ≡ length events
   events_same = (law plan (copied_plan plan) (fed_tapes tapes) (fed_tapes copies) events others alike m n).count

@@ -13,11 +13,11 @@ use Rattle.gb_redact.specs.Pasts.{happened, past_of, redacted_node, redacted_pla
 use Rattle.gb_redact.proofs.TableLemmas.{frames_done_blind, frame_blind, notice_blind, table_reply_same, did_same}
 use Rattle.gb_redact.proofs.TokenLemmas.{rows_more}
 
--- a turn with redacted keys
+-- the turn of a node with redacted keys
 abbrev pub redacted_turn : Turn → Turn
 redacted_turn u = record { value = redacted_node u.value; answer = u.answer }
 
--- a packet is taken
+-- a node with redacted keys takes a packet
 ack_same : (c : Content) (v : NodeValue) → took_ack c (redacted_node v) ≡ redacted_node (took_ack c v)
 ack_same c v =
     ap (λ (t : TableValue). record v { table = t; windows = slice_set v.windows c.from (without_done c.base c.mask (window_to v c.from)) })
@@ -35,12 +35,12 @@ read_same : (read : Result Content PacketFault) (v : NodeValue) → node_read re
 read_same (Err fault) v = refl
 read_same (Ok c) v = took_same c v
 
--- a batch is packed
+-- a node with redacted keys packs a batch
 batch_same : (b : NodeId) (batch : Option (List Item)) (v : NodeValue) → sent_batch b batch (redacted_node v) ≡ redacted_node (sent_batch b batch v)
 batch_same b None v = refl
 batch_same b (Some items) v = refl
 
--- what an event does at a node
+-- the effect of an event at a node with redacted keys
 running_same : (event : NodeEvent) (v : NodeValue) → StaysDenied v.table.admin_key v.table.me v.table.tenants event
     → running_turn (redacted_node v) (redacted_event v.table.admin_key v.table.me v.table.tenants event) ≡ redacted_turn (running_turn v event)
 running_same (Asked request) v stays =
@@ -64,7 +64,7 @@ stopped_same admin me rows (Ack b) = refl
 stopped_same admin me rows Tick = refl
 stopped_same admin me rows Stop = refl
 
--- the event as it is redacted at a node
+-- the event, redacted at a node
 abbrev pub event_at : NodeValue → NodeEvent → NodeEvent
 event_at v event = redacted_event v.table.admin_key v.table.me v.table.tenants event
 
@@ -110,7 +110,7 @@ spelt_same v Tick (Sent (SentPacket text)) h = h
 spelt_same v Stop (Sent (SentPacket text)) h = h
 spelt_same v event answer h = tt
 
--- the past that entries tell
+-- the past of a list with one entry more
 past_behind : (es : List TapeEntry) (e : TapeEntry) → past_of (es ++ e ∷ []) ≡ happened e ∷ past_of es
 past_behind [] e = refl
 past_behind (x ∷ es) e = ap (λ p. p ++ happened x ∷ []) (past_behind es e)
@@ -133,7 +133,7 @@ begin_same : (plan : NodePlan) (v : NodeValue) → ComesTo plan [] v → ComesTo
 unfolding ComesTo
 begin_same plan v comes = (record { cluster = comes.0.cluster; member = comes.0.member; places = comes.0.places; least = comes.0.least; most = comes.0.most }, ap redacted_node comes.1)
 
--- a node with redacted keys comes by redacted entries to the redacted state
+-- a node with redacted keys comes by the redacted entries to the redacted state
 comes_same : PastsSay → (plan : NodePlan) (entries made : List TapeEntry) → AreRedacted plan.admin_key plan.me entries made → StayDenied plan.admin_key plan.me entries → (d : TapeEntry) (i : ℕ) → i ≤ length entries
     → (v : NodeValue) → ComesTo plan (past_of (take i entries)) v → ComesTo (redacted_plan plan) (past_of (take i made)) (redacted_node v)
 unfolding ComesTo

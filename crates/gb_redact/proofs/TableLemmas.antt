@@ -1,4 +1,4 @@
--- What happens at a table does not depend on its keys, but for the tokens that admit.
+-- What happens at a table does not depend on its keys, except for the tokens that admit a request.
 use Rattle.gb_types.specs.Common.{◌≡◌, ℕ, Bool, true, false, List, [], ◌∷◌, Option, Some, None, refl, sym, ap, ap₂, ◌∙◌, ◌+◌, map, fold, nat_lt, nat_eq, is_some, option_map, if◌then◌else◌, nat_cmp, map-append, message_of}
 use Rattle.std.specs.FinSet as set
 use Rattle.gb_types.specs.declared.{limits.TheConstants.NODES, node.NodeId.NodeId, refusal.Refusal.TheVariants.Denied, reply.Reply.Reply, request.Action.Action, request.Action.TheVariants.AddTenant, request.Action.TheVariants.Group, request.GroupCommand.TheVariants.Make, request.Request.Request, spec.TenantRow.TenantRow}
@@ -15,7 +15,7 @@ use Rattle.gb_redact.specs.Redacted.{redacted_row, redacted_action, redacted_req
 use Rattle.gb_redact.specs.Pasts.{redacted_table, StaysDenied}
 use Rattle.gb_redact.proofs.TokenLemmas.{right_so, row_redacted}
 
--- a change of tables that does not look at keys
+-- a change of a table that does not read the keys
 abbrev pub IsBlind : (TableValue → TableValue) → Type 0
 IsBlind f = (t : TableValue) → f (redacted_table t) ≡ redacted_table (f t)
 
@@ -36,7 +36,7 @@ item_done_blind from i t =
 pub frames_done_blind : (from : NodeId) (us : List (ℕ × List Item)) → IsBlind (λ t. fold (frame_done from) t us)
 frames_done_blind from us = fold_blind (frame_done from) (λ u. fold_blind (item_done from) (item_done_blind from) u.1) us
 
--- items and frames that come
+-- items and frames that arrive
 items_blind : (from : NodeId) (items : List Item) (how : Admission) → IsBlind (items_come from items how)
 items_blind from items First t = fold_blind (item_comes from) (λ i u. refl) items t
 items_blind from items Seen t = refl
@@ -51,7 +51,7 @@ frame_blind from n items received t =
 pub notice_blind : (found : List ℕ) → IsBlind (λ t. notice_each t found)
 notice_blind found = fold_blind (λ t b. table_noticed (node_numbered b) t) (λ b t. refl) found
 
--- what is reserved
+-- the number of reserved groups
 reserved_from : (n : ℕ) (rows : List TenantRow) → fold (λ (a : ℕ) (row : TenantRow). a + row.groups) n (map redacted_row rows) ≡ fold (λ (a : ℕ) (row : TenantRow). a + row.groups) n rows
 reserved_from n [] = refl
 reserved_from n (row ∷ rows) = reserved_from (n + row.groups) rows
@@ -70,7 +70,7 @@ reserve_same tenant t = ap (λ (o : Option TenantRow). option_map reserve_of o) 
     by None = refl
     by (Some row) = refl
 
--- the request as it is redacted at a node with this table
+-- the request, redacted at a node with this table
 abbrev pub redacted_at : TableValue → Request → Request
 redacted_at t request = redacted_request t.admin_key t.me t.tenants request
 
@@ -90,7 +90,7 @@ admitted_same request t stays = by (is_admitted request t) refl
 pub table_reply_same : (request : Request) (t : TableValue) → StaysDenied t.admin_key t.me t.tenants (Asked request) → table_reply (redacted_at t request) (redacted_table t) ≡ table_reply request t
 table_reply_same request t stays = ap₂ (λ (b : Bool) (r : Reply). if b then r else Refused Denied) (admitted_same request t stays) (reply_same request.what t)
 
--- what a request changes
+-- the change that a request makes
 pub did_same : (noticed : set.FinSet nat_cmp) (reply : Reply) (what : Action) (t : TableValue) → table_did noticed reply (redacted_action what) (redacted_table t) ≡ redacted_table (table_did noticed reply what t)
 did_same noticed Done (AddTenant row) t = ap (λ (rows : List TenantRow). record (redacted_table t) { tenants = rows }) (sym (map-append redacted_row t.tenants (row ∷ [])))
 did_same noticed Done (Group addr command) t = refl

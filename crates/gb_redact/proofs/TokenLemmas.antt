@@ -1,4 +1,4 @@
--- Tokens that admit, and those that do not.
+-- Tokens that admit a request, and those that do not.
 use Rattle.gb_types.specs.Common.{◌≡◌, ℕ, zero, suc, ◌+◌, ◌<◌, Bool, true, false, List, [], ◌∷◌, ◌++◌, length, take, get_or, ◌⊎◌, Option, Some, None, refl, sym, ap, ap₂, subst, ◌∙◌, arith, inl, inr, map, nat_eq, option_map, if◌then◌else◌, flat_map-append, append-nil, ext_get_or, take_more}
 use Rattle.std.proofs.lemmas.Slice.Eq.{bytes_eq-Decides}
 use Rattle.gb_types.specs.declared.{node.NodeId.NodeId, request.Action.Action, request.Action.TheVariants.AddTenant, request.Action.TheVariants.Group, request.Request.Request, spec.TenantRow.TenantRow}
@@ -12,11 +12,11 @@ use Rattle.gb_node.specs.declared.event.NodeEvent.TheVariants.{Request as Asked,
 use Rattle.gb_redact.specs.Laws.{with_token, IsDenied, event_with, AreBothDenied, AreAlike, RightStayRight, DeniedLeaveNothing}
 use Rattle.gb_redact.specs.Redacted.{redacted_key, redacted_row, no_token, redacted_token, rows_in, token_for, redacted_action, redacted_request, redacted_event, redacted_entry, AreRedacted}
 
--- a token that is made for a need is the one for it
+-- the token that is made for a need is the token of that need
 own : (key : List ℕ) (need : Need) → is_token key need (token_of key need) ≡ true
 own key need = (bytes_eq-Decides (token_of key need) (token_of key need)).1 refl
 
--- a token that admits becomes one that does
+-- a token that admits becomes a token that admits under the redacted key
 right_key : (need : Need) (key token : List ℕ) → is_token key need token ≡ true → is_token (redacted_key key) need (redacted_token need (Some key) token) ≡ true
 right_key need key token fits =
     let is : redacted_token need (Some key) token ≡ token_of (redacted_key key) need = ap (λ (b : Bool). if b then token_of (redacted_key key) need else no_token) fits in
@@ -49,7 +49,7 @@ right_so admin me rows request fits = by request.what fits
     by (AddTenant row) fits = right_key Admin admin request.token fits
     by (Group addr command) fits = right_row (command_need me addr command) request.token addr.tenant rows fits
 
--- a token that does not admit becomes none
+-- a token that does not admit becomes `no_token`
 wrong_key : (need : Need) (key token : List ℕ) → is_token key need token ≡ false → redacted_token need (Some key) token ≡ no_token
 wrong_key need key token lacks = ap (λ (b : Bool). if b then token_of (redacted_key key) need else no_token) lacks
 
@@ -79,7 +79,7 @@ event_same admin me rows token (Ack to) first second = refl
 event_same admin me rows token Tick first second = refl
 event_same admin me rows token Stop first second = refl
 
--- no token changes what is added
+-- the tenant that an entry adds does not depend on the token
 added_with : (token : List ℕ) (event : NodeEvent) (answer : NodeAnswer) → added (event_with token event) answer ≡ added event answer
 added_with token (Asked request) (Replied reply) = refl
 added_with token event answer = refl

@@ -10,7 +10,7 @@ use Rattle.gb_audit_run.specs.Audits.{IsVerdict}
 use Rattle.gb_audit_run.specs.declared.audit.Verdict.{Verdict}
 use Rattle.gb_redact.specs.Redacted.{redacted_key, AreRedacted}
 
--- the plan with the key that stands for its administrator's
+-- the plan with the redacted key of its administrator
 abbrev pub copied_plan : Plan → Plan
 copied_plan plan = record plan { admin_key = redacted_key plan.admin_key }
 
@@ -19,12 +19,12 @@ pub record AreCopies (plan : Plan) (tapes copies : List (List TapeEntry)) : Type
   pub count : length copies ≡ length tapes
   pub each : (a : ℕ) → AreRedacted plan.admin_key (node_numbered a) (tape_of tapes a) (tape_of copies a)
 
--- The one run has, of each node, the redacted entries of the other, and the verdict on the copies is that on the tapes.
+-- The second run has, at each node, the redacted entries of the first run, and the verdict on the copies is the verdict on the tapes.
 pub record AreAuditedAlike (plan : Plan) (tapes copies : List (List TapeEntry)) (events others : List Event) (ended : List Bool) (m : IsMergedFront plan (fed_tapes tapes) events) (n : IsMergedFront (copied_plan plan) (fed_tapes copies) others) : Type 0 where
   pub entries : (a : ℕ) → AreRedacted plan.admin_key (node_numbered a) (entries_at a m.picks) (entries_at a n.picks)
   pub verdict : (v w : Verdict) → IsVerdict plan tapes events ended v → IsVerdict (copied_plan plan) copies others ended w → w ≡ v
 
--- an audit of copies, under the key that stands for the administrator's, finds what an audit of the records finds
+-- an audit of the copies, under the redacted key of the administrator, finds what an audit of the records finds
 abbrev pub CopiesAreAuditedAlike : Type 0
 CopiesAreAuditedAlike =
     (plan : Plan) (tapes copies : List (List TapeEntry)) (events others : List Event) (ended : List Bool) → AreCopies plan tapes copies → (m : IsMergedFront plan (fed_tapes tapes) events) (n : IsMergedFront (copied_plan plan) (fed_tapes copies) others) → AreAuditedAlike plan tapes copies events others ended m n

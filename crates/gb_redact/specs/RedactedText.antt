@@ -14,11 +14,11 @@ text_of head entries is_whole = head_line head ++ 10 ∷ (entry_lines head.node 
 abbrev pub marked : List ℕ → List ℕ
 marked text = codes "redacted" ++ drop 4 text
 
--- the text that is marked so, if it is one
+-- the text whose marked text this is, if there is one
 abbrev pub unmarked : List ℕ → Option (List ℕ)
 unmarked text = if bytes_eq (take 9 text) (codes "redacted ") then Some (codes "tape " ++ drop 9 text) else None
 
--- The text is a record, and what is made of it is the marked text of the redacted entries. What stands behind the record's last line feed is left out.
+-- The text is a record, and `made` is the marked text of its redacted entries. The text behind the record's last line feed is left out.
 pub record IsRedaction (admin text made : List ℕ) : Type 0 where
   pub found : Record
   pub is : IsRecord found text
@@ -26,10 +26,10 @@ pub record IsRedaction (admin text made : List ℕ) : Type 0 where
   pub redacted : AreRedacted admin found.head.node found.entries.items entries
   pub lines : made ≡ marked (text_of found.head entries found.is_whole)
 
--- the keys that an audit of redacted records needs, a line each: that of the packets, and the one that stands for the administrator's
+-- the keys that an audit of redacted records needs, a line each: the key of the packets, and the redacted key of the administrator
 abbrev pub keys_text : List ℕ → List ℕ → List ℕ
 keys_text packets admin = encode_lower packets ++ 10 ∷ (encode_lower (redacted_key admin) ++ 10 ∷ [])
 
--- a marked record is read as what it was before
+-- a marked record is read as the record before it was marked
 abbrev pub MarkedAreRead : Type 0
 MarkedAreRead = (head : RecordHead) (entries : List TapeEntry) (is_whole : Bool) → unmarked (marked (text_of head entries is_whole)) ≡ Some (text_of head entries is_whole)

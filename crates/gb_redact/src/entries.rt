@@ -10,7 +10,7 @@ use gb_node::{NodeAnswer, NodeEvent, TapeEntry};
 use gb_types::{Action, NodeId, OutOfMemory, Reply, TenantRow};
 use std::alloc::Global;
 
-// Returns the event with what stands for the secrets of its request.
+// Returns the event with the secrets of its request replaced.
 fn redacted_event(
     alloc: Global,
     admin: &Key,
@@ -27,7 +27,7 @@ fn redacted_event(
     Ok(made)
 }
 
-// Returns the entry with what stands for the secrets of its request.
+// Returns the entry with the secrets of its request replaced.
 fn redacted_entry(
     alloc: Global,
     admin: &Key,
@@ -58,11 +58,10 @@ fn note_tenant(rows: &mut Vec<TenantRow>, entry: &TapeEntry) -> Result<(), OutOf
     Ok(())
 }
 
-/// Returns the entries of the node `me` with what stands for their secrets. `admin` is the key of the administrator's token.
-/// In each request that adds a tenant, the tenant's key is replaced by HMAC-SHA-256 of the word `redacted` under it. A token that
-/// admits the request at the node, by the tenants that earlier entries added, is replaced by the token for the same need
-/// under the key that stands for the one it is made under. Any other token is replaced by 32 zero bytes. `Err` if there is no memory for
-/// the copies.
+/// Returns the entries of the node `me` with their secrets replaced. `admin` is the key of the administrator's token. In each request that
+/// adds a tenant, the tenant's key is replaced by HMAC-SHA-256 of the word `redacted` under that key. A token that admits the request at
+/// the node, by the tenants that earlier entries added, is replaced by the token for the same need under the redacted key. Any other token
+/// is replaced by 32 zero bytes. `Err` if there is no memory for the copies.
 pub fn redact(
     alloc: Global,
     admin: &Key,

@@ -1,4 +1,4 @@
-//! What stands for a key, for a token, and for a request with both.
+//! What replaces a key, a token, and the secrets of a request.
 ghost use Rattle.std.specs.{Prelude.◌≡◌, Option.option_copied};
 ghost use Rattle.gb_redact.specs.Redacted.{redacted_key, redacted_token, key_in, token_for, redacted_request};
 
@@ -8,14 +8,14 @@ use gb_cap::{Key, Need, Token};
 use gb_table::need::command_need;
 use gb_types::{Action, NodeId, Request, TenantId, TenantRow};
 
-/// Returns the key that stands for `key`: HMAC-SHA-256 of the word `redacted` under it. Nobody who has it alone can compute the other.
+/// Returns the redacted key of `key`: HMAC-SHA-256 of the word `redacted` under it. Nobody who has it alone can compute `key`.
 pub fn redacted_key(key: &Key) -> Key
     ensures { result ≡ redacted_key key.now }
 {
     hmac(key, b"redacted")
 }
 
-/// Returns what stands for a token that came for this need. `key` is the key under which the need's token is made; `None` if its tenant is
+/// Returns the token that replaces a token for this need. `key` is the key under which the need's token is made; `None` if its tenant is
 /// not here.
 fn redacted_token(need: Need, key: Option<&Key>, token: &Token) -> Token
     ensures { result ≡ redacted_token need (option_copied key.entry) token.now }
@@ -36,7 +36,7 @@ fn key_in(rows: &[TenantRow], tenant: TenantId) -> Option<&Key>
     }
 }
 
-/// Returns what stands for the token of a request for this.
+/// Returns the token that replaces the token of a request for this action.
 fn token_of(admin: &Key, me: NodeId, rows: &[TenantRow], what: &Action, token: &Token) -> Token
     ensures { result ≡ token_for admin.now me rows.now what.now token.now }
 {
@@ -49,8 +49,8 @@ fn token_of(admin: &Key, me: NodeId, rows: &[TenantRow], what: &Action, token: &
     }
 }
 
-/// Puts what stands for the request's token in its place and, if it adds a tenant, for the tenant's key. `admin` is the key of the
-/// administrator's token, `me` the node that is asked, and `rows` are the tenants that it has.
+/// Replaces the request's token and, if the request adds a tenant, the tenant's key. `admin` is the key of the administrator's token, `me`
+/// is the node that is asked, and `rows` are the tenants that it has.
 pub fn redact_request(admin: &Key, me: NodeId, rows: &[TenantRow], request: &mut Request)
     ensures { request.new ≡ redacted_request admin.now me rows.now request.old }
 {

@@ -38,8 +38,8 @@ fn put_marked_head(alloc: Global, out: &mut Vec<u8>, head: &RecordHead) -> Resul
     put_bytes(out, b"\n")
 }
 
-/// Returns the redacted text of a node's record: that of the record's entries as `redact` returns them, and `redacted` in the place of
-/// the first word, `tape`. `admin` is the key of the administrator's token. A record that was cut short stays so, and what stands behind
+/// Returns the redacted text of a node's record: the text of the entries that `redact` returns for the record, with the first word
+/// `redacted` instead of `tape`. `admin` is the key of the administrator's token. A record that was cut short stays so, and the text behind
 /// its last line feed is left out. `Err` if the text is no record, or if memory runs out.
 pub fn redact_text(alloc: Global, admin: &Key, text: &[u8]) -> Result<Vec<u8>, ReadFault>
     ensures { IfOk result (λ made. IsRedaction admin.now text.now made.items) }
@@ -79,8 +79,8 @@ fn put_key(out: &mut Vec<u8>, key: &Key) -> Result<(), OutOfMemory>
     put_bytes(out, b"\n")
 }
 
-/// Returns the keys that an audit of redacted records needs, as standard input gives them: a line with the packets' key, which is
-/// `packets`, and a line with the key that stands for the administrator's, which is `admin`. `Err` if there is no memory.
+/// Returns the keys that an audit of redacted records needs, as standard input gives them: a line with the packets' key, `packets`, and a
+/// line with the redacted form of the administrator's key, `admin`. `Err` if there is no memory.
 pub fn keys_text(alloc: Global, packets: &Key, admin: &Key) -> Result<Vec<u8>, OutOfMemory>
     ensures { IfOk result (λ text. text.items ≡ keys_text packets.now admin.now) }
 {

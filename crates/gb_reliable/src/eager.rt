@@ -5,8 +5,8 @@ ghost use Rattle.gb_reliable.specs.EagerLemmas.{eager_more, eager_delivers_more,
 use gb_layer::Rule;
 use gb_types::{MsgId, NodeId, NodeSet};
 
-/// The rule of eager reliable broadcast (Cachin, Guerraoui, Rodrigues 2011, Algorithm 3.3): a message is broadcast and delivered as
-/// soon as it is here.
+/// The rule of eager reliable broadcast (Cachin, Guerraoui, Rodrigues 2011, Algorithm 3.3). A message is broadcast and delivered as
+/// soon as it is at the node.
 #[derive(Clone, Copy, Drop)]
 pub struct Eagerly;
 

@@ -6,7 +6,7 @@ use gb_layer::Rule;
 use gb_types::{MsgId, NodeId, NodeSet};
 
 /// The rule of lazy reliable broadcast (Cachin, Guerraoui, Rodrigues 2011, Algorithm 3.2). A message is broadcast if it is the node's own
-/// or its origin was noticed. It is delivered as soon as it is here.
+/// or its origin was noticed. It is delivered as soon as it is at the node.
 #[derive(Clone, Copy, Drop)]
 pub struct Lazily;
 

@@ -9,7 +9,7 @@ use Rattle.gb_simulate.specs.RunTexts.{RunStep, AreRunSteps}
 use Rattle.gb_replay.specs.Entries.{AreEntries, steps_of, ReplaysAreOfEntries}
 use Rattle.gb_replay.specs.ScheduleText.{schedule_text, answers_text}
 
--- Steps take a cluster from one value to another. No answer refuses for lack of memory.
+-- Steps take a cluster from one state to another. No answer is a refusal because memory ran out.
 unfoldable Lead : ClusterValue → List RunStep → ClusterValue → Type 0
 Lead w [] v = v ≡ w
 Lead w (s ∷ steps) v = (next : ClusterValue) × IsStep w s.event s.answer next × (is_refused s.answer ≡ false) × Lead next steps v
@@ -62,7 +62,7 @@ map-reverse (s ∷ steps) =
     ∙ (map-append event_in (reverse steps) (s ∷ [])
     ∙ (ap (λ (es : List Event). es ++ s.event ∷ []) (map-reverse steps) ∙ sym (reverse-append (s.event ∷ []) (map event_in steps))))
 
--- each replay of merged events is of the entries
+-- each replay of merged events is one of the entries
 pub of_entries : NodeLaws → PacketsAreHonest → FrontIsOneRun → ReplaysAreOfEntries
 of_entries laws honest front plan tapes events m schedule answers r =
     let steps = reverse r.steps in

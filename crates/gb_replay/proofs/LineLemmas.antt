@@ -11,7 +11,7 @@ use Rattle.gb_replay.specs.ScheduleText.{action_line, key_text, key_behind, secr
 length_after : (word bytes : List ℕ) → length (word ++ encode_lower bytes) ≡ length word + 2 * length bytes
 length_after word bytes = length-append word (encode_lower bytes) ∙ ap (λ n. length word + n) (length-encode_with lower_digits bytes)
 
--- how long what is cut off is
+-- the length of the part that is cut off
 pub length_token : (token : List ℕ) → length (token_text token) ≡ 4 + 2 * length token
 length_token token = length_after (codes " by ") token
 
@@ -25,7 +25,7 @@ moved : (head row word key token : List ℕ) → (head ++ ((row ++ word) ++ key)
 moved head row word key token =
     ap (λ q. (head ++ q) ++ token) (append_assoc row word key) ∙ (ap (λ q. q ++ token) (sym (append_assoc head row (word ++ key))) ∙ append_assoc (head ++ row) (word ++ key) token)
 
--- a request in a record is its line in a schedule, with what is secret behind it
+-- a request in a record is its line in a schedule, with its secrets behind it
 parted : (b : NodeId) (what : Action) (token : List ℕ) → action_text b what ++ token_text token ≡ action_line b what ++ (key_behind what ++ token_text token)
 parted b (AddTenant row) token = moved (codes "tenant") (after_space (decimal b.number) ++ after_space (decimal row.tenant) ++ after_space (decimal row.groups) ++ limits_text row.msgs row.bytes row.window) (codes " key ") (encode_lower row.key) (token_text token)
 parted b (Group addr command) token = refl
@@ -37,11 +37,11 @@ cut old text front behind all is split =
     let count : length all - length behind ≡ length (old ++ front) = omega (arith, long) in
     ap (λ n. take n all) count ∙ (ap (λ t. take (length (old ++ front)) t) whole ∙ take-append_seam (old ++ front) behind)
 
--- what is left of a request that was written behind some text, once its secrets are cut off
+-- if a request is appended to a text and its secrets are cut off, its line in a schedule remains
 pub cut_off : (b : NodeId) (request : Request) (old all : List ℕ) (n : ℕ) → all ≡ old ++ request_text b request → n ≡ length all - length (secret_text request) → take n all ≡ old ++ action_line b request.what
 cut_off b request old all n is count = ap (λ k. take k all) count ∙ cut old (request_text b request) (action_line b request.what) (secret_text request) all is (parted b request.what request.token)
 
--- one number more, each after a comma
+-- one more number, each after a comma
 pub comma_more : (ns : List ℕ) (n : ℕ) → each_after_comma (ns ++ n ∷ []) ≡ each_after_comma ns ++ (codes "," ++ decimal n)
 comma_more [] n = append-nil (codes "," ++ decimal n)
 comma_more (m ∷ ns) n = ap (λ t. codes "," ++ decimal m ++ t) (comma_more ns n) ∙ sym (append_assoc (codes "," ++ decimal m) (each_after_comma ns) (codes "," ++ decimal n))
@@ -62,7 +62,7 @@ mapped : (vs : List Version) (v : Version) → map version_byte (vs ++ v ∷ [])
 mapped [] v = refl
 mapped (x ∷ vs) v = ap (λ q. version_byte x ∷ q) (mapped vs v)
 
--- one version more, each after a comma
+-- one more version, each after a comma
 pub versions_more : (old now new : List ℕ) (vs : List Version) (i : ℕ) (v d : Version) → i < length vs → v ≡ get_or vs i d → now ≡ old ++ each_after_comma (map version_byte (take i vs))
     → new ≡ now ++ (codes "," ++ decimal (version_byte v)) → new ≡ old ++ each_after_comma (map version_byte (take (i + 1) vs))
 versions_more old now new vs i v d below is written goes =

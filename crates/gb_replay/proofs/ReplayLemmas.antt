@@ -25,7 +25,7 @@ no_answers : steps_answers [] ≡ []
 unfolding steps_answers
 no_answers = refl
 
--- nothing was run yet
+-- no event was run yet
 pub begun : (plan : Plan) (schedule answers : List ℕ) (v : ClusterValue) → v ≡ new_cluster plan → ComesTo plan [] v → schedule ≡ ended (first_line plan) → answers ≡ ended (codes "ok") → IsAt plan [] v schedule answers
 begun plan schedule answers v new comes line told = (
   record {
@@ -55,7 +55,7 @@ answers_on : (s : RunStep) (steps : List RunStep) → steps_answers (s ∷ steps
 unfolding steps_answers
 answers_on s steps = refl
 
--- a text that goes on
+-- a text to which more bytes are appended
 on : (old new front behind more all : List ℕ) → new ≡ old ++ more → old ≡ front ++ behind → all ≡ behind ++ more → new ≡ front ++ all
 on old new front behind more all goes is both = goes ∙ (ap (λ q. q ++ more) is ∙ (append_assoc front behind more ∙ ap (λ q. front ++ q) (sym both)))
 
@@ -78,19 +78,19 @@ step_more plan events e v schedule schedule' answers answers' r t =
       refl,
     )
 
--- one event more
+-- one more event was run
 pub more : (plan : Plan) (events : List Event) (e : Event) (v new : ClusterValue) (schedule schedule' answers answers' : List ℕ)
     → IsAt plan events v schedule answers → TakesStep v e new schedule schedule' answers answers' → IsAt plan (events ++ e ∷ []) new schedule' answers'
 more plan events e v new schedule schedule' answers answers' (r, is) t =
     step_more plan events e new schedule schedule' answers answers' r (subst (λ w. TakesStep w e new schedule schedule' answers answers') (sym is) t)
 
--- one event more of those that are run
+-- one more of the given events was run
 pub goes_on : (plan : Plan) (events : List Event) (i : ℕ) (e d : Event) (v new : ClusterValue) (schedule schedule' answers answers' : List ℕ) → i < length events → e ≡ get_or events i d
     → IsAt plan (take i events) v schedule answers → TakesStep v e new schedule schedule' answers answers' → IsAt plan (take (i + 1) events) new schedule' answers'
 goes_on plan events i e d v new schedule schedule' answers answers' below is at t =
     subst (λ es. IsAt plan es new schedule' answers') (sym (take_more events i d below ∙ ap (λ x. take i events ++ x ∷ []) (sym is))) (more plan (take i events) e v new schedule schedule' answers answers' at t)
 
--- what is passed on is what was told
+-- the error that is returned is the error that came
 pub why_is : {T E : Type 0} (r : Result T E) (told why : E) → IsErrAnd r (λ x. x ≡ told) → r ≡ Err why → told ≡ why
 why_is (Ok v) told why is same = absurd is
 why_is (Err x) told why is same = let e : x ≡ why = cc in sym is ∙ e

@@ -1,4 +1,4 @@
--- The line that says why a run is no schedule for gb_sim.
+-- The line that names the reason why a run is no schedule for gb_sim.
 use Rattle.std.specs.Prelude.{ℕ, List, ◌++◌, codes, decimal}
 use Rattle.gb_lines.specs.Lines.{ended}
 use Rattle.gb_replay.specs.declared.replay.ReplayFault.{ReplayFault}

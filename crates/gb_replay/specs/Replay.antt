@@ -11,8 +11,8 @@ use Rattle.gb_replay.specs.ScheduleText.{schedule_text, answers_text, step_line,
 use Rattle.gb_replay.specs.declared.replay.ReplayFault.{ReplayFault}
 use Rattle.gb_replay.specs.declared.replay.ReplayFault.TheVariants.{Places, TooMany, NoNode, Differs, OutOfMemory}
 
--- The events happen one after the other in a cluster that was started with the plan, and no answer refuses for want of memory. The schedule is the
--- lines of these steps, and the answers are those of their answers. Steps and runs have the newest first.
+-- The events happen one after the other in a cluster that was started with the plan, and no answer is a refusal because memory ran out. The schedule
+-- is the lines of these steps, and `answers` the lines of their answers. Steps and runs have the newest first.
 pub record IsReplay (plan : Plan) (events : List Event) (schedule answers : List ℕ) : Type 0 where
   pub steps : List RunStep
   pub run : List NodeStep
@@ -24,7 +24,7 @@ pub record IsReplay (plan : Plan) (events : List Event) (schedule answers : List
   pub schedule_is : schedule ≡ schedule_text plan steps
   pub answers_are : answers ≡ answers_text steps
 
--- an event happens in a cluster, and its line and its answer's are written behind what was there
+-- an event happens in a cluster, and the lines of the event and of its answer are appended
 pub record TakesStep (old : ClusterValue) (event : Event) (new : ClusterValue) (schedule schedule' answers answers' : List ℕ) : Type 0 where
   pub answer : Answer
   pub step : IsStep old event answer new
@@ -33,17 +33,17 @@ pub record TakesStep (old : ClusterValue) (event : Event) (new : ClusterValue) (
   pub line : schedule' ≡ schedule ++ ended (step_line event answer)
   pub told : answers' ≡ answers ++ step_answer event answer
 
--- gb_sim does not answer the schedule so
+-- gb_sim answers the schedule otherwise
 abbrev pub IsOther : List ℕ → List ℕ → Type 0
 IsOther schedule answers = (text : List ℕ) × (end : SimEnd) × IsText schedule text end × ((text ≡ answers) → end ≢ AllLines)
 
--- why a schedule and answers are not handed out
+-- the reason why a schedule and answers are not returned
 abbrev pub IsOtherFault : List ℕ → List ℕ → ReplayFault → Type 0
 IsOtherFault schedule answers (Differs line) = IsOther schedule answers
 IsOtherFault schedule answers OutOfMemory = Unit {0}
 IsOtherFault schedule answers fault = ⊥
 
--- why a run is no schedule for gb_sim
+-- the reason why a run is no schedule for gb_sim
 abbrev pub IsReplayFault : Plan → List Event → ReplayFault → Type 0
 IsReplayFault plan events Places = plan.places ≢ 1024
 IsReplayFault plan events TooMany = LINES ≤ length events

@@ -1,4 +1,4 @@
--- How a run of a cluster is spelt as a schedule for gb_sim, and what gb_sim answers.
+-- How a run of a cluster is spelt as a schedule for gb_sim, and the answers of gb_sim.
 use Rattle.std.specs.Prelude.{ℕ, Bool, true, false, List, [], ◌∷◌, ◌++◌, codes, decimal, take, if◌then◌else◌}
 use Rattle.hex.specs.Hex.{encode_lower}
 use Rattle.gb_spelling.specs.Common.{payload_word}
@@ -11,17 +11,17 @@ use Rattle.gb_schedule.specs.Versions.{versions_word}
 use Rattle.gb_record_text.specs.RecordText.{after_space, limits_text, token_text, action_text, event_text}
 use Rattle.gb_simulate.specs.{AnswerText.answer_spelling, RunTexts.RunStep}
 
--- a request, with neither its token nor a tenant's key: gb_sim makes these anew
+-- a request without its token and without a tenant's key, because gb_sim makes these anew
 abbrev pub action_line : NodeId → Action → List ℕ
 action_line b (AddTenant row) =
     codes "tenant" ++ (after_space (decimal b.number) ++ after_space (decimal row.tenant) ++ after_space (decimal row.groups) ++ limits_text row.msgs row.bytes row.window)
 action_line b (Group addr command) = action_text b (Group addr command)
 
--- ` key KEY`
+-- the words ` key KEY`
 abbrev pub key_text : List ℕ → List ℕ
 key_text key = codes " key " ++ encode_lower key
 
--- what a record has behind that: a tenant's key, and the token
+-- the words that a record has behind that: a tenant's key, and the token
 abbrev pub key_behind : Action → List ℕ
 key_behind (AddTenant row) = key_text row.key
 key_behind (Group addr command) = []
@@ -35,27 +35,27 @@ event_line b (Asked request) = action_line b request.what
 event_line b (Came bytes) = codes "noise " ++ decimal b.number ++ codes " " ++ payload_word bytes
 event_line b event = event_text b event
 
--- an event of the cluster; packets count from 1 as they are sent
+-- an event of the cluster; packets are counted from 1 as they are sent
 abbrev pub line_of : Event → List ℕ
 line_of (At b event) = event_line b event
 line_of (Arrive k) = codes "arrive " ++ decimal k
 
--- No line does the same, and the event changed nothing: the request came without the token that it needs, or the bytes are no packet of the
--- cluster, and under gb_sim's own key they might be one.
+-- No line has the same effect, and the event changed nothing. Either the request came without the token that it needs, or the bytes are no packet of
+-- the cluster, but could be one under gb_sim's own key.
 abbrev pub is_left_out : Event → Answer → Bool
 is_left_out (At b (Asked request)) (Reply (Refused Denied)) = true
 is_left_out (At b (Came bytes)) answer = true
 is_left_out event answer = false
 
--- the line of an event with its answer: what no line does stands in a comment
+-- the line of an event; it is a comment if no line has the same effect
 abbrev pub step_line : Event → Answer → List ℕ
 step_line event answer = (if is_left_out event answer then codes "# " else []) ++ line_of event
 
--- the line of its answer, and none for a comment
+-- the line of its answer; it is empty for a comment
 abbrev pub step_answer : Event → Answer → List ℕ
 step_answer event answer = if is_left_out event answer then [] else ended (answer_spelling answer)
 
--- the lines of steps, which are given with the newest first, and their answers' lines
+-- the lines of steps, which are given with the newest first
 unfoldable pub steps_text : List RunStep → List ℕ
 steps_text [] = []
 steps_text (s ∷ earlier) = steps_text earlier ++ ended (step_line s.event s.answer)
@@ -76,6 +76,6 @@ first_line plan = codes "cluster2" ++ after_space (decimal plan.nodes) ++ after_
 abbrev pub schedule_text : Plan → List RunStep → List ℕ
 schedule_text plan steps = ended (first_line plan) ++ steps_text steps
 
--- its answers
+-- the answers to it
 abbrev pub answers_text : List RunStep → List ℕ
 answers_text steps = ended (codes "ok") ++ steps_answers steps

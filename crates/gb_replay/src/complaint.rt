@@ -1,4 +1,4 @@
-//! The line that says why a run is no schedule for gb_sim.
+//! The line that names the reason why a run is no schedule for gb_sim.
 ghost use Rattle.std.specs.Prelude.{◌≡◌, ◌++◌, OnOk};
 ghost use Rattle.gb_replay.specs.Complaint.{complaint};
 
@@ -7,8 +7,8 @@ use gb_spelling::number::put_number;
 use gb_types::OutOfMemory;
 use gb_types::memory::put_bytes;
 
-/// Appends to `out` the line that says why a run is no schedule for gb_sim, with its line end. `Err` if there is no memory; then a part
-/// of the line may be there.
+/// Appends to `out` the line that names the reason why a run is no schedule for gb_sim, with its line feed. Returns `Err` if there is no
+/// memory; then a part of the line may have been appended.
 pub fn put_complaint(out: &mut Vec<u8>, fault: ReplayFault) -> Result<(), OutOfMemory>
     ensures { OnOk result (out.new.items ≡ out.old.items ++ complaint fault) }
 {

@@ -1,8 +1,8 @@
-//! Where two texts differ.
+//! The line in which two texts differ.
 ghost use Rattle.std.specs.Prelude.{◌≡◌, ◌↔◌, None};
 
-/// Returns the number of the first line, from 1, in which two texts differ. If one text is the beginning of the other, this is the line in
-/// which the shorter one ends. `None` if the texts are equal.
+/// Returns the number of the first line, from 1, in which two texts differ. If one text is a prefix of the other, this is the line in which
+/// the shorter one ends. Returns `None` if the texts are equal.
 pub fn first_difference(text: &[u8], other: &[u8]) -> Option<u64>
     ensures none { (result ≡ None) ↔ (text.now ≡ other.now) }
 {

@@ -5,10 +5,10 @@ use gb_cluster::laws::packets_are_honest;
 use gb_merge::front::front_is_one_run;
 use gb_node::past::{packets_say, pasts_say};
 
-/// A law of every replay of events that `merge_front` merged from tapes. Its steps are the entries that were merged, one after the
-/// other: each event is its entry's, where a packet that arrives is its bytes, and each answer is its entry's, where the entry has a
-/// packet's bytes in place of its number. At each node these are the first entries of its tape. So the schedule and its answers are
-/// made of the tapes' entries. It does nothing.
+/// A law of every replay of events that `merge_front` merged from tapes, with nothing to run. Its steps are the entries that were merged,
+/// one after the other: each event is its entry's, where a packet that arrives is its bytes, and each answer is its entry's, where the
+/// entry has a packet's bytes instead of its number. At each node these are the first entries of its tape. So the schedule and its answers
+/// are made of the tapes' entries.
 pub fn answers_are_the_records()
     ensures { ReplaysAreOfEntries }
 {

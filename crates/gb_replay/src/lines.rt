@@ -1,4 +1,4 @@
-//! How an event is written as a line of a schedule. Without memory a part of the line may stand behind what was there.
+//! Writes an event as a line of a schedule. If there is no memory, a part of the line may have been appended.
 ghost use Rattle.std.specs.Prelude.{◌≡◌, ◌≤◌, ◌++◌, codes, decimal, length, map, OnOk};
 ghost use Rattle.gb_types.specs.declared.limits.TheConstants.{NODES as MOST};
 ghost use Rattle.gb_schedule.specs.Versions.{versions_word};
@@ -21,7 +21,7 @@ fn put_after(out: &mut Vec<u8>, number: u64) -> Result<(), OutOfMemory>
     put_number(out, number)
 }
 
-// Returns how many bytes ` by TOKEN` has.
+// Returns the number of bytes of ` by TOKEN`.
 #[tactic(auto, using(crate::proofs::LineLemmas::length_token))]
 fn token_length(token: &[u8; 32]) -> usize
     ensures value { result ≡ length (token_text token.now) }
@@ -30,7 +30,7 @@ fn token_length(token: &[u8; 32]) -> usize
     68
 }
 
-// Returns how many bytes ` key KEY` has.
+// Returns the number of bytes of ` key KEY`.
 #[tactic(auto, using(crate::proofs::LineLemmas::length_key))]
 fn key_length(key: &[u8; 32]) -> usize
     ensures value { result ≡ length (key_text key.now) }
@@ -39,7 +39,8 @@ fn key_length(key: &[u8; 32]) -> usize
     69
 }
 
-// Returns how many bytes of a request in a record are its token's and, where it adds a tenant, the key's, each with the word before it.
+// Returns the number of bytes of the secrets of a request in a record, each with the word before it: its token, and the key of a tenant
+// that it adds.
 #[tactic(auto, using(crate::proofs::LineLemmas::length_both))]
 fn secret_length(request: &Request) -> usize
     ensures { result ≡ length (secret_text request.now) }
@@ -51,7 +52,7 @@ fn secret_length(request: &Request) -> usize
     }
 }
 
-// Appends a request. It is written as in a record, and what a schedule does not have is cut off behind it.
+// Appends a request. It is written as in a record, and then the part behind it that a schedule does not have is cut off.
 fn put_request_line(out: &mut Vec<u8>, node: NodeId, request: &Request) -> Result<(), OutOfMemory>
     ensures { OnOk result (out.new.items ≡ out.old.items ++ action_line node request.now.what) }
 {
@@ -77,8 +78,8 @@ fn put_event_line(out: &mut Vec<u8>, node: NodeId, event: &NodeEvent) -> Result<
     }
 }
 
-/// Appends the line of a schedule that makes this event of a cluster happen to `out`, without a line end. `Err` if there is no memory;
-/// then a part of the line may be there.
+/// Appends to `out` the line of a schedule for this event of a cluster, without a line feed. Returns `Err` if there is no memory; then a
+/// part of the line may have been appended.
 pub fn put_line(out: &mut Vec<u8>, event: &Event) -> Result<(), OutOfMemory>
     ensures { OnOk result (out.new.items ≡ out.old.items ++ line_of event.now) }
 {
@@ -116,7 +117,7 @@ fn put_more(out: &mut Vec<u8>, versions: &[Version]) -> Result<(), OutOfMemory>
     Ok(())
 }
 
-// Appends the versions' bytes, parted by commas.
+// Appends the versions' bytes, separated by commas.
 fn put_versions(out: &mut Vec<u8>, versions: &[Version]) -> Result<(), OutOfMemory>
     ensures { OnOk result (out.new.items ≡ out.old.items ++ versions_word versions.now) }
 {
@@ -129,8 +130,8 @@ fn put_versions(out: &mut Vec<u8>, versions: &[Version]) -> Result<(), OutOfMemo
     }
 }
 
-/// Appends the first line of a schedule, which starts a cluster with this plan, to `out`, without a line end. `Err` if there is no
-/// memory; then a part of the line may be there.
+/// Appends to `out` the first line of a schedule, which starts a cluster with this plan, without a line feed. Returns `Err` if there is no
+/// memory; then a part of the line may have been appended.
 pub fn put_first_line(out: &mut Vec<u8>, plan: &Plan) -> Result<(), OutOfMemory>
     requires few { plan.now.nodes ≤ MOST }
     ensures { OnOk result (out.new.items ≡ out.old.items ++ first_line plan.now) }

@@ -1,4 +1,4 @@
-//! A run as a schedule that gb_sim was seen to answer so.
+//! A run as a schedule, which gb_sim was run on and answered in the same way.
 ghost use Rattle.std.specs.Prelude.{◌≡◌, IfOk, IfErr, OnOk};
 ghost use Rattle.gb_cluster.specs.Common.{IsClusterPlan};
 ghost use Rattle.gb_simulate.specs.Text.{IsText};
@@ -20,13 +20,13 @@ use std::alloc::Global;
 /// Why a run is no schedule for gb_sim.
 #[derive(Clone, Copy, Debug, PartialEq, Eq)]
 pub enum ReplayFault {
-    /// The tenants of a node may make another number of groups in all than gb_sim's, 1,024.
+    /// The tenants of a node may make another number of groups in all than in gb_sim, where it is 1,024.
     Places,
     /// The run has more events than a schedule may have lines behind its first one.
     TooMany,
     /// An event is at a node that the cluster does not have.
     NoNode,
-    /// gb_sim gives other answers; they differ from this line on, from 1.
+    /// gb_sim writes other answers; they differ from this line on, counted from 1.
     Differs(u64),
     /// A request for memory was refused.
     OutOfMemory,
@@ -43,7 +43,7 @@ impl From<OutOfMemory> for ReplayFault {
     }
 }
 
-// What gb_sim does with a schedule.
+// The result of gb_sim's run of a schedule.
 #[derive(Drop)]
 struct Simulation {
     text: Vec<u8>,
@@ -63,7 +63,7 @@ fn simulated(alloc: Global, schedule: &[u8]) -> Result<Simulation, OutOfMemory>
     }
 }
 
-// Sees that gb_sim answers a schedule so.
+// Checks that gb_sim answers a schedule in this way.
 fn compare(alloc: Global, replay: &Replay) -> Result<(), ReplayFault>
     ensures ok { OnOk result (IsText replay.now.schedule.items replay.now.answers.items Ends.All) }
     ensures err { IfErr result (IsOtherFault replay.now.schedule.items replay.now.answers.items) }
@@ -78,10 +78,10 @@ fn compare(alloc: Global, replay: &Replay) -> Result<(), ReplayFault>
     }
 }
 
-/// Returns the events of a cluster as a schedule for gb_sim, with the answers that gb_sim writes for it. It runs the events, and then
-/// the schedule as gb_sim does, to compare the answers. `Err`, in this order: `Places` if the plan has another number of places than
-/// 1,024, `TooMany` for 1,000,000 events or more, `NoNode` if an event is at a node that is not there, `Differs` with the line if
-/// gb_sim answers otherwise. `Err` with `OutOfMemory` if there is no memory, or a node of the run had none. If the events
+/// Returns the events of a cluster as a schedule for gb_sim, with the answers that gb_sim writes for it. Runs the events, and then the
+/// schedule as gb_sim does, to compare the answers. Returns the first of these faults as `Err`: `Places` if the plan has another number of
+/// places than 1,024; `TooMany` for 1,000,000 events or more; `NoNode` if an event is at a node that is not there; `Differs` with the line
+/// if gb_sim answers otherwise. Returns `Err` with `OutOfMemory` if there is no memory, or if a node of the run had none. If the events
 /// were merged from tapes, both texts are made of the tapes' entries.
 pub fn replay(alloc: Global, plan: &Plan, events: &[Event]) -> Result<Replay, ReplayFault>
     requires plan { IsClusterPlan plan.now }

@@ -1,4 +1,4 @@
-//! Running the events of a cluster, and writing each as a line of a schedule with its answer.
+//! Runs the events of a cluster, and writes each as a line of a schedule with its answer.
 ghost use Rattle.std.specs.Prelude.{◌≡◌, ◌++◌, [], codes, length, All, Err, OnOk, IfOk};
 ghost use Rattle.gb_lines.specs.Lines.{ended};
 ghost use Rattle.gb_cluster.specs.Common.{IsPlaced, IsClusterPlan, new_cluster, ComesTo};
@@ -41,7 +41,7 @@ impl From<OutOfMemory> for StepFault {
     }
 }
 
-// Returns true if an answer refuses for want of memory.
+// Returns true if an answer is a refusal because memory ran out, and false otherwise.
 fn is_refused(answer: &Answer) -> bool
     ensures { result ≡ is_refused answer.now }
 {
@@ -55,8 +55,8 @@ fn is_refused(answer: &Answer) -> bool
     }
 }
 
-// Returns true if no line of a schedule does the same as an event with this answer: a request that came without the token that it needs, or bytes
-// that are no packet of the cluster.
+// Returns true if no line of a schedule has the same effect as an event with this answer, and false otherwise. Such an event is a request
+// that came without the token that it needs, or bytes that are no packet of the cluster.
 fn is_left_out(event: &Event, answer: &Answer) -> bool
     ensures { result ≡ is_left_out event.now answer.now }
 {
@@ -69,7 +69,7 @@ fn is_left_out(event: &Event, answer: &Answer) -> bool
     }
 }
 
-// Appends the line of an event to a schedule, and its answer's to the answers. A comment has no answer.
+// Appends the line of an event to a schedule, and the line of its answer to the answers. A comment has no answer.
 fn put_step(text: &mut Replay, event: &Event, answer: &Answer) -> Result<(), OutOfMemory>
     ensures schedule { OnOk result (text.new.schedule.items ≡ text.old.schedule.items ++ ended (step_line event.now answer.now)) }
     ensures answers { OnOk result (text.new.answers.items ≡ text.old.answers.items ++ step_answer event.now answer.now) }
@@ -119,8 +119,8 @@ fn take_steps(cluster: &mut Cluster, events: &[Event], text: &mut Replay) -> Res
 }
 
 /// Runs the events of a cluster from its start, and returns them as a schedule, with their answers as text. An event that no line of a
-/// schedule can ask is a comment in it. `Err` with `NoNode` if an event is at a node that is not there, and with `OutOfMemory` if there
-/// is no memory or a node of the run had none.
+/// schedule can cause is a comment in it. Returns `Err` with `NoNode` if an event is at a node that is not there, and with `OutOfMemory` if
+/// there is no memory or a node of the run had none.
 pub fn schedule_of(alloc: Global, plan: &Plan, events: &[Event]) -> Result<Replay, StepFault>
     requires plan { IsClusterPlan plan.now }
     ensures ok { IfOk result (λ text. IsReplay plan.now events.now text.schedule.items text.answers.items) }

@@ -10,12 +10,12 @@ use Rattle.gb_resume.specs.Resumed.{HasNoLine}
 use Rattle.gb_resume.specs.Read.{HasKept, HasRead, HasReadAll, IsAt, IsBegunPart, IsReadPart, IsUnread}
 use Rattle.gb_resume.specs.declared.{reading.Reading.Reading, wanted.Wanted.Wanted}
 
--- nothing of a part was read
+-- before any line of a part was read, nothing is kept
 pub kept_none : (w : Wanted) (old now : BegunValue) (before : List TapeEntry) (r s : Reading) → IsAt old now before r → r.has_head ≡ false → r.is_whole ≡ false → s ≡ r → HasKept w old now before s [] []
 kept_none w old now before r s at headless open_ended same =
     subst (λ (x : Reading). HasKept w old now before x [] []) (sym same) (record { lines = []; read = inl (record { none = refl; headless = headless; open_ended = open_ended; at = at }); are = refl; no_line = All-nil (λ byte. byte ≢ 10) })
 
--- a line is whole
+-- with one more line feed, the kept bytes are a whole line
 pub kept_line : (w : Wanted) (old now new : BegunValue) (before : List TapeEntry) (r s : Reading) (kept line all : List ℕ) → HasKept w old now before r kept all
     → ((text : List ℕ) → HasRead w old now before r text → HasRead w old new before s (text ++ ((kept ++ line) ++ 10 ∷ []))) → HasKept w old new before s [] (all ++ (line ++ 10 ∷ []))
 kept_line w old now new before r s kept line all has goes =
@@ -27,7 +27,7 @@ kept_line w old now new before r s kept line all has goes =
       no_line = All-nil (λ byte. byte ≢ 10);
     }
 
--- more of a line is kept
+-- more bytes of a line are kept
 pub kept_more : (w : Wanted) (old now : BegunValue) (before : List TapeEntry) (r : Reading) (kept rest all : List ℕ) → HasKept w old now before r kept all → HasNoLine rest → HasKept w old now before r (kept ++ rest) (all ++ rest)
 kept_more w old now before r kept rest all has none = record {
   lines = has.lines;
@@ -36,7 +36,7 @@ kept_more w old now before r kept rest all has none = record {
   no_line = All-append (λ byte. byte ≢ 10) kept rest has.no_line none;
 }
 
--- the part was read to its end
+-- at the end of its text the part was read
 pub read_all : (w : Wanted) (old now : BegunValue) (before : List TapeEntry) (r : Reading) (kept all : List ℕ) → HasKept w old now before r kept all → HasReadAll w old now before r.part r all
 read_all w old now before r kept all has = by has.read
   where
@@ -63,7 +63,7 @@ read_all w old now before r kept all has = by has.read
           },
         )
 
--- A reader gave this much of a part.
+-- The reader returned these bytes of a part.
 pub record Reads (w : Wanted) (begun now : BegunValue) (r s : Reading) (kept : List ℕ) (input rest : Option (List ℕ)) : Type 0 where
   pub all : List ℕ
   pub given : Consumes input rest all
@@ -101,7 +101,7 @@ reads_all w begun now r s kept input rest rest' reads none end = (
   λ start before at. subst (λ n. HasReadAll w start now before n s reads.all) reads.part (read_all w start now before s kept reads.all (reads.has start before at)),
 )
 
--- This much of a piece was taken.
+-- These bytes of a piece were taken.
 pub record Taken (w : Wanted) (begun now : BegunValue) (r s : Reading) (kept kept' piece rest : List ℕ) : Type 0 where
   pub mid : List ℕ
   pub parts : piece ≡ mid ++ rest

@@ -24,7 +24,7 @@ texts_more k (t ∷ texts) ps text p torn (inr (f, rest)) number part = inr (
   texts_more (k + 1) texts f.more text p torn rest (omega (arith, number)) part,
 )
 
--- The texts that are known.
+-- Texts that are known.
 
 abbrev AreKnown : (ℕ → Option (List ℕ)) → List (List ℕ) → Type 0
 AreKnown text texts = (k : ℕ) → k < length texts → IfSome (text k) (λ found. get_or texts k [] ≡ found)
@@ -43,13 +43,13 @@ known_more text texts t are is k lt = by (cases_lt k (length texts))
         let last : get_or (texts ++ t ∷ []) k [] ≡ t = ap (λ n. get_or (texts ++ t ∷ []) n []) same ∙ get_or-append_seam texts t [] [] in
         some_as (text k) (get_or (texts ++ t ∷ []) k []) t last (subst (λ n. IfSome (text n) (λ found. t ≡ found)) (sym same) is)
 
--- what a reader gave to its end is all that it had
+-- if a reader is at its end, the bytes that it returned are all that it had
 pub is_known : (old new : Option (List ℕ)) (text : List ℕ) → Consumes old new text → IsAtEnd new → IfSome old (λ found. text ≡ found)
 is_known None new text consumes end = tt
 is_known (Some xs) None text consumes end = absurd consumes
 is_known (Some xs) (Some ys) text consumes end = sym (consumes ∙ (ap (λ (zs : List ℕ). text ++ zs) end ∙ append-nil text))
 
--- Parts of a record were read, up to this number.
+-- The parts of a record below this number were read.
 pub record Stands (text : ℕ → Option (List ℕ)) (w : Wanted) (old now : BegunValue) (r : Reading) (k : ℕ) : Type 0 where
   pub texts : List (List ℕ)
   pub parts : List PartValue
@@ -64,7 +64,7 @@ fed_none : (log : List TapeEntry) → log ≡ log ++ fed_of []
 unfolding fed_of
 fed_none log = sym (append-nil log)
 
--- nothing was read
+-- no part was read yet
 pub stands_none : (text : ℕ → Option (List ℕ)) (w : Wanted) (old : BegunValue) (r : Reading) → IsCounted [] r → Stands text w old old r 0
 stands_none text w old r counted = record {
   texts = [];
@@ -111,7 +111,7 @@ stands_more text w old now new r s u k t so is entries seat count goes = by (goe
       at = subst (λ (es : List TapeEntry). IsAt old new es u) (sym (entries_more so.parts p)) read.at;
     }
 
--- there is no further part
+-- if there is no further part, the record was read
 pub resumed_so : (text : ℕ → Option (List ℕ)) (ends : ℕ → Type 0) (w : Wanted) (old now : BegunValue) (r : Reading) (k : ℕ) → Stands text w old now r k → ends k → IsResumed text ends w old now (record { parts = k; entries = r.entries; seat = r.seat })
 resumed_so text ends w old now r k so end = record {
   texts = so.texts;

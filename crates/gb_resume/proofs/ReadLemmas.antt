@@ -1,4 +1,4 @@
--- A line of a part was read.
+-- One more line of a part was read.
 use Rattle.gb_types.specs.Common.{◌≡◌, ℕ, Bool, true, false, List, [], ◌∷◌, ◌++◌, inl, inr, refl, sym, ap, subst, ◌∙◌, codes, append_assoc, append-nil, filter-append, length, not, cond, if◌then◌else◌}
 use Rattle.gb_types.specs.declared.node.NodeId.{NodeId}
 use Rattle.gb_types.proofs.SameLemmas.{same_number}
@@ -25,7 +25,7 @@ unfolding fed_of
 fed_same es e wants =
     filter-append (λ (x : TapeEntry). not (wants_memory x.answer)) es (e ∷ []) ∙ (ap (λ (b : Bool). fed_of es ++ cond (not b) (e ∷ []) []) wants ∙ append-nil (fed_of es))
 
--- an entry that was refused for lack of memory is passed over
+-- an entry that was refused because memory ran out is skipped
 pub at_starved : (old now : BegunValue) (es : List TapeEntry) (r s : Reading) (e : TapeEntry) → IsAt old now es r → Counts r s e → wants_memory e.answer ≡ true → IsAt old now (es ++ e ∷ []) s
 at_starved old now es r s e at counts wants =
     let before = at.replayed in
@@ -34,7 +34,7 @@ at_starved old now es r s e at counts wants =
       counted = counted_more es r s e at.counted counts;
     }
 
--- the node gave the entry's answer again
+-- the node returned the entry's answer again
 pub at_again : (old now new : BegunValue) (es : List TapeEntry) (r s : Reading) (e : TapeEntry) (right : Bool) → IsAt old now es r → Counts r s e → wants_memory e.answer ≡ false
     → IsAgain now new e right → right ≡ true → new.plan ≡ now.plan → new.me ≡ now.me → new.past.book ≡ now.past.book → IsAt old new (es ++ e ∷ []) s
 at_again old now new es r s e right at counts fed again is plan me book =
@@ -53,7 +53,7 @@ at_again old now new es r s e right at counts fed again is plan me book =
 
 -- Lines.
 
--- a line count is no count of entries
+-- the number of the line does not count entries
 pub at_line : (old now : BegunValue) (es : List TapeEntry) (r s : Reading) → s.entries ≡ r.entries → s.seat ≡ r.seat → s.count ≡ r.count → IsAt old now es r → IsAt old now es s
 at_line old now es r s entries seat count at =
     let c = at.counted in
@@ -62,7 +62,7 @@ at_line old now es r s entries seat count at =
       counted = record { turns = c.turns; entries = entries ∙ c.entries; seat = seat ∙ c.seat; count = λ n is. count ∙ c.count n (is ∙ seat) };
     }
 
--- the first line of a part
+-- the first line of a part was read
 pub read_head : (w : Wanted) (old now : BegunValue) (before : List TapeEntry) (r s : Reading) (text line : List ℕ) (h : PartHead) → HasRead w old now before r text → r.has_head ≡ false
     → part_line h ≡ line → IsHead w s.part s.entries h → s.has_head ≡ true → s.is_whole ≡ r.is_whole → s.entries ≡ r.entries → s.seat ≡ r.seat → s.count ≡ r.count → HasRead w old now before s (text ++ (line ++ 10 ∷ []))
 read_head w old now before r s text line h (inl un) headless spelt is headed whole entries seat count =
@@ -78,12 +78,12 @@ read_head w old now before r s text line h (inl un) headless spelt is headed who
     })
 read_head w old now before r s text line h (inr begun) headless spelt is headed whole entries seat count = absurd (let bad : true ≡ false = sym begun.headed ∙ headless in cc)
 
--- the text that was read so far, if the first line of the part was
+-- if the first line of the part was read, it is the first line of the text
 begun_of : (w : Wanted) (old now : BegunValue) (before : List TapeEntry) (r : Reading) (text : List ℕ) → HasRead w old now before r text → r.has_head ≡ true → IsBegunPart w old now before r text
 begun_of w old now before r text (inl un) headed = absurd (let bad : true ≡ false = sym headed ∙ un.headless in cc)
 begun_of w old now before r text (inr begun) headed = begun
 
--- `end`
+-- the line `end` was read
 pub read_end : (w : Wanted) (old now : BegunValue) (before : List TapeEntry) (r s : Reading) (text line : List ℕ) → HasRead w old now before r text → r.has_head ≡ true → r.is_whole ≡ false
     → line ≡ codes "end" → s.part ≡ r.part → s.has_head ≡ r.has_head → s.is_whole ≡ true → s.entries ≡ r.entries → s.seat ≡ r.seat → s.count ≡ r.count → HasRead w old now before s (text ++ (line ++ 10 ∷ []))
 read_end w old now before r s text line read headed open_ended is part has whole entries seat count =
@@ -103,7 +103,7 @@ read_end w old now before r s text line read headed open_ended is part has whole
     end_line : (head es : List ℕ) → (head ++ 10 ∷ (es ++ [])) ++ last_line ≡ head ++ 10 ∷ (es ++ last_line)
     end_line head es = append_assoc head (10 ∷ (es ++ [])) last_line ∙ ap (λ (xs : List ℕ). head ++ 10 ∷ (xs ++ last_line)) (append-nil es)
 
--- an entry
+-- the line of an entry was read
 pub read_more : (w : Wanted) (old now new : BegunValue) (before : List TapeEntry) (r s : Reading) (text line : List ℕ) (node : NodeId) (e : TapeEntry) → HasRead w old now before r text → r.has_head ≡ true → r.is_whole ≡ false
     → entry_line node e ≡ line → node.number ≡ w.cluster.node.number → s.part ≡ r.part → s.has_head ≡ r.has_head → s.is_whole ≡ r.is_whole
     → ((es : List TapeEntry) → IsAt old now es r → IsAt old new (es ++ e ∷ []) s) → HasRead w old new before s (text ++ (line ++ 10 ∷ []))
@@ -131,7 +131,7 @@ read_more w old now new before r s text line node e read headed open_ended spelt
     entry_more head es line =
         append_assoc head (10 ∷ (es ++ [])) line ∙ ap (λ (xs : List ℕ). head ++ 10 ∷ xs) (ap (λ (xs : List ℕ). xs ++ line) (append-nil es) ∙ sym (append-nil (es ++ line)))
 
--- the first line, where nothing else changed
+-- the first line was read, and nothing else changed
 pub read_head_so : (w : Wanted) (old now : BegunValue) (before : List TapeEntry) (r s : Reading) (l : ℕ) (text line : List ℕ) (h : PartHead) → HasRead w old now before r text → r.has_head ≡ false → part_line h ≡ line → IsHead w r.part r.entries h
     → s ≡ record r { line = l; has_head = true } → HasRead w old now before s (text ++ (line ++ 10 ∷ []))
 read_head_so w old now before r s l text line h has headless spelt is same =

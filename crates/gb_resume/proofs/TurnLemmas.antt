@@ -57,7 +57,7 @@ least : (old : Reading) (e : TapeEntry) → Next old e → old.seat ≤ e.seat +
 least old e (inl new) = omega (arith, new.0)
 least old e (inr again) = omega (arith, again.0)
 
--- the entry is counted
+-- the counts with one more entry
 pub counted_more : (es : List TapeEntry) (old new : Reading) (e : TapeEntry) → IsCounted es old → Counts old new e → IsCounted (es ++ e ∷ []) new
 counted_more es old new e counted counts =
     let turn = in_turn es old e counted counts.next in
@@ -74,7 +74,7 @@ counted_more es old new e counted counts =
           subst (λ n. new.count ≡ of_seat n (es ++ e ∷ [])) same (counts.count ∙ (ap (λ n. n + 1) turn.count ∙ sym (one_more es e)));
     }
 
--- an entry's count is the number of its seat's entries before it
+-- the entry's count is the number of its seat's entries before it
 pub counts_so : (old new : Reading) (e : TapeEntry) (above before : ℕ) → above ≡ e.seat + 1 → (old.seat < above → before ≡ 0) → (above ≤ old.seat → before ≡ old.count) → old.seat ≤ above → e.count ≡ before
     → new.entries ≡ old.entries + 1 → new.seat ≡ above → new.count ≡ before + 1 → Counts old new e
 counts_so old new e above before is first again le same entries seat count = record {

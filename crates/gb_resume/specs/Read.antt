@@ -9,7 +9,7 @@ use Rattle.gb_resume.specs.Resumed.{IsReplayed, IsSafe, HasNoLine}
 use Rattle.gb_resume.specs.Turns.{AreInTurn, seat_above}
 use Rattle.gb_resume.specs.declared.{reading.Reading.Reading, wanted.Wanted.Wanted}
 
--- the counts are those of these entries
+-- the counts of the reading are those of these entries
 pub record IsCounted (es : List TapeEntry) (r : Reading) : Type 0 where
   pub turns : AreInTurn [] es
   pub entries : r.entries ≡ length es
@@ -28,7 +28,7 @@ pub record Counts (old new : Reading) (e : TapeEntry) : Type 0 where
   pub seat : new.seat ≡ e.seat + 1
   pub count : new.count ≡ e.count + 1
 
--- nothing else changed
+-- only the counts changed
 pub record IsSamePart (old new : Reading) : Type 0 where
   pub part : new.part ≡ old.part
   pub has_head : new.has_head ≡ old.has_head
@@ -42,18 +42,18 @@ pub record IsHead (w : Wanted) (k n : ℕ) (h : PartHead) : Type 0 where
   pub before : h.before ≡ n
   pub safe : IsSafe w.boot h
 
--- the lines of a part so far
+-- the lines of a part that were read so far
 abbrev pub lines_so_far : PartHead → List TapeEntry → Bool → List ℕ
 lines_so_far h entries is_whole = part_line h ++ 10 ∷ (entry_lines h.cluster.node entries ++ (if is_whole then last_line else []))
 
--- Behind these entries a part was begun: none of its lines was read.
+-- A part was begun behind these entries, and none of its lines was read.
 pub record IsUnread (old new : BegunValue) (before : List TapeEntry) (r : Reading) (text : List ℕ) : Type 0 where
   pub none : text ≡ []
   pub headless : r.has_head ≡ false
   pub open_ended : r.is_whole ≡ false
   pub at : IsAt old new before r
 
--- Its first line was read, and lines behind it, which are the text.
+-- The first line of the part was read, and lines behind it; they are the text.
 pub record IsBegunPart (w : Wanted) (old new : BegunValue) (before : List TapeEntry) (r : Reading) (text : List ℕ) : Type 0 where
   pub head : PartHead
   pub entries : List TapeEntry
@@ -62,18 +62,18 @@ pub record IsBegunPart (w : Wanted) (old new : BegunValue) (before : List TapeEn
   pub lines : text ≡ lines_so_far head entries r.is_whole
   pub at : IsAt old new (before ++ entries) r
 
--- either of both
+-- a part was begun, and none of its lines was read, or its first line and perhaps some more
 abbrev pub HasRead : Wanted → BegunValue → BegunValue → List TapeEntry → Reading → List ℕ → Type 0
 HasRead w old new before r text = IsUnread old new before r text ⊎ IsBegunPart w old new before r text
 
--- whole lines were read, and behind them stands what is kept of a line
+-- whole lines were read, and the kept bytes are the beginning of the next line
 pub record HasKept (w : Wanted) (old new : BegunValue) (before : List TapeEntry) (r : Reading) (kept all : List ℕ) : Type 0 where
   pub lines : List ℕ
   pub read : HasRead w old new before r lines
   pub are : all ≡ lines ++ kept
   pub no_line : HasNoLine kept
 
--- a whole part was read behind these entries: the text has no line, or is a part's
+-- a whole part was read behind these entries
 pub record IsReadPart (w : Wanted) (old new : BegunValue) (before : List TapeEntry) (part : ℕ) (r : Reading) (text : List ℕ) (p : PartValue) : Type 0 where
   pub torn : ℕ
   pub is : IsPart p torn text

@@ -10,14 +10,14 @@ use crate::wanted::Wanted;
 use gb_host::Begun;
 use std::alloc::Global;
 
-/// What was read of a node's record.
+/// The sizes of a node's record that was read.
 #[derive(Clone, Copy, Debug, PartialEq, Eq)]
 pub struct Resumed {
-    /// How many parts it has: the next start begins the part with this number.
+    /// The number of its parts, which is the number of the part that the next start begins.
     pub parts: u32,
-    /// How many entries they have: those before the next part.
+    /// The number of their entries, which are before the next part.
     pub entries: u64,
-    /// The lowest number above those of their seats: the first seat of the next part.
+    /// The lowest number above the seats of the entries, which is the first seat of the next part.
     pub seat: u32,
 }
 
@@ -28,10 +28,10 @@ fn make_space(alloc: Global) -> Result<Vec<u8>, ResumeFault>
     Ok(vec![in alloc; 0u8; PIECE]?)
 }
 
-/// Reads the parts of a record from part 0 on, up to the first that is not there, and makes their entries happen again at a node at
-/// which nothing has happened. An entry that was refused for lack of memory changed nothing, and is passed over. Nothing is written.
-/// A record without parts, which a node has that never began, is read as one of 0 entries. After an `Err` the node has happened to it
-/// what stands before the fault, and perhaps the answer that differs: it is not to be used.
+/// Reads the parts of a record from part 0 on, up to the first that is not there, and makes their entries happen again at a node at which
+/// nothing has happened. An entry that was refused because memory ran out changed nothing, and is skipped. Nothing is written. If there is
+/// no part, as for a node that never started, the result has 0 entries. After an `Err` the entries before the fault have happened at the
+/// node, and perhaps the one whose answer differs: the node must not be used.
 pub fn resume<P: Parts>(
     alloc: Global,
     parts: &P,

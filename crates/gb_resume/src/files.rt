@@ -20,7 +20,7 @@ pub struct RecordFiles<'a, F> {
     pub node: NodeId,
 }
 
-/// Returns the path of the file of a part of a node's record in a run. `Err` if there is no memory.
+/// Returns the path of the file of a part of a node's record in a run. Returns `Err` if there is no memory.
 pub fn part_path(
     alloc: Global,
     dir: &str,

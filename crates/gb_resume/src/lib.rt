@@ -1,6 +1,6 @@
-//! A node that was killed goes on. The parts of its record are read in order, in pieces, and each entry happens again at a node that
-//! begins anew. So the node comes to where it was when its last line was written. Nothing is written here. Read `all_parts::resume`
-//! first, then `parts` and `reading`; specs/Resumed.antt says what was read.
+//! A node that was killed continues. The parts of its record are read in order, in pieces, and each entry happens again at a node that
+//! begins anew. So the node reaches the state in which its last line was written. This crate writes nothing. Read `all_parts::resume`
+//! first, then `parts` and `reading`; specs/Resumed.antt defines the result.
 #![tactic(auto)]
 
 pub mod all_parts;

@@ -1,4 +1,4 @@
-//! The lines of a part, in pieces from a reader. No more is kept of it than a line and a piece.
+//! The lines of a part, in pieces from a reader. At most a line and a piece are kept in memory.
 ghost use Rattle.std.specs.Prelude.{◌≡◌, ◌++◌, ◌∷◌, [], ◌<◌, List, ℕ, false, length, OnOk};
 ghost use Rattle.std.specs.Io.KnownBytes.{Consumes, IsAtEnd};
 ghost use Rattle.gb_host.specs.Common.{BegunValue};
@@ -14,22 +14,22 @@ use gb_types::memory::put_bytes;
 use std::alloc::Global;
 use std::io::{ErrorKind, Read};
 
-/// The most bytes of a line: more than a fetch of the longest messages has.
+/// The greatest number of bytes of a line, which is more than a fetch of the longest messages has.
 pub const LINE: usize = 262_144;
 
 const _: () = prove!(LINE == 262_144);
 
-/// The most bytes of a read.
+/// The greatest number of bytes of a read.
 pub const PIECE: usize = 65_536;
 
 const _: () = prove!(PIECE == 65_536);
 
-/// The most reads of a part.
+/// The greatest number of reads of a part.
 pub const READS: u64 = 1_000_000_000;
 
 const _: () = prove!(READS == 1_000_000_000);
 
-// Appends bytes to the line that is not whole yet. `Err` if it is too long then.
+// Appends bytes to the line that is not whole yet. Returns `Err` if the line is too long then.
 fn keep(kept: &mut Vec<u8>, bytes: &[u8], reading: &Reading) -> Result<(), ResumeFault>
     ensures { OnOk result (kept.new.items ≡ kept.old.items ++ bytes.now) }
 {
@@ -43,7 +43,7 @@ fn keep(kept: &mut Vec<u8>, bytes: &[u8], reading: &Reading) -> Result<(), Resum
     Ok(())
 }
 
-/// Takes the lines that are whole with a piece of a part, and keeps what stands behind the last one.
+/// Takes the lines that a piece of a part makes whole, and keeps the bytes behind the last one.
 pub fn take_piece(
     alloc: Global,
     wanted: &Wanted,
@@ -66,7 +66,7 @@ pub fn take_piece(
     Ok(())
 }
 
-/// Reads a part to its end, and takes its lines. What stands behind its last line feed is left out. Takes memory for one line.
+/// Reads a part to its end, and takes its lines. The bytes behind its last line feed are left out. Takes memory for one line.
 pub fn take_part<R: Read>(
     alloc: Global,
     wanted: &Wanted,

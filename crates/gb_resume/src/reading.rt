@@ -1,4 +1,4 @@
-//! One line of a record: the first line of a part, an entry, or `end`.
+//! Takes one line of a record: the first line of a part, an entry, or `end`.
 ghost use Rattle.std.specs.Prelude.{◌≡◌, ◌<◌, ◌≤◌, ◌++◌, ◌∷◌, [], List, ℕ, false, true, codes, IfOk, OnOk};
 ghost use Rattle.gb_host.specs.Common.{BegunValue};
 ghost use Rattle.gb_isolation.specs.Isolation.{wants_memory};
@@ -18,27 +18,27 @@ use gb_record_text::{PartFault, PartHead};
 use gb_types::{Refusal, Reply};
 use std::alloc::Global;
 
-/// How far a record was read.
+/// The position that was reached in a record.
 #[derive(Clone, Copy)]
 pub struct Reading {
-    /// The part that is read.
+    /// The number of the part that is read.
     pub part: u32,
-    /// How many lines of it were read; no more are counted past 2^64 - 1.
+    /// The number of its lines that were read; at most 2^64 - 1 are counted.
     pub line: u64,
-    /// Its first line was read.
+    /// True if its first line was read.
     pub has_head: bool,
-    /// Its line `end` was read.
+    /// True if its line `end` was read.
     pub is_whole: bool,
-    /// How many entries the record has so far.
+    /// The number of entries of the record so far.
     pub entries: u64,
-    /// The lowest number above those of its seats.
+    /// The lowest number above the seats of these entries.
     pub seat: u32,
-    /// How many entries the seat with the highest number has.
+    /// The number of entries of the highest seat.
     pub count: u64,
 }
 
 impl Reading {
-    /// Returns how far a record was read of which nothing was read.
+    /// Returns the position at the start of a record, of which nothing was read.
     pub fn new() -> Reading
         ensures nothing { IsCounted [] result }
     {
@@ -63,7 +63,7 @@ impl Reading {
         self.is_whole = false;
     }
 
-    // Returns the place of the line that was read last.
+    // Returns the part and the line that was read last.
     fn place(&self) -> Place {
         Place {
             part: self.part,
@@ -72,7 +72,7 @@ impl Reading {
     }
 }
 
-// Returns true if the answer refuses for lack of memory.
+// Returns true if the answer is a refusal because memory ran out, and false otherwise.
 fn wants_memory(answer: &NodeAnswer) -> bool
     ensures { result ≡ wants_memory answer.now }
 {
@@ -86,7 +86,8 @@ fn wants_memory(answer: &NodeAnswer) -> bool
     }
 }
 
-// Returns true if the part was begun in this boot of the system, or what left the node was on the disk before.
+// Returns true if the part was begun in this boot of the system, or if each entry was on the disk before anything left the node. Returns
+// false otherwise.
 fn is_safe(head: &PartHead, boot: &[u8; 16]) -> bool
     ensures { result ≡ true → IsSafe boot.now head.now }
 {
@@ -96,7 +97,7 @@ fn is_safe(head: &PartHead, boot: &[u8; 16]) -> bool
     head.boot == *boot
 }
 
-// Compares what a part says with what is wanted.
+// Compares the head of a part with the wanted one.
 fn compare(wanted: &Wanted, head: &PartHead, reading: &Reading) -> Result<(), ResumeFault>
     ensures { OnOk result (IsHead wanted.now reading.now.part reading.now.entries head.now) }
 {
@@ -142,7 +143,7 @@ fn take_head(
     Ok(())
 }
 
-// Returns how many entries the seat has whose number is the one below this.
+// Returns the number of entries of the seat whose number is `above - 1`.
 fn count_before(reading: &Reading, above: u32) -> u64
     ensures new { reading.now.seat < above → result ≡ 0 }
     ensures old { above ≤ reading.now.seat → result ≡ reading.now.count }
@@ -153,8 +154,8 @@ fn count_before(reading: &Reading, above: u32) -> u64
     reading.count
 }
 
-// Counts an entry. Returns false if its seat is below one before it, or if its count is not the number of its seat's entries before
-// it. `Err` if a number that it needs is too large.
+// Counts an entry. Returns false if its seat is below one before it, or if its count is not the number of its seat's entries before it.
+// Returns true otherwise. Returns `Err` if a number that it needs is too large.
 fn count_entry(entry: &TapeEntry, reading: &mut Reading) -> Result<bool, ResumeFault>
     ensures counts { IfOk result (λ right. right ≡ true → Counts reading.old reading.new entry.now) }
     ensures same { IsSamePart reading.old reading.new }
@@ -179,7 +180,7 @@ fn count_entry(entry: &TapeEntry, reading: &mut Reading) -> Result<bool, ResumeF
     Ok(true)
 }
 
-// Takes an entry: counts it, and makes its event happen again, unless it was refused for lack of memory.
+// Takes an entry: counts it, and makes its event happen again, unless it was refused because memory ran out.
 fn take_entry(
     begun: &mut Begun,
     entry: &TapeEntry,
@@ -201,7 +202,7 @@ fn take_entry(
     Err(ResumeFault::Differs(place))
 }
 
-// Returns true if it is the line behind the last entry of a node.
+// Returns true if it is the line behind the last entry of a node, and false otherwise.
 fn is_end(line: &[u8]) -> bool
     ensures { result ≡ true → line.now ≡ codes "end" }
 {

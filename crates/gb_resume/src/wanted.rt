@@ -1,4 +1,4 @@
-//! What the first line of each part of a node's record has to say.
+//! The first line that each part of a node's record must have.
 ghost use Rattle.std.specs.Prelude.{◌≡◌, IfOk};
 ghost use Rattle.gb_resume.specs.Resumed.{cluster_of, tag_of};
 
@@ -12,17 +12,18 @@ use gb_types::memory::put_bytes;
 use gb_types::{NodeId, OutOfMemory};
 use std::alloc::Global;
 
-/// What each part of a record has to say of its node, its cluster and its run, and in which boot of the system the node goes on.
+/// The fields that each part of a record must have: its node, its cluster and its run; and the boot of the system in which the node
+/// continues.
 #[derive(Clone, Copy)]
 pub struct Wanted {
     pub cluster: RecordHead,
     /// The tag of the run's key and the plan.
     pub tag: [u8; 32],
-    /// The identifier of the system's boot, now.
+    /// The identifier of the current boot of the system.
     pub boot: [u8; 16],
 }
 
-/// Returns what the record of a node of this plan says of the node and the cluster.
+/// Returns the node and the cluster that the record of a node of this plan names.
 pub fn cluster_head(plan: &HostPlan, node: NodeId) -> RecordHead
     ensures { result ≡ cluster_of plan.now node }
 {
@@ -36,8 +37,8 @@ pub fn cluster_head(plan: &HostPlan, node: NodeId) -> RecordHead
     }
 }
 
-/// Returns the tag of the parts of the record of a node of this plan: HMAC-SHA-256 under the cluster's key (RFC 2104) of the first line
-/// that a record without parts has, and the administrator's token behind it. A cluster's key is another one in each run.
+/// Returns the tag of the parts of the record of a node of this plan: HMAC-SHA-256 (RFC 2104), under the cluster's key, of the first line that a
+/// record without parts has, with the administrator's token behind it. A cluster has another key in each run.
 pub fn part_tag(alloc: Global, plan: &HostPlan, node: NodeId) -> Result<[u8; 32], OutOfMemory>
     ensures { IfOk result (λ tag. tag ≡ tag_of plan.now node) }
 {
@@ -47,7 +48,7 @@ pub fn part_tag(alloc: Global, plan: &HostPlan, node: NodeId) -> Result<[u8; 32]
     Ok(hmac(&plan.cluster.cluster_key, &text))
 }
 
-/// Returns what the parts of the record of a node of this plan have to say, in this boot of the system.
+/// Returns the fields that the parts of the record of a node of this plan must have, in this boot of the system.
 pub fn wanted_of(
     alloc: Global,
     plan: &HostPlan,

@@ -1,4 +1,4 @@
--- Two addresses are one if their tenants, numbers and generations are equal.
+-- Two addresses are the same if their tenants, numbers and generations are equal.
 use Rattle.gb_types.specs.Common.{◌≡◌, true, ap, arith, nat_tests}
 use Rattle.gb_types.specs.declared.address.Addr.{Addr}
 use Rattle.gb_rules.specs.Address.{is_addr}

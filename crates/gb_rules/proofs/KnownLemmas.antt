@@ -7,11 +7,11 @@ use Rattle.gb_rules.specs.History.{with_told}
 use Rattle.gb_rules.proofs.MentionLemmas.{has-with_new}
 use Rattle.gb_rules.specs.Messages.{has, payload_in, entry_in, with_new}
 
--- what was there is still there
+-- a message of the list is still in it
 still_has : (xs : List Entry) (x : Entry) (m : MsgId) → has xs m ≡ true → has (with_new xs x) m ≡ true
 still_has xs x m there = has-with_new xs x m ∙ or_second (same (message_of x) m) _ there
 
--- what was there is still there after a call
+-- a message of the list is still in it after a call
 pub still_told : (xs : List Entry) (c : GroupCall) (m : MsgId) → has xs m ≡ true → has (with_told xs c) m ≡ true
 still_told xs (Own x) m there = still_has xs x m there
 still_told xs (Other p x) m there = still_has xs x m there
@@ -25,7 +25,7 @@ payload_in-append (y ∷ xs) x m there = go (same (message_of y) m) there (paylo
     go true there rest = refl
     go false there rest = rest there
 
--- the payload of a known message stays
+-- the payload of a known message does not change
 entry-stays : (xs : List Entry) (x : Entry) (m : MsgId) → has xs m ≡ true → entry_in (with_new xs x) m ≡ entry_in xs m
 entry-stays xs x m there =
     elim (has xs (message_of x)) as (λ b. entry_in (if b then xs else xs ++ x ∷ []) m ≡ entry_in xs m) [
@@ -37,7 +37,7 @@ entries-stay : (xs : List Entry) (x : Entry) (ms : List MsgId) → AllByRecursio
 entries-stay xs x [] there = refl
 entries-stay xs x (m ∷ ms) there = (λ i. entry-stays xs x m there.0 i ∷ map (entry_in (with_new xs x)) ms) ∙ ap (λ es. entry_in xs m ∷ es) (entries-stay xs x ms there.1)
 
--- and so after a call
+-- nor does it change after a call
 pub entries-stay_told : (xs : List Entry) (c : GroupCall) (ms : List MsgId) → AllByRecursion (λ m. has xs m ≡ true) ms → map (entry_in (with_told xs c)) ms ≡ map (entry_in xs) ms
 entries-stay_told xs (Own x) ms there = entries-stay xs x ms there
 entries-stay_told xs (Other p x) ms there = entries-stay xs x ms there

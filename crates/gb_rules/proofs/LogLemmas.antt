@@ -1,4 +1,4 @@
--- A log does not depend on how the members are listed.
+-- A log does not depend on the order of the members' list.
 use Rattle.gb_types.specs.Common.{◌≡◌, ℕ, List, ap, sym, map, rising, AreNodes}
 use Rattle.std.specs.FinSet as set
 use Rattle.gb_types.specs.declared.spec.Spec.{Spec}

@@ -7,7 +7,7 @@ use Rattle.gb_rules.specs.declared.{call.GroupCall.GroupCall, call.GroupCall.The
 use Rattle.gb_rules.specs.History.{calls_of, known}
 use Rattle.gb_rules.specs.Messages.{has, bytes_of, with_new}
 
--- one more message at the end
+-- the list with one more message at the end
 pub has-append : (xs : List Entry) (x : Entry) (m : MsgId) → has (xs ++ x ∷ []) m ≡ (same (message_of x) m || has xs m)
 has-append [] x m = refl
 has-append (y ∷ xs) x m = ap (λ b. same (message_of y) m || b) (has-append xs x m) ∙ or_swap (same (message_of y) m) (same (message_of x) m) (has xs m)
@@ -16,7 +16,7 @@ pub bytes_of-append : (origin : ℕ) (xs : List Entry) (x : Entry) → bytes_of 
 bytes_of-append origin [] x = omega arith
 bytes_of-append origin (y ∷ xs) x = let rest = bytes_of-append origin xs x in omega (arith, rest)
 
--- a message that is there already makes no other one be there
+-- a message that is in the list already adds no other message
 has_already : (xs : List Entry) (k m : MsgId) → has xs k ≡ true → has xs m ≡ (same k m || has xs m)
 has_already xs k m there =
     elim (same k m) as (λ b. same k m ≡ b → has xs m ≡ (b || has xs m)) [
@@ -24,7 +24,7 @@ has_already xs k m there =
       | false ↦ λ e. refl
     ] refl
 
--- one more message, where it is new
+-- the list with one more message, if it is new
 pub has-with_new : (xs : List Entry) (x : Entry) (m : MsgId) → has (with_new xs x) m ≡ (same (message_of x) m || has xs m)
 has-with_new xs x m =
     elim (has xs (message_of x)) as (λ b. has xs (message_of x) ≡ b → has (if b then xs else xs ++ x ∷ []) m ≡ (same (message_of x) m || has xs m)) [

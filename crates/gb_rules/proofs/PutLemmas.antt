@@ -7,7 +7,7 @@ use Rattle.gb_rules.specs.History.{calls_of, known, puts_of}
 use Rattle.gb_rules.specs.Messages.{entry_in}
 use Rattle.gb_rules.specs.declared.call.GroupCall.TheVariants.{Crashed}
 
--- notices alone put nothing out
+-- notices alone queue nothing
 pub none_put : (spec : Spec) (me : ℕ) (q : NodeId) (qs : List NodeId) → puts_of spec me (Crashed q) (map Crashed qs) ≡ []
 unfolding calls_of
 none_put spec me q qs =

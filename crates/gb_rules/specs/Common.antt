@@ -1,4 +1,4 @@
--- The names that files of crates above cite, passed on from one place. Declares nothing.
+-- The names that files of crates above cite, passed on in one file. Declares nothing.
 pub use Rattle.gb_rules.specs.Address.{is_addr}
 pub use Rattle.gb_rules.specs.Group.{Shown, absent_answer, drop_answer, fetch_answer, is_gone, is_member, is_other, is_out_of_turn, is_too_long, on_made, open_answer, open_in, say_answer, shut_answer, shut_in}
 pub use Rattle.gb_rules.specs.History.{bytes_in, call_of, delivered, falls_after, has_noticed, log_of, puts_of, with_told}

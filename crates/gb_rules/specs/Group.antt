@@ -7,11 +7,11 @@ use Rattle.gb_types.specs.declared.reply.Reply.TheVariants.{Done, Said, Log, Ref
 use Rattle.gb_types.specs.Common.{limits_of}
 use Rattle.gb_rules.specs.declared.{phase.Phase.Phase, usage.Usage.Usage, phase.Phase.TheVariants.Made, phase.Phase.TheVariants.Opened, phase.Phase.TheVariants.Gone}
 
--- what the rules read of a group at a node
+-- the state of a group at a node that the rules read
 pub record Shown : Type 0 where
   pub spec : Spec
   pub phase : Phase
-  -- what its member has used of its budgets and its window
+  -- the use of the member's budgets and window
   pub usage : Usage
   -- the messages that were delivered here
   pub log : List Entry
@@ -29,7 +29,7 @@ abbrev pub is_gone : Phase → Bool
 is_gone Gone = true
 is_gone phase = false
 
--- a group is opened once, after it was made
+-- the reply to an open: a group is opened once, after it was made
 abbrev pub open_in : Phase → Reply
 open_in Made = Done
 open_in phase = Refused WrongPhase
@@ -37,7 +37,7 @@ open_in phase = Refused WrongPhase
 abbrev pub open_answer : Shown → Reply
 open_answer s = open_in s.phase
 
--- a group is shut once, after it was opened
+-- the reply to a shut: a group is shut once, after it was opened
 abbrev pub shut_in : Phase → Reply
 shut_in Opened = Done
 shut_in phase = Refused WrongPhase
@@ -45,7 +45,7 @@ shut_in phase = Refused WrongPhase
 abbrev pub shut_answer : Shown → Reply
 shut_answer s = shut_in s.phase
 
--- a group is dropped whenever it is there
+-- the reply to a drop: a group that was made and not dropped is dropped
 abbrev pub drop_answer : Shown → Reply
 drop_answer s = Done
 
@@ -58,8 +58,8 @@ abbrev pub is_out_of_turn : ℕ → Option ℕ → Bool
 is_out_of_turn said None = false
 is_out_of_turn said (Some seq) = not (nat_eq seq (said + 1))
 
--- a message is said in an open group, under the number that the caller names, if any, within the payload's limit, the budgets of messages and of bytes, and
--- the window
+-- The reply to a say. The group must be open, and the number that the caller names, if any, the next one. The payload and the messages must be
+-- within the limits: the payload's length, the budgets of messages and of bytes, and the window.
 abbrev pub say_answer : Version → Shown → NewMessage → Reply
 say_answer version s message = say_in s.phase
   where
@@ -73,24 +73,24 @@ say_answer version s message = say_in s.phase
         else Said (s.usage.said + 1)))))
     say_in phase = Refused WrongPhase
 
--- a log of this length has no such place, or too many entries are asked for; places count from 0
+-- a log of this length has no entry at this index, or too many entries are asked for; indices count from 0
 abbrev pub is_bad_place : ℕ → ℕ → ℕ → Bool
 is_bad_place count from most = nat_lt count from || nat_lt FETCH most
 
--- the log from a place on, up to `most` entries
+-- the log from an index on, up to `most` entries
 abbrev pub fetch_answer : Shown → ℕ → ℕ → Reply
 fetch_answer s from most = if is_bad_place (length s.log) from most then Refused BadPlace else Log (take most (drop from s.log))
 
--- the answer to a command on a group that is not here; `passed` says that it, or a later generation of its room, was made here
+-- the reply to a command on a group that is not here; `passed` is true if it, or a later generation of its room, was made here
 abbrev pub absent_answer : Bool → Reply
 absent_answer passed = Refused (if passed then Spent else NoGroup)
 
--- the answer to a command on a group that may never have been made here, or was dropped since; `passed` says that a later generation of its room was made here
+-- the reply to a command on a group that was perhaps never made here, or was dropped; `passed`: a later generation of its room was made here
 abbrev pub on_made : Bool → (Shown → Reply) → Option Shown → Reply
 on_made passed answer None = absent_answer passed
 on_made passed answer (Some s) = if is_gone s.phase then Refused Spent else answer s
 
--- the part of a group that the rules on saying read
+-- the state of a group that the rules of saying read
 abbrev pub unlogged : Spec → Phase → Usage → Shown
 unlogged spec phase usage = record { spec = spec; phase = phase; usage = usage; log = [] }
 

@@ -1,4 +1,4 @@
--- What a group delivers and broadcasts at a node, computed from all of its calls there. Histories have the newest first.
+-- The messages that a group delivers and broadcasts at a node, computed from all of its calls there. Histories have the newest first.
 use Rattle.std.specs.Prelude.{ℕ, Bool, ◌+◌, List, [], ◌∷◌, map}
 use Rattle.std.specs.FinSet as set
 use Rattle.gb_types.specs.Common.{message_of}
@@ -10,13 +10,13 @@ use Rattle.gb_rules.specs.declared.{call.GroupCall.GroupCall, call.GroupCall.The
 use Rattle.gb_rules.specs.LetFall.{is_let_fall}
 use Rattle.gb_rules.specs.Messages.{entry_in, with_new, bytes_of}
 
--- the messages, with the one that the call names
+-- the messages, and the message of the call at their end if it was not among them
 abbrev pub with_told : List Entry → GroupCall → List Entry
 with_told xs (Own x) = with_new xs x
 with_told xs (Other p x) = with_new xs x
 with_told xs (Crashed q) = xs
 
--- the call of the broadcast
+-- the broadcast's call for a call of the group
 abbrev pub call_of : GroupCall → Call
 call_of (Own x) = Say (message_of x)
 call_of (Other p x) = Came p (message_of x)
@@ -57,7 +57,7 @@ log_of spec me told = map (entry_in (known told)) (delivered spec me told)
 abbrev pub puts_of : Spec → ℕ → GroupCall → List GroupCall → List Entry
 puts_of spec me c told = map (entry_in (known (c ∷ told))) (kind_broadcasts spec.kind me (call_of c) (calls_of told))
 
--- an item that comes from a node is let fall, computed from the history
+-- an item that comes from a node is discarded (let fall), by the history
 abbrev pub falls_after : Spec → ℕ → List GroupCall → ℕ → Entry → Bool
 falls_after spec me told from x = is_let_fall spec me from x (came_from me (calls_of told) from (message_of x)) (mentions (calls_of told) (message_of x)) (bytes_in told x.origin.number)
 

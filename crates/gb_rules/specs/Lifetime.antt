@@ -1,4 +1,4 @@
--- The states of a group: None if it may still be made, Some None if it was dropped, or if a later generation of its room was made and it can be made no more.
+-- The states of a group: None if it may still be made; Some None if it was dropped, or if a later generation of its room was made instead.
 use Rattle.std.specs.Prelude.{Bool, Option, Some, None, option_map, if◌then◌else◌}
 
 -- the group after a step, if it is there
@@ -14,11 +14,11 @@ abbrev pub or_added : {X : Type 0} → Option (Option X) → Option (Option X) �
 or_added None new = new
 or_added (Some s) new = Some s
 
--- the group after a later generation of its room was made: it can be made no more
+-- the group after a later generation of its room was made: it can no longer be made
 abbrev pub passed : {X : Type 0} → Option (Option X) → Option (Option X)
 passed None = Some None
 passed (Some s) = Some s
 
--- the step if a test holds, else no change
+-- the step if a test holds, otherwise no change
 abbrev pub where_so : {X : Type 0} → Bool → (X → X) → X → X
 where_so b step o = if b then step o else o

@@ -25,6 +25,6 @@ takes_memory (Refused why) = false
 takes_memory (Log []) = false
 takes_memory reply = true
 
--- the reply is what it should be, or OutOfMemory if the reply that it should be takes memory
+-- the reply is the right one, or it is OutOfMemory and the right one takes memory
 abbrev pub IsReply : Reply → Reply → Type 0
 IsReply should reply = ((reply ≡ Refused OutOfMemory) × (takes_memory should ≡ true)) ⊎ (reply ≡ should)

@@ -44,8 +44,8 @@ abbrev pub is_over : Reserve → Spec → Bool
 is_over reserve spec =
     nat_eq spec.msgs 0 || (nat_lt reserve.msgs spec.msgs || (nat_lt reserve.bytes spec.bytes || (nat_eq spec.window 0 || nat_lt reserve.window spec.window)))
 
--- The answer to a request to make a group with this address, at a node that sends this version of the packet text. `made` says that the group, or a later
--- generation of its room, was made here before, and `living` is the number of other generations of its room that live here.
+-- The reply to a request to make a group with this address, at a node that sends this version of the packet text. `made` is true if the group, or a
+-- later generation of its room, was made here before, and `living` is the number of other generations of its room that live here.
 abbrev pub make_answer : Version → ℕ → ℕ → Addr → Bool → ℕ → Spec → Reserve → Reply
 make_answer version nodes me addr made living spec reserve =
     if nat_le reserve.groups addr.group then Refused NoGroup
@@ -55,7 +55,7 @@ make_answer version nodes me addr made living spec reserve =
     else (if not (can_name version addr) || is_over reserve spec then Refused OverReserve
     else Done))))
 
--- the answer to a request of a tenant that may not be here
+-- the reply to a request of a tenant that may not be here
 abbrev pub by_tenant : (Reserve → Reply) → Option Reserve → Reply
 by_tenant answer None = Refused Denied
 by_tenant answer (Some reserve) = answer reserve

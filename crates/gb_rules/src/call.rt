@@ -9,15 +9,15 @@ use std::alloc::Global;
 /// A call of a group at a node, with the payload of its message.
 #[derive(Drop)]
 pub enum GroupCall {
-    /// The member says a message of its own.
+    /// The member says a message.
     Own(Entry),
-    /// A message comes from another node.
+    /// A message arrives from another node.
     Other(NodeId, Entry),
     /// Another member is noticed to have crashed.
     Crashed(NodeId),
 }
 
-/// Returns the call of the broadcast.
+/// Returns the broadcast's call for a call of the group.
 fn call_of(call: &GroupCall) -> Call
     ensures { result ≡ history.call_of call.now }
 {
@@ -28,8 +28,8 @@ fn call_of(call: &GroupCall) -> Call
     }
 }
 
-/// Returns the calls of a group as the calls of its broadcast: the same calls without payloads, the newest first. `Err` if memory
-/// is refused.
+/// Returns the calls of a group as the calls of its broadcast: the same calls without payloads, the newest first. `Err` if memory is
+/// refused.
 #[tactic(auto, unfolding(crate::specs::History::calls_of))]
 pub fn calls_of(alloc: Global, told: &[GroupCall]) -> Result<Vec<Call>, OutOfMemory>
     ensures { IfOk result (λ v. v.items ≡ history.calls_of told.now) }

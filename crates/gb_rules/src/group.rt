@@ -51,10 +51,10 @@ pub fn is_out_of_turn(said: u32, seq: Option<u32>) -> bool
     }
 }
 
-/// Returns `Ok` if a member with this usage may say the payload as its next message of a group, under the number `seq` if the caller
-/// names one. `Err`, in this order: `WrongPhase` if the group is not open, `BadPlace` if `seq` is not the next number, `TooLong` if the
-/// payload is longer than `version` allows, which is the version that the node sends, `Budget` if all messages are said, `Bytes` if the
-/// payload bytes would exceed their limit, `Window` if too many own messages are unfinished.
+/// Returns `Ok` if a member with this usage may say the payload as its next message of a group, under the number `seq` if the caller names
+/// one. `Err`, in this order: `WrongPhase` if the group is not open, `BadPlace` if `seq` is not the next number, `TooLong` if the payload
+/// is longer than `version` allows, which is the version that the node sends, `Budget` if the member has said all its messages, `Bytes` if
+/// the payload bytes would exceed their limit, `Window` if too many own messages are unfinished.
 pub fn check_say(
     version: Version,
     spec: &Spec,
@@ -89,8 +89,8 @@ pub fn check_say(
     Ok(())
 }
 
-/// Returns true if a read of a log with `count` entries has to be refused: `from` is above `count`, or `most`, the number of entries
-/// that are asked for, is above 16.
+/// Returns true if a read of a log with `count` entries has to be refused: the index `from` is above `count`, or `most`, the number of
+/// entries that are asked for, is above 16.
 pub fn is_bad_place(count: usize, from: u32, most: u32) -> bool
     ensures test { result ≡ is_bad_place count from most }
     ensures place { result ≡ false → from ≤ count }

@@ -1,14 +1,14 @@
 //! What a group is, by definition: its rules and its history.
 //!
-//! The rules of tenants and of groups at a node are the answers, the order of the refusals, and which items are let fall. Each rule
-//! stands once as a definition, over the few values that it reads, and once as the function that computes it. A slot, a node and a
-//! group by itself all call it. Read specs/Group.antt, specs/Tenant.antt and specs/Room.antt first.
+//! The rules of tenants and of groups at a node are the answers, the order of the refusals, and the test of the items that are discarded
+//! (let fall). Each rule is written once as a definition, over the few values that it reads, and once as the function that computes it. A
+//! slot, a node and a group by itself all call it. Read specs/Group.antt, specs/Tenant.antt and specs/Room.antt first.
 //!
-//! The history of a group's calls at a node, newest first, has what its broadcast makes of it: the messages that are known,
-//! delivered and broadcast, and the items that are let fall. Read `call::GroupCall` first, then specs/History.antt. Each function
-//! computes its definition slowly, from the whole history.
+//! From the history of a group's calls at a node, newest first, this crate computes the messages that are known, delivered and broadcast,
+//! and the items that are discarded. Read `call::GroupCall` first, then specs/History.antt. Each function computes its definition slowly,
+//! from the whole history.
 //!
-//! There is no state here.
+//! This crate keeps no state.
 #![tactic(auto)]
 
 pub mod address;

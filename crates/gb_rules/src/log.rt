@@ -1,4 +1,4 @@
-//! The messages that a group delivers, broadcasts and lets fall.
+//! The messages that a group delivers and broadcasts, and the items that it discards.
 ghost use Rattle.std.specs.Prelude.{◌≡◌, [], IfOk};
 ghost use Rattle.gb_types.specs.Common.{rising, AreNodes};
 ghost use Rattle.gb_layer.specs.Machine as machine;
@@ -12,7 +12,7 @@ use gb_layer::plain::{came_from, is_mentioned};
 use gb_types::{Entries, Entry, NodeId, OutOfMemory, Spec};
 use std::alloc::Global;
 
-/// Returns the members, rising.
+/// Returns the members in rising order.
 fn members_of(alloc: Global, spec: &Spec) -> Result<Vec<NodeId>, OutOfMemory>
     ensures rising { IfOk result (λ v. machine.numbers v.items ≡ rising spec.now.members) }
     ensures nodes { IfOk result (λ _. AreNodes spec.now.members) }
@@ -42,8 +42,8 @@ pub fn log_of(
     entries_in(alloc, known.as_slice(), &delivered)
 }
 
-/// Returns the messages that the newest of these calls makes the group send to its other members, in order, with their payloads.
-/// They are none if there is no call. `Err` if memory is refused.
+/// Returns the messages that the newest of these calls makes the group send to its other members, in order, with their payloads. The list
+/// is empty if there is no call. `Err` if memory is refused.
 #[tactic(auto, unfolding(crate::specs::History::calls_of))]
 pub fn puts_of(
     alloc: Global,
@@ -73,9 +73,8 @@ pub fn bytes_in(alloc: Global, told: &[GroupCall], origin: NodeId) -> Result<u32
     bytes_of(known.as_slice(), origin)
 }
 
-/// Returns true if the group at the node `me`, after these calls, discards the item `x` that comes from the node `from`, without
-/// effect. `told` has the newest call first. `Err` if memory is refused, or if the payload bytes of the item's origin exceed 32
-/// bits.
+/// Returns true if the group at the node `me`, after these calls, discards the item `x` that comes from the node `from`, without effect.
+/// `told` has the newest call first. `Err` if memory is refused, or if the payload bytes of the item's origin exceed 32 bits.
 pub fn falls_after(
     alloc: Global,
     spec: &Spec,

@@ -9,6 +9,6 @@ pub enum Phase {
     Opened,
     /// Shut: its member says nothing more.
     Shut,
-    /// Dropped: nothing is left of it here.
+    /// Dropped: the node has no state of it.
     Gone,
 }

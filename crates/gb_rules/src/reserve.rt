@@ -9,9 +9,9 @@ use gb_types::TenantRow;
 pub struct Reserve {
     /// The numbers of its groups are 0 to `groups - 1`.
     pub groups: u32,
-    /// The number of messages that each member may say, for life.
+    /// The number of messages that each member may say in the group's life.
     pub msgs: u32,
-    /// The number of payload bytes that each member may say, for life.
+    /// The number of payload bytes that each member may say in the group's life.
     pub bytes: u32,
     /// The number of own messages that a member may have unfinished at once.
     pub window: u32,

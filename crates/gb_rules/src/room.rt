@@ -9,7 +9,7 @@ use gb_types::{Addr, Version};
 /// The maximum number of generations of one room that live at a node.
 pub const GENERATIONS: usize = 4;
 
-/// The maximum number of rooms that all tenants of a node reserve. Each room has a place for each generation that may live.
+/// The maximum number of rooms that all tenants of a node reserve. A node has a place for each living generation of each room.
 pub const ROOMS: u16 = 1_024;
 
 // Definitions cite this value.
@@ -18,7 +18,7 @@ const _: () = prove!(ROOMS == 1_024 && ROOMS as usize * GENERATIONS == PLACES as
 /// The use of a group's room at a node.
 #[derive(Clone, Copy)]
 pub struct RoomUse {
-    /// Whether the group, or a later generation of its room, was made there.
+    /// True if the group, or a later generation of its room, was made there.
     pub made: bool,
     /// The number of other generations of its room that live there.
     pub living: usize,

@@ -22,9 +22,9 @@ pub fn is_over_limits(row: &TenantRow) -> bool
 }
 
 /// Returns the reply to a request that adds a tenant with this row, at a node whose tenants may reserve `places` rooms. `before` is the
-/// number of rooms that its other tenants have reserved, and `there` says that the tenant is there already. Refusals, in this order:
-/// `OverReserve` if the row exceeds the limits of the service, `TenantThere`, `NoRoom` if too few rooms are left. Otherwise the reply
-/// is `Done`.
+/// number of rooms that its other tenants have reserved, and `there` is true if the tenant is there already. Refusals, in this order:
+/// `OverReserve` if the row exceeds the limits of the service, `TenantThere`, `NoRoom` if too few rooms are free. Otherwise the reply is
+/// `Done`.
 pub fn answer_tenant(places: u32, before: u32, there: bool, row: &TenantRow) -> Reply
     ensures { result ≡ tenant_answer places before there row.now }
 {
@@ -57,10 +57,10 @@ fn is_over_reserve(reserve: &Reserve, spec: &Spec) -> bool
     spec.window == 0 || spec.window > reserve.window
 }
 
-/// Returns the reply to a request that makes the group `addr` at the node `maker`. `room` is the use of the group's room there.
-/// Refusals, in this order: `NoGroup` if its tenant has no such number, `Spent` if the group or a later generation was made, `NoRoom`
-/// if 4 or more other generations live, `BadMembers` if the members lack this node or name one that is not there, `OverReserve` if
-/// packets of the node's version cannot name the generation or `spec` exceeds `reserve`. Otherwise the reply is `Done`.
+/// Returns the reply to a request that makes the group `addr` at the node `maker`. `room` is the use of the group's room there. Refusals,
+/// in this order: `NoGroup` if its tenant has no such number, `Spent` if the group or a later generation was made, `NoRoom` if 4 or more
+/// other generations live, `BadMembers` if the members lack this node or name one that is not there, `OverReserve` if packets of the node's
+/// version cannot name the generation or `spec` exceeds `reserve`. Otherwise the reply is `Done`.
 pub fn answer_make(maker: Maker, addr: Addr, room: RoomUse, spec: &Spec, reserve: &Reserve) -> Reply
     ensures { result ≡ make_answer maker.version maker.nodes maker.me.number addr room.made room.living spec.now reserve.now }
 {

@@ -1,6 +1,6 @@
-//! The usage of a group's member: how much of its budgets and its window it has used.
+//! The usage of a group's member: the used part of its budgets and its window.
 
-/// The usage of a group's member: how much of its budgets and its window it has used.
+/// The usage of a group's member: the used part of its budgets and its window.
 #[derive(Clone, Copy)]
 pub struct Usage {
     /// The number of messages that it said.

@@ -1,4 +1,4 @@
--- The command of a line, from its head and what is behind it.
+-- The command of a line, from its head and the words behind it.
 use Rattle.gb_types.specs.Common.{◌≡◌, ◌↔◌, ℕ, List, ◌∷◌, Option, Some, Result, Ok, Err, sym, ◌∙◌, subst, IfOk}
 use Rattle.gb_schedule.specs.declared.{command.Command.Command, head.Head.Head}
 use Rattle.gb_schedule.specs.Head.{head_word}
@@ -6,7 +6,7 @@ use Rattle.gb_spelling.specs.Common.{words_of}
 use Rattle.gb_schedule.specs.Grammar.{Spells, IsCommandLine}
 use Rattle.gb_types.proofs.ReadLemmas.{Reads, found, only}
 
--- what is found is the command that is spelt, and nothing else is spelt
+-- the command that is found is the one that is spelt, and no other is spelt
 abbrev pub Finds : (Command → Type 0) → Option Command → Type 0
 Finds P answer = (command : Command) → (answer ≡ Some command) ↔ P command
 

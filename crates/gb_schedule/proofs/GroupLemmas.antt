@@ -1,4 +1,4 @@
--- What is asked for by a command in a group, from what the readers of its words found.
+-- The command for a command in a group, from the results of the readers of its words.
 use Rattle.gb_types.specs.Common.{◌≡◌, ◌↔◌, ℕ, ◌+◌, ◌<◌, ◌≤◌, List, [], ◌∷◌, Some, None, get_or, refl, sym, ◌∙◌, subst, decimal, arith, ap}
 use Rattle.std.proofs.lemmas.Fmt.{decimal_injective}
 use Rattle.gb_spelling.specs.Common.{SpellsFetch, SpellsCommand, IsShort, IsLong, IsGroup, group_word, words_of}
@@ -16,7 +16,7 @@ use Rattle.gb_schedule.proofs.NumbersLemmas.{within}
 use Rattle.gb_schedule.proofs.RowLemmas.{AreGroupWords}
 use Rattle.gb_schedule.proofs.StepLemmas.{same_node, step_is}
 
--- a node's and a group's own words name them
+-- the words for a node and a group name them
 pub own_group : (nodes : ℕ) (node : NodeId) (address : Addr) → node.number < nodes → IsShort address.tenant → IsGroup address
     → Reads (AreGroupWords nodes (decimal node.number) (decimal address.tenant) (group_word address)) (node, address)
 own_group nodes node address below is_t is_g =
@@ -25,7 +25,7 @@ own_group nodes node address below is_t is_g =
     let same_address : address ≡ group.1 = one_address address group.1 is_t are.1.0 is_g are.1.2 are.1.1 are.1.3 in
     λ i. (first i, same_address i))
 
--- what is asked for by the words of a node, a group and a command
+-- the command that the words of a node, a group and a command in it spell
 pub asked_reads : (head : CommandHead) (nodes : ℕ) (words : List (List ℕ)) (a t g : List ℕ) (rest : List (List ℕ)) (node : NodeId) (address : Addr) (asked : GroupCommand) → words ≡ a ∷ t ∷ g ∷ rest
     → Reads (AreGroupWords nodes a t g) (node, address) → Reads (λ x. SpellsCommand head x rest) asked
     → Reads (λ command. SpellsGroup head nodes command words) (asked_at node address asked)
@@ -50,7 +50,7 @@ asked_reads head nodes words a t g rest node address asked are reads_group reads
     let same_asked : asked ≡ spelt.asked = only (λ x. SpellsCommand head x rest) asked spelt.asked reads_asked (subst (λ ws. SpellsCommand head spelt.asked ws) same_words spelt.asked_spelt) in
     (λ i. asked_at (same_group i).0 (same_group i).1 (same_asked i)) ∙ sym spelt.command_is)
 
--- where the words behind a group spell no command
+-- where the words behind a group spell no command, the line spells none
 pub nothing_asked : (head : CommandHead) (nodes : ℕ) (words : List (List ℕ)) (a t g : List ℕ) (rest : List (List ℕ)) → words ≡ a ∷ t ∷ g ∷ rest
     → ((asked : GroupCommand) → (None ≡ Some asked) ↔ SpellsCommand head asked rest) → (command : Command) → SpellsGroup head nodes command words → ⊥
 nothing_asked head nodes words a t g rest are none command spelt =
@@ -70,7 +70,7 @@ fetch_within last text ns reads =
     let le = within (fetch_bounds last) ns in
     (le 0 are, le 1 are, le 2 are, le 3 are, le 4 are)
 
--- numbers in their ranges are what their own words spell
+-- the word for a number in its range spells that number
 own_long : (n : ℕ) → IsLong n → Reads (IsLongWord (decimal n)) n
 own_long n small = reads_one (IsLongWord (decimal n)) n (small, refl) (λ k is. let few = is.0 in decimal_injective n k (omega (arith, small)) (omega (arith, few)) is.1)
 

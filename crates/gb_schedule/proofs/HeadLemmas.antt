@@ -1,4 +1,4 @@
--- A line begins with its head: heads are told apart by their words, and a line whose words begin with a head begins with
+-- A line begins with its head. Heads have different words, and a line whose words begin with a head begins with
 -- its bytes and a space.
 use Rattle.gb_types.specs.Common.{◌≡◌, ◌↔◌, ◌==◌, ◌+◌, ◌*◌, if◌then◌else◌, ℕ, suc, false, true, length, drop, ap₂, List, [], ◌∷◌, ◌++◌, Option, Some, None, codes, get_or, take, refl, sym, ap, ◌∙◌, subst, join_with_byte, MatchOption, IfSome, take-append-drop, Decides-eqb}
 use Rattle.std.specs.{Io.StartsWith, Cmp.Lexicographic.pointwise}
@@ -14,7 +14,7 @@ use Rattle.gb_schedule.specs.declared.head.Head.TheVariants.{Cluster, Cluster2, 
 use Rattle.gb_schedule.specs.Head.{head_word}
 use Rattle.gb_schedule.specs.Grammar.{asked_at, SpellsGroup, Spells, IsCommandLine}
 
--- what stands behind a front that was taken off
+-- the part of a line behind a front that was removed
 pub behind_is : (line front : List ℕ) (answer : Option (Bor (List ℕ)))
     → MatchOption answer (pointwise (λ a b. a == b) (take (length front) line) front ≡ false)
     (λ text. (pointwise (λ a b. a == b) (take (length front) line) front ≡ true) × (text.now ≡ drop (length front) line) × (length text.now + length front ≡ length line))
@@ -72,7 +72,7 @@ is_named Stop = refl
 pub one_head : (a b : Head) → head_word a ≡ head_word b → a ≡ b
 one_head a b is = sym (is_named a) ∙ ap (λ w. named (letters w)) is ∙ is_named b
 
--- what is found is the step that is spelt behind the head, and so the line's
+-- the step that is found is the one that is spelt behind the head, and so the one of the line
 pub step_found : (nodes : ℕ) (line : List ℕ) (head : Head) (words : List (List ℕ)) (answer : Option Step) → words_of line ≡ head_word head ∷ words
     → ((step : Step) → (answer ≡ Some step) ↔ Spells head (Some nodes) (StepCommand step) words)
     → (step : Step) → (answer ≡ Some step) ↔ IsCommandLine (Some nodes) line (StepCommand step)
@@ -90,12 +90,12 @@ step_found nodes line head words answer are finds step = (
 pub begins : (line word next : List ℕ) (words : List (List ℕ)) → words_of line ≡ word ∷ next ∷ words → line ≡ word ++ 32 ∷ join_with_byte 32 (next ∷ words)
 begins line word next words are = sym (each_line_is_its_words line).0 ∙ ap (join_with_byte 32) are
 
--- the first byte of a line that begins so
+-- the first byte of a line that begins with these bytes
 first_is : (line : List ℕ) (first : ℕ) (rest : List ℕ) (n : ℕ) → take (suc n) line ≡ first ∷ rest → get_or line 0 0 ≡ first
 first_is [] first rest n is = cc (let none : [] ≡ first ∷ rest = is in none)
 first_is (byte ∷ line) first rest n is = cc (let some : byte ∷ take n line ≡ first ∷ rest = is in some)
 
--- a command in a group that is a step fetches
+-- a command in a group that is a step is a fetch
 step_fetches : (head : CommandHead) (nodes : ℕ) (step : Step) (words : List (List ℕ)) → SpellsGroup head nodes (StepCommand step) words → head ≡ commands.Fetch
 step_fetches commands.Make nodes step words s = let is = s.command_is ∙ ap (asked_at s.node s.address) s.asked_spelt.1 in cc is
 step_fetches commands.Open nodes step words s = let is = s.command_is ∙ ap (asked_at s.node s.address) s.asked_spelt.0 in cc is
@@ -104,7 +104,7 @@ step_fetches commands.Drop nodes step words s = let is = s.command_is ∙ ap (as
 step_fetches commands.Say nodes step words s = let is = s.command_is ∙ ap (asked_at s.node s.address) s.asked_spelt.1 in cc is
 step_fetches commands.Fetch nodes step words s = refl
 
--- a line that begins with no step's head spells none. Where the first byte is another head's, nothing more is asked
+-- a line that begins with no step's head spells no step; if the first byte is another head's, no further test is needed
 pub no_step : (nodes : ℕ) (line : List ℕ) (step : Step) (head : Head) (words : List (List ℕ)) → words_of line ≡ head_word head ∷ words → Spells head (Some nodes) (StepCommand step) words
     → (get_or line 0 0 ≡ 97 → StartsWith line (codes "arrive ") → ⊥) → (get_or line 0 0 ≡ 97 → StartsWith line (codes "ack ") → ⊥) → (get_or line 0 0 ≡ 97 → StartsWith line (codes "again ") → ⊥)
     → (get_or line 0 0 ≡ 112 → StartsWith line (codes "pack ") → ⊥) → (get_or line 0 0 ≡ 102 → StartsWith line (codes "fetch ") → ⊥)

@@ -10,7 +10,7 @@ use Rattle.gb_types.proofs.ReadLemmas.{Reads, reads_one}
 use Rattle.gb_schedule.specs.Numbers.{IsNumberAt, BeginsWithNoNumber, AllFit, AreAtMost, AreNumbers}
 use Rattle.gb_schedule.proofs.WordLemmas.{first_space, more_words, last_word}
 
--- one digit more, read with what does not fit cut off: up to 19 digits nothing is
+-- one digit more is read modulo 2^64; up to 19 digits nothing is cut off
 pub more_digit : (text : List ℕ) (place number next : ℕ) → place < length text → AllDigits 10 (take place text) → (place ≤ 19 → digits_value 10 (take place text) ≡ number) → IsInRange 48 57 (get_or text place 0)
     → next ≡ (number * 10 % 2 ^ 64 + (get_or text place 0 - 48)) % 2 ^ 64 → AllDigits 10 (take (place + 1) text) × (place + 1 ≤ 19 → digits_value 10 (take (place + 1) text) ≡ next)
 more_digit text place number next below all value digit is =
@@ -27,7 +27,7 @@ more_digit text place number next below all value digit is =
           more.1 ∙ (omega (arith, same, fits)),
     )
 
--- a first word that spells no number
+-- a first word that spells no number begins no number
 pub no_first : (text word : List ℕ) (words : List (List ℕ)) → words_of text ≡ word ∷ words → ((n : ℕ) → (None ≡ Some n) ↔ ((n ≤ 18446744073709551615) × (word ≡ decimal n))) → BeginsWithNoNumber text
 no_first text word words are none n others small is =
     let same : word ∷ words ≡ decimal n ∷ others = sym are ∙ is in
@@ -56,14 +56,14 @@ module _ (text : List ℕ) (digits : ℕ) (within : digits ≤ length text) (all
       let words = more_words text (omega (arith, at, below)) in
       subst (λ p. words_of text ≡ take p text ∷ words_of (drop (p + 1) text)) (sym at) words
 
-  -- where a zero stands before more digits, they spell no number
+  -- digits that begin with a zero and have more digits spell no number
   pub zero_first : 1 < digits → get_or text 0 0 ≡ 48 → (n : ℕ) → n < 2 ^ 64 → take digits text ≡ decimal n → ⊥
   zero_first more begin n small is =
       let count = length-take-le digits text within in
       let same = get_or-take digits text 0 0 (omega (arith, more)) in
       not_badly n (take digits text) small is (inr (same ∙ begin, omega (arith, more, count)))
 
-  -- else they spell the number that they write
+  -- other digits spell the number that they write
   pub digits_spell : (number : ℕ) → number < 2 ^ 64 → digits_value 10 (take digits text) ≡ number → 0 < digits → (1 < digits → get_or text 0 0 ≡ 48 → ⊥) → Reads (λ n. (n ≤ 18446744073709551615) × (take digits text ≡ decimal n)) number
   digits_spell number fits value some well =
       let count = length-take-le digits text within in
@@ -79,7 +79,7 @@ module _ (text : List ℕ) (digits : ℕ) (within : digits ≤ length text) (all
           let same = get_or-take digits text 0 0 some in
           well (omega (arith, zeros.1, count)) (sym same ∙ zeros.0)
 
-  -- a byte behind digits that is no digit and no space stands in the first word, which is no number then
+  -- a byte after digits that is no digit and no space is in the first word, which is no number then
   another_byte : (w rest : List ℕ) → AllDigits 10 w → digits < length text → (get_or text digits 0 ≡ 32 → ⊥) → (IsInRange 48 57 (get_or text digits 0) → ⊥) → (text ≡ w) ⊎ (text ≡ w ++ 32 ∷ rest) → ⊥
   another_byte w rest own below space digit (inl same) =
       let count = ap length same in
@@ -104,7 +104,7 @@ module _ (text : List ℕ) (digits : ℕ) (within : digits ≤ length text) (all
   no_number below space digit n (next ∷ words) small is =
       another_byte (decimal n) (join_with_byte 32 (next ∷ words)) (decimal_is_IsNumeral n small).0.1 below space digit (inr (sym (each_line_is_its_words text).0 ∙ ap (join_with_byte 32) is))
 
-  -- digits that spell no number begin no number, whatever stands behind them
+  -- digits that spell no number begin no number, whatever follows them
   pub no_number_first : (digits < length text → IsInRange 48 57 (get_or text digits 0) → ⊥) → ((n : ℕ) → (None ≡ Some n) ↔ ((n ≤ 18446744073709551615) × (take digits text ≡ decimal n))) → BeginsWithNoNumber text
   no_number_first end none =
       elim (cases_lt digits (length text)) [
@@ -126,7 +126,7 @@ one_digit (byte ∷ text) some digit =
     let is : byte ∷ [] ≡ decimal (byte - 48) = ap (λ b. b ∷ []) (omega (arith, digit)) ∙ sym (decimal_digit (byte - 48) (omega (arith, digit))) in
     (is, subst (AllDigits 10) (sym is) (decimal_is_IsNumeral (byte - 48) (omega (arith, digit))).0.1)
 
--- a digit at a place of a text
+-- a digit at an index of a text
 module _ (text : List ℕ) (from : ℕ) (below : from < length text) (digit : IsInRange 48 57 (get_or text from 0)) where
   abbrev front : List ℕ
   front = drop from text
@@ -142,13 +142,13 @@ module _ (text : List ℕ) (from : ℕ) (below : from < length text) (digit : Is
       let one = one_digit front some (subst (IsInRange 48 57) (sym here) digit) in
       (one.0 ∙ ap (λ b. decimal (b - 48)) here, one.1)
 
-  -- it is the last word, where the text ends behind it
+  -- a digit is the last word, where the text ends after it
   pub last_digit : from + 1 ≡ length text → IsNumberAt text from (get_or text from 0 - 48) None
   last_digit end =
       let count = length-drop from text in
       last_digits front 1 (omega (arith, some)) spelt.1 (omega (arith, count, end)) ∙ ap (λ w. w ∷ []) spelt.0
 
-  -- it is a word before others, where a space stands behind it
+  -- a digit is a word before others, where a space follows it
   pub next_digit : from + 1 < length text → get_or text (from + 1) 0 ≡ 32 → IsNumberAt text from (get_or text from 0 - 48) (Some (from + 1 + 1))
   next_digit more space =
       let count = length-drop from text in
@@ -157,7 +157,7 @@ module _ (text : List ℕ) (from : ℕ) (below : from < length text) (digit : Is
         next_digits front 1 (omega (arith, some)) spelt.1 (omega (arith, count, more)) (get_or-drop from text 1 0 ∙ space) ∙ ap (λ w. w ∷ words_of (drop (1 + 1) front)) spelt.0 ∙ ap (λ t. decimal (get_or text from 0 - 48) ∷ words_of t) rest,
       )
 
--- a number with a word behind it is not the last
+-- a number that is followed by a word is not the last
 pub not_last : (text : List ℕ) (from m next n : ℕ) → IsNumberAt text from m (Some next) → words_of (drop from text) ≡ decimal n ∷ [] → ⊥
 not_last text from m next n at last =
     let some = length-slice_split (λ byte. byte == 32) (drop next text) in
@@ -172,7 +172,7 @@ stops_at left [] (n ∷ ns) none fit is = none n (map decimal ns) (All-head fits
 stops_at left (m ∷ front) [] none fit is = cc is
 stops_at left (m ∷ front) (n ∷ ns) none fit is = stops_at left front ns none (All-tail fits n ns fit) cc
 
--- the words of a text are one list of numbers at most
+-- the words of a text are at most one list of numbers
 pub same_numbers : (ns ms : List ℕ) → AllFit ns → AllFit ms → map decimal ns ≡ map decimal ms → ns ≡ ms
 same_numbers [] [] fit_ns fit_ms is = refl
 same_numbers [] (m ∷ ms) fit_ns fit_ms is = cc is
@@ -182,7 +182,7 @@ same_numbers (n ∷ ns) (m ∷ ms) fit_ns fit_ms is =
     let others : ns ≡ ms = same_numbers ns ms (All-tail fits n ns fit_ns) (All-tail fits m ms fit_ms) cc in
     ap (λ k. k ∷ ns) first ∙ ap (λ ks. m ∷ ks) others
 
--- numbers within bounds are as many, and of 64 bits where the bounds are
+-- numbers within bounds are as many as the bounds
 pub as_many : (most ns : List ℕ) → AreAtMost most ns → length ns ≡ length most
 as_many [] [] are = refl
 as_many [] (n ∷ ns) are = absurd are
@@ -208,7 +208,7 @@ each_at_most [] (n ∷ ns) count le = cc count
 each_at_most (m ∷ most) [] count le = cc count
 each_at_most (m ∷ most) (n ∷ ns) count le = (le 0 (omega arith), each_at_most most ns (omega (arith, count)) (λ k below. le (suc k) (omega (arith, below))))
 
--- numbers that the words of a text write, none above its bound, are all that are to be found; where one is above, there are none
+-- numbers that the words of a text write, each within its bound, are the only ones that can be found; where one is above, there are none
 module _ (most text ms : List ℕ) (fit_most : AllFit most) (fit : AllFit ms) (words : map decimal ms ≡ words_of text) where
   they_are : (ns : List ℕ) → AreNumbers most text ns → ms ≡ ns
   they_are ns are = same_numbers ms ns fit (at_most_fit most ns fit_most are.1) (words ∙ are.0)

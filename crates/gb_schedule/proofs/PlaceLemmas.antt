@@ -1,4 +1,4 @@
--- The command of a line is in its place.
+-- The command of a line may be at its position.
 use Rattle.gb_types.specs.Common.{◌≡◌, ◌↔◌, ℕ, ◌<◌, List, Option, Some, None, Result, Ok, Err, refl, arith, IfOk, IfSome, IfNone, option_map, get_or-replicate, version_at}
 use Rattle.gb_types.specs.declared.{limits.TheConstants.NODES, address.Addr.Addr, node.NodeId.NodeId, request.GroupCommand.GroupCommand, version.Version.TheVariants.One}
 use Rattle.gb_types.specs.declared.request.GroupCommand.TheVariants.{Make, Open, Shut, Drop, Say, Fetch}
@@ -7,7 +7,7 @@ use Rattle.gb_schedule.specs.declared.head.Head.TheVariants.{Cluster as ClusterH
 use Rattle.gb_schedule.specs.Grammar.{asked_at, Spells, IsCommandLine, IsInPlace, IsStart}
 use Rattle.gb_schedule.proofs.CommandLemmas.{Finds}
 
--- what is asked of a node of the cluster is in its place
+-- a command in a group at a node of the cluster may be at its position
 asked_in_place : (nodes : ℕ) (node : NodeId) (address : Addr) (asked : GroupCommand) → node.number < nodes → IsInPlace (Some nodes) (asked_at node address asked)
 asked_in_place nodes node address (Make spec) below = below
 asked_in_place nodes node address Open below = below
@@ -71,18 +71,18 @@ pub command_in_place : {E : Type 0} (nodes : Option ℕ) (line : List ℕ) (resu
 command_in_place nodes line (Ok answer) finds = found_in_place nodes line answer finds
 command_in_place nodes line (Err e) finds = tt
 
--- and so is a step
+-- a step may be at its position
 pub step_in_place : (nodes : ℕ) (line : List ℕ) (answer : Option Step) → ((step : Step) → (answer ≡ Some step) ↔ IsCommandLine (Some nodes) line (StepCommand step))
     → IfSome answer (λ step. IsInPlace (Some nodes) (StepCommand step))
 step_in_place nodes line None finds = tt
 step_in_place nodes line (Some step) finds = line_in_place (Some nodes) line (StepCommand step) ((finds step).0 refl)
 
--- and none is spelt where none was found
+-- where none was found, none is spelt
 pub none_spelt : {X : Type 0} {P : X → Type 0} (answer : Option X) → ((x : X) → (answer ≡ Some x) ↔ P x) → IfNone answer ((x : X) → P x → ⊥)
 none_spelt None finds = λ x spelt. cc ((finds x).1 spelt)
 none_spelt (Some x) finds = tt
 
--- how a cluster is started in place
+-- the start of a cluster may be at its position
 pub start_in_place : (line : List ℕ) (answer : Option ClusterStart) → Finds (IsCommandLine None line) (option_map Cluster answer) → IfSome answer IsStart
 start_in_place line None finds = tt
 start_in_place line (Some start) finds = line_in_place None line (Cluster start) ((finds (Cluster start)).0 refl)

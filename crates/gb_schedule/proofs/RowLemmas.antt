@@ -1,4 +1,4 @@
--- For each head: the command that its words spell, from what the readers of its words found.
+-- For each head: the command that its words spell, from the results of the readers of its words.
 use Rattle.gb_types.specs.Common.{◌≡◌, ◌↔◌, ℕ, ◌<◌, ◌≤◌, List, [], ◌∷◌, replicate, Some, None, refl, sym, ap, ◌∙◌, subst, decimal, limits_of}
 use Rattle.gb_types.specs.declared.{limits.TheConstants.NODES, limits.TheConstants.SILENCE_MIN, limits.TheConstants.SILENCE_MAX, new_message.NewMessage.NewMessage, node.NodeId.NodeId, address.Addr.Addr, request.Action.TheVariants.AddTenant, request.Action.TheVariants.Group, request.GroupCommand.TheVariants.Say, spec.TenantRow.TenantRow, version.Version.Version, version.Version.TheVariants.One}
 use Rattle.gb_spelling.specs.Common.{payload_of, IsShort, group_word, IsGroup}
@@ -9,11 +9,11 @@ use Rattle.gb_schedule.specs.Versions.{AreVersions}
 use Rattle.gb_schedule.specs.Keys.{tenant_key, no_token, admin_token}
 use Rattle.gb_types.proofs.ReadLemmas.{Reads, found, only, reads_one, some_same}
 
--- what the readers of single words find
+-- a word is the number of this node of the cluster
 abbrev pub IsNodeWord : ℕ → List ℕ → NodeId → Type 0
 IsNodeWord nodes word node = (node.number < nodes) × (word ≡ decimal node.number)
 
--- what a reader of a node and an address finds
+-- three words name this node and this group
 abbrev pub AreGroupWords : ℕ → List ℕ → List ℕ → List ℕ → NodeId × Addr → Type 0
 AreGroupWords nodes a t g group = IsNodeWord nodes a group.0 × AreAddressWords t g group.1
 
@@ -24,7 +24,7 @@ group_reads nodes a t g node address reads_node reads_address =
     let same_address : address ≡ group.1 = only (AreAddressWords t g) address group.1 reads_address are.1 in
     λ i. (same_node i, same_address i))
 
--- where none are read, words are no node's, tenant's and group's
+-- where none are read, the words name no node, tenant and group
 pub no_group : (nodes : ℕ) (words : List (List ℕ)) (a t g : List ℕ) (rest behind : List (List ℕ)) (node : NodeId) (address : Addr) → words ≡ a ∷ t ∷ g ∷ rest
     → ((group : NodeId × Addr) → (None ≡ Some group) ↔ AreGroupWords nodes a t g group)
     → node.number < nodes → IsShort address.tenant → IsGroup address → words ≡ decimal node.number ∷ decimal address.tenant ∷ group_word address ∷ behind → ⊥
@@ -32,7 +32,7 @@ no_group nodes words a t g rest behind node address are none below is_t is_g spe
     let same : a ∷ t ∷ g ∷ rest ≡ decimal node.number ∷ decimal address.tenant ∷ group_word address ∷ behind = sym are ∙ spelt in
     cc ((none (node, address)).1 ((below, cc), (is_t, cc, is_g, cc)))
 
--- where no limits are read, words are no tenant's
+-- where no limits are read, the words spell no tenant
 pub no_tenant_limits : (nodes : ℕ) (words : List (List ℕ)) (a t gs m b w : List ℕ) (command : Command) → words ≡ a ∷ t ∷ gs ∷ m ∷ b ∷ w ∷ []
     → ((limits : ℕ × ℕ × ℕ) → (None ≡ Some limits) ↔ AreLimitWords m b w limits) → SpellsTenant nodes command words → ⊥
 no_tenant_limits nodes words a t gs m b w command are none spelt =
@@ -40,14 +40,14 @@ no_tenant_limits nodes words a t gs m b w command are none spelt =
     let same : a ∷ t ∷ gs ∷ m ∷ b ∷ w ∷ [] ≡ decimal spelt.node.number ∷ decimal row.tenant ∷ decimal row.groups ∷ decimal row.msgs ∷ decimal row.bytes ∷ decimal row.window ∷ [] = sym are ∙ spelt.words_are in
     cc ((none (row.msgs, row.bytes, row.window)).1 ((spelt.msgs, cc), (spelt.bytes, cc), (spelt.window, cc)))
 
--- what the readers of the words behind `cluster` and `cluster2` find
+-- a word behind `cluster` and `cluster2` is the number of ticks of silence
 abbrev pub IsSilenceWord : List ℕ → ℕ → Type 0
 IsSilenceWord word silence = (SILENCE_MIN ≤ silence) × (silence ≤ SILENCE_MAX) × (word ≡ decimal silence)
 
 abbrev pub IsCountWord : ℕ → List ℕ → ℕ → Type 0
 IsCountWord most word nodes = (1 ≤ nodes) × (nodes ≤ most) × (word ≡ decimal nodes)
 
--- a number between others, where it is known between which
+-- a number within bounds is within equal bounds
 pub between_reads : (word : List ℕ) (n least most low high : ℕ) → least ≡ low → most ≡ high → Reads (λ k. (least ≤ k) × (k ≤ most) × (word ≡ decimal k)) n → Reads (λ k. (low ≤ k) × (k ≤ high) × (word ≡ decimal k)) n
 between_reads word n least most low high is_low is_high reads k = (
   λ is. let read = (reads k).0 is in (rw (← is_low) read.0, rw (← is_high) read.1, read.2),
@@ -111,7 +111,7 @@ cluster2_reads words n s v rest nodes silence versions room are reads_nodes read
     let same_start : start ≡ other = λ i. record { nodes = same_nodes i; versions = same_versions i; silence = same_silence i; room = same_room i } in
     ap Cluster same_start ∙ sym spelt.command_is)
 
--- where no versions are read, words start no cluster
+-- where no versions are read, the words start no cluster
 pub no_versions : (words : List (List ℕ)) (n s v : List ℕ) (rest : List (List ℕ)) (nodes : ℕ) (command : Command) → words ≡ n ∷ s ∷ v ∷ rest → Reads (IsCountWord NODES n) nodes
     → ((versions : List Version) → (None ≡ Some versions) ↔ AreVersions nodes versions v) → SpellsCluster2 command words → ⊥
 no_versions words n s v rest nodes command are reads_nodes none spelt =
@@ -123,7 +123,7 @@ no_versions words n s v rest nodes command are reads_nodes none spelt =
     let is = (none other.versions).1 are_versions in
     cc is
 
--- where no room is read, words start no cluster
+-- where no room is read, the words start no cluster
 pub no_room : (words : List (List ℕ)) (n s v : List ℕ) (rest : List (List ℕ)) (nodes : ℕ) (command : Command) → words ≡ n ∷ s ∷ v ∷ rest → Reads (IsCountWord NODES n) nodes
     → ((room : ℕ) → (None ≡ Some room) ↔ AreRoomWords rest room) → SpellsCluster2 command words → ⊥
 no_room words n s v rest nodes command are reads_nodes none spelt =
@@ -168,7 +168,7 @@ tenant_reads nodes words a t gs m b w node tenant groups limits token key are re
     let same_row : row ≡ other = λ i. record { tenant = same_tenant i; key = same_key i; groups = same_groups i; msgs = (same_limits i).0; bytes = (same_limits i).1; window = (same_limits i).2 } in
     ap (λ q. Request node (record { token = q; what = AddTenant row })) is_token ∙ (λ i. Request (same_node i) (record { token = admin_token; what = AddTenant (same_row i) })) ∙ sym spelt.command_is)
 
--- what a forger says: no bytes, under whatever number is next
+-- the message of a forged say: no bytes, under whatever number is next
 abbrev nothing_said : NewMessage
 nothing_said = record { payload = []; seq = None }
 

@@ -1,4 +1,4 @@
--- What is said behind `say `: the numbers of a member, read one after the other, and the payload behind them.
+-- The message behind `say `: the numbers of a member, read one after the other, and the payload behind them.
 use Rattle.gb_types.specs.Common.{◌≡◌, ◌↔◌, ℕ, ◌<◌, ◌≤◌, List, [], ◌∷◌, ◌++◌, Option, Some, None, Result, Ok, Err, codes, drop, decimal, refl, sym, ap, ◌∙◌, arith, join_with_byte, IfOk}
 use Rattle.gb_spelling.specs.Common.{IsShort, SpellsMessage, words_of}
 use Rattle.gb_types.specs.declared.{address.Addr.Addr, new_message.NewMessage.NewMessage, node.NodeId.NodeId, request.GroupCommand.TheVariants.Say}
@@ -29,7 +29,7 @@ some_word : (text : List ℕ) → words_of text ≡ [] → ⊥
 some_word [] none = cc none
 some_word (b ∷ bs) none = let empty : b ∷ bs ≡ [] = sym (each_line_is_its_words (b ∷ bs)).0 ∙ ap (join_with_byte 32) none in cc empty
 
--- what stands behind a word is a number, or spells none
+-- the text behind a word is a number, or it spells none
 pub message_of_two : (word behind : List ℕ) (message : NewMessage) → SpellsMessage message (word ∷ behind ∷ []) ↔ SpellsMessage message (word ∷ words_of behind)
 message_of_two word behind message = (
   λ spelt. by_two message.seq refl spelt,
@@ -51,7 +51,7 @@ message_of_two word behind message = (
         let same : behind ≡ decimal n = sym (each_line_is_its_words behind).0 ∙ ap (join_with_byte 32) one in
         record { payload_word = spelt.payload_word; words_are = cc (spelt.words_are, is, same); payload_is = spelt.payload_is; seq = spelt.seq }
 
--- what was read of a word and what stands behind it is what their text says
+-- the message of a word and the text behind it is that of the whole text
 pub message_in : {E : Type 0} (result : Result (Option NewMessage) E) (word behind : List ℕ) → IfOk result (λ found. (message : NewMessage) → (found ≡ Some message) ↔ SpellsMessage message (word ∷ behind ∷ []))
     → IfOk result (λ found. (message : NewMessage) → (found ≡ Some message) ↔ SpellsMessage message (word ∷ words_of behind))
 message_in (Ok read) word behind reads = λ message. (
@@ -60,7 +60,7 @@ message_in (Ok read) word behind reads = λ message. (
 )
 message_in (Err e) word behind reads = tt
 
--- a member's numbers and the words of a message behind them spell what is said, and so does their line
+-- a member's numbers and the words of a message behind them spell a say, and so does their line
 pub say_reads : (count : ℕ) (line text : List ℕ) (node : NodeId) (address : Addr) (behind : List ℕ) (message : NewMessage) → line ≡ codes "say " ++ text
     → NamesMember count text node address behind → Reads (λ x. SpellsMessage x (words_of behind)) message → Reads (IsCommandLine (Some count) line) (asked_at node address (Say message))
 say_reads count line text node address behind message is named reads_message =

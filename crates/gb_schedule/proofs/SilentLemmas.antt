@@ -1,4 +1,4 @@
--- A line that asks for nothing begins with no head.
+-- An empty line and a comment begin with no head.
 use Rattle.gb_types.specs.Common.{◌≡◌, ℕ, List, [], ◌∷◌, get_or, refl, sym, ap, ◌∙◌, arith, onto_first}
 use Rattle.gb_spelling.specs.declared.command_words.CommandHead.TheVariants as commands
 use Rattle.gb_schedule.specs.declared.head.Head.{Head}

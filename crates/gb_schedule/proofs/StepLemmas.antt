@@ -20,11 +20,11 @@ same_node a b is =
 pub step_is : {a b : AnyStep} → Step a ≡ Step b → a ≡ b
 step_is is = cc is
 
--- where no numbers were read, none are there
+-- where no numbers were read, the text has none
 none_there : {X : Type 0} (most text ns : List ℕ) → ((ms : List ℕ) → (None ≡ Some ms) ↔ AreNumbers most text ms) → AreNumbers most text ns → X
 none_there most text ns none are = let is = (none ns).1 are in cc is
 
--- numbers of which one is no node's name no two nodes
+-- numbers of which one is no node's number name no two nodes
 pub beyond_two : (nodes : ℕ) → nodes ≤ NODES → (text : List ℕ) (a b second : ℕ) → a < 2 ^ 64 → b < 2 ^ 64 → IsNumberAt text 0 a (Some second) → words_of (drop second text) ≡ decimal b ∷ [] → (a < nodes → b < nodes → ⊥)
     → (node to : NodeId) → NamesTwoNodes nodes text node to → ⊥
 beyond_two nodes few text a b second small_a small_b one last above node to named =

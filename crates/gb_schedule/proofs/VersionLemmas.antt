@@ -24,7 +24,7 @@ same_version v w is =
     let byte : (limits_of v).byte ≡ (limits_of w).byte = decimal_injective (limits_of v).byte (limits_of w).byte (omega (arith, small_v)) (omega (arith, small_w)) is in
     some_same v w (sym (named_by_byte v) ∙ (ap version_named byte ∙ named_by_byte w))
 
--- a word stands for the version whose byte's number it is
+-- a word spells the version whose byte has its number
 pub version_reads : (word : List ℕ) (byte : ℕ) (r : Option Version) → Reads (λ n. (n ≤ 255) × (word ≡ decimal n)) byte → r ≡ version_named byte
     → (v : Version) → (r ≡ Some v) ↔ (word ≡ number v)
 version_reads word byte r reads is v =
@@ -74,7 +74,7 @@ part_is nodes versions word some few are k d lt =
     ap (λ ps. get_or ps k d) (parts_are nodes versions word some few are)
     ∙ (get_or-map number (take nodes versions) k One d (omega (arith, count)) ∙ ap number (get_or-take nodes versions k One lt))
 
--- what is read from the first parts
+-- the versions of the first parts are read
 pub record AreReadTo (nodes : ℕ) (parts : List (List ℕ)) (k : ℕ) (versions : List Version) : Type 0 where
   pub few : k ≤ nodes
   pub all : length versions ≡ NODES
@@ -82,7 +82,7 @@ pub record AreReadTo (nodes : ℕ) (parts : List (List ℕ)) (k : ℕ) (versions
   pub named : (a : ℕ) → a < k → nodes ≤ (limits_of (version_at versions a)).nodes
   pub rest : (a : ℕ) → k ≤ a → version_at versions a ≡ One
 
--- nothing is read
+-- no version is read yet
 pub none_read : (nodes : ℕ) (parts : List (List ℕ)) → AreReadTo nodes parts 0 (replicate NODES One)
 none_read nodes parts = record {
   few = omega arith;
@@ -92,7 +92,7 @@ none_read nodes parts = record {
   rest = λ a le. elim (cases_lt a NODES) [ inl lt ↦ get_or-replicate NODES a One One lt | inr past ↦ get_or_past (replicate NODES One) a One past ];
 }
 
--- one more part is read
+-- the version of one more part is read
 pub more_read : (nodes : ℕ) (parts : List (List ℕ)) (k : ℕ) (versions : List Version) (part : List ℕ) (v : Version) → AreReadTo nodes parts k versions → nodes ≤ NODES
     → (k < length parts) × (part ≡ get_or parts k part) → k < nodes → part ≡ number v → nodes ≤ (limits_of v).nodes → AreReadTo nodes parts (k + 1) (set versions k v)
 more_read nodes parts k versions part v r few turn lt is names =
@@ -110,22 +110,22 @@ more_read nodes parts k versions part v r few turn lt is names =
       rest = λ a past. let other : a ≡ k → ⊥ = λ e. omega (arith, e, past) in get_or-set_other versions k a v One other ∙ r.rest a (omega (arith, past));
     }
 
--- versions are answered exactly where their word was given
+-- exactly the versions that the word spells are returned
 abbrev pub Answers : ℕ → List ℕ → Option (List Version) → Type 0
 Answers nodes word r = (versions : List Version) → (r ≡ Some versions) ↔ AreVersions nodes versions word
 
 none_answers : (nodes : ℕ) (word : List ℕ) (r : Option (List Version)) → r ≡ None → ((versions : List Version) → AreVersions nodes versions word → ⊥) → Answers nodes word r
 none_answers nodes word r is none versions = (λ some. cc (is, some), λ are. absurd (none versions are))
 
--- a part too many
+-- a word with a part too many spells no versions
 pub too_many : (nodes : ℕ) (word : List ℕ) (k : ℕ) (r : Option (List Version)) → 1 ≤ nodes → nodes ≤ NODES → k < length (parts_of word) → k ≡ nodes → r ≡ None → Answers nodes word r
 too_many nodes word k r some few more all is = none_answers nodes word r is (λ versions are. let count = count_is nodes versions word some few are in omega (arith, count, more, all))
 
--- parts too few
+-- a word with too few parts spells no versions
 pub too_few : (nodes : ℕ) (word : List ℕ) (k : ℕ) (r : Option (List Version)) → 1 ≤ nodes → nodes ≤ NODES → k ≡ length (parts_of word) → k < nodes → r ≡ None → Answers nodes word r
 too_few nodes word k r some few all less is = none_answers nodes word r is (λ versions are. let count = count_is nodes versions word some few are in omega (arith, count, all, less))
 
--- a part that is the number of no version that can name all nodes
+-- a word with a part that is no number of a version which can name all nodes spells no versions
 pub refuses : (nodes : ℕ) (word : List ℕ) (k : ℕ) (part : List ℕ) (r : Option (List Version)) → 1 ≤ nodes → nodes ≤ NODES → (k < length (parts_of word)) × (part ≡ get_or (parts_of word) k part)
     → ((v : Version) → part ≡ number v → nodes ≤ (limits_of v).nodes → ⊥) → r ≡ None → Answers nodes word r
 refuses nodes word k part r some few turn bad is = none_answers nodes word r is (λ versions are.
@@ -133,7 +133,7 @@ refuses nodes word k part r some few turn bad is = none_answers nodes word r is 
     let lt : k < nodes = let below = turn.0 in omega (arith, count, below) in
     bad (version_at versions k) (turn.1 ∙ part_is nodes versions word some few are k part lt) (are.named k lt))
 
--- all parts are read
+-- all parts are read, so the versions are those that the word spells
 pub answers : (nodes : ℕ) (word : List ℕ) (k : ℕ) (versions : List Version) → 1 ≤ nodes → nodes ≤ NODES → AreReadTo nodes (parts_of word) k versions → k ≡ length (parts_of word) → nodes ≤ k → Answers nodes word (Some versions)
 answers nodes word k versions some few r end enough =
     let low = r.few in
@@ -149,7 +149,7 @@ answers nodes word k versions some few r end enough =
     reads_one (λ vs. AreVersions nodes vs word) versions here (λ vs are.
     same_lists versions vs (here.all ∙ sym are.all) (λ a d lt. same_at vs are here a d lt))
   where
-    -- both have one version at each place
+    -- both lists have one version at each index
     at_one : (vs : List Version) → AreVersions nodes vs word → AreVersions nodes versions word → (a : ℕ) → version_at versions a ≡ version_at vs a
     at_one vs are here a = elim (cases_lt a nodes) [
       | inl lt ↦ same_version (version_at versions a) (version_at vs a) (sym (part_is nodes versions word some few here a [] lt) ∙ part_is nodes vs word some few are a [] lt)

@@ -4,7 +4,7 @@ use Rattle.std.proofs.lemmas.List.Splits.{slice_split_first, slice_split_none, l
 use Rattle.gb_spelling.specs.Common.{words_of}
 use Rattle.gb_types.proofs.BoolLemmas.{not_true}
 
--- the first space of a text
+-- the index of the first space of a text
 pub first_space : (text : List ℕ) (place : ℕ) → place ≤ length text → ((k : ℕ) → k < place → (slice_index text k == 32) ≡ false)
     → (place < length text → slice_index text place ≡ 32) → place ≡ position_or_len (λ byte. byte == 32) text
 first_space text place within before here =
@@ -21,12 +21,12 @@ last_word text all =
     slice_split_none (λ byte. byte == 32) text
     (λ k d lt. not_true (get_or text k d == 32) (prefix_len_passes (λ byte. not (byte == 32)) text k d (omega (arith, lt, all))))
 
--- what stands in an array up to a place is read as words: one more at that place, the words so far in front of those that are left
+-- the words of the first entries of an array, after one more entry was set
 module _ {X : Type 0} (word_of : X → List ℕ) (words : List X) (place : ℕ) where
   one_more : (word : X) → place < length words → map word_of (take (place + 1) (set words place word)) ≡ map word_of (take place words) ++ word_of word ∷ []
   one_more word below = ap (map word_of) (take_more_set words place word below) ∙ map-append word_of (take place words) (word ∷ [])
 
-  -- after one more was put down
+  -- the words so far, with one more, precede those of the rest
   pub goes_on : (word : X) (line left rest : List ℕ) → place < length words → map word_of (take place words) ++ words_of left ≡ words_of line → words_of left ≡ word_of word ∷ words_of rest
       → map word_of (take (place + 1) (set words place word)) ++ words_of rest ≡ words_of line
   goes_on word line left rest below so_far split =
@@ -35,12 +35,12 @@ module _ {X : Type 0} (word_of : X → List ℕ) (words : List X) (place : ℕ) 
       ∙ ap (λ ws. map word_of (take place words) ++ ws) (sym split)
       ∙ so_far
 
-  -- the last word makes them all
+  -- the last word completes the words
   pub ends : (word : X) (line left : List ℕ) → place < length words → map word_of (take place words) ++ words_of left ≡ words_of line → words_of left ≡ word_of word ∷ []
       → map word_of (take (place + 1) (set words place word)) ≡ words_of line
   ends word line left below so_far last = one_more word below ∙ ap (λ ws. map word_of (take place words) ++ ws) (sym last) ∙ so_far
 
-  -- where an array is full and a text is left, the line has more words
+  -- where an array is full and some text is left, the line has more words
   pub too_many : (line left : List ℕ) → length words ≤ place → map word_of (take place words) ++ words_of left ≡ words_of line → length words < length (words_of line)
   too_many line left all so_far =
       let whole = ap length so_far in

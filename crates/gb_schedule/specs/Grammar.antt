@@ -15,7 +15,7 @@ use Rattle.gb_schedule.specs.Head.{head_word}
 use Rattle.gb_schedule.specs.Versions.{AreVersions}
 use Rattle.gb_schedule.specs.Keys.{tenant_key, no_token, admin_token, tenant_token, member_token}
 
--- `cluster N S`: each node sends the first version
+-- `cluster N S` starts a cluster, each of whose nodes sends the first version
 pub record SpellsCluster (command : Command) (words : List (List ℕ)) : Type 0 where
   pub start : ClusterStart
   pub command_is : command ≡ Cluster start
@@ -29,7 +29,7 @@ pub record SpellsCluster (command : Command) (words : List (List ℕ)) : Type 0 
 abbrev pub AreRoomWords : List (List ℕ) → ℕ → Type 0
 AreRoomWords words room = ((words ≡ []) × (room ≡ 16345)) ⊎ ((words ≡ decimal room ∷ []) × (1 ≤ room) × (room ≤ 16345))
 
--- `cluster2 N S VERS` or `cluster2 N S VERS ROOM`: each node sends its own version
+-- `cluster2 N S VERS` or `cluster2 N S VERS ROOM` starts a cluster, each of whose nodes sends its own version
 pub record SpellsCluster2 (command : Command) (words : List (List ℕ)) : Type 0 where
   pub start : ClusterStart
   pub versions_word : List ℕ
@@ -41,7 +41,7 @@ pub record SpellsCluster2 (command : Command) (words : List (List ℕ)) : Type 0
   pub versions_are : AreVersions start.nodes start.versions versions_word
   pub room_are : AreRoomWords room_words start.room
 
--- `tenant A T GROUPS MSGS BYTES WINDOW`
+-- `tenant A T GROUPS MSGS BYTES WINDOW` adds a tenant at node A
 pub record SpellsTenant (nodes : ℕ) (command : Command) (words : List (List ℕ)) : Type 0 where
   pub node : NodeId
   pub row : TenantRow
@@ -55,14 +55,14 @@ pub record SpellsTenant (nodes : ℕ) (command : Command) (words : List (List �
   pub bytes : IsLong row.bytes
   pub window : IsLong row.window
 
--- What a schedule asks for by a command in a group: a request with the member's token to say a message, and with the tenant's for each
+-- The command for a command in a group: a request with the member's token to say a message, and with the tenant's token for each
 -- other command; or a fetch, to which the member's token is added when the line is executed.
 abbrev pub asked_at : NodeId → Addr → GroupCommand → Command
 asked_at node address (commands.Fetch from most) = Step (Fetch node address from most)
 asked_at node address (commands.Say message) = Request node (record { token = member_token address node; what = actions.Group address (commands.Say message) })
 asked_at node address command = Request node (record { token = tenant_token address.tenant; what = actions.Group address command })
 
--- `A T G`, and the words of a command
+-- the words `A T G`, and those of a command in a group, spell this command at node A
 pub record SpellsGroup (head : CommandHead) (nodes : ℕ) (command : Command) (words : List (List ℕ)) : Type 0 where
   pub node : NodeId
   pub address : Addr
@@ -75,14 +75,14 @@ pub record SpellsGroup (head : CommandHead) (nodes : ℕ) (command : Command) (w
   pub group : IsGroup address
   pub asked_spelt : SpellsCommand head asked asked_words
 
--- the first three words of a text name a node, a tenant and a group; these bytes stand behind them
+-- the first three words of a text name a node, a tenant and a group, and these bytes follow them
 pub record NamesMember (nodes : ℕ) (text : List ℕ) (node : NodeId) (address : Addr) (behind : List ℕ) : Type 0 where
   pub words_are : words_of text ≡ decimal node.number ∷ decimal address.tenant ∷ group_word address ∷ words_of behind
   pub in_cluster : node.number < nodes
   pub tenant : IsShort address.tenant
   pub group : IsGroup address
 
--- `forge A T G`: a say whose token is not valid
+-- `forge A T G` asks node A to say a message with a token that is not valid
 pub record SpellsForge (nodes : ℕ) (command : Command) (words : List (List ℕ)) : Type 0 where
   pub node : NodeId
   pub address : Addr
@@ -98,7 +98,7 @@ pub record NamesTwoNodes (nodes : ℕ) (text : List ℕ) (node to : NodeId) : Ty
   pub in_cluster : node.number < nodes
   pub to_in_cluster : to.number < nodes
 
--- `pack A B`
+-- `pack A B` makes node A pack a batch for node B
 pub record SpellsPack (nodes : ℕ) (command : Command) (words : List (List ℕ)) : Type 0 where
   pub node : NodeId
   pub to : NodeId
@@ -107,7 +107,7 @@ pub record SpellsPack (nodes : ℕ) (command : Command) (words : List (List ℕ)
   pub in_cluster : node.number < nodes
   pub to_in_cluster : to.number < nodes
 
--- `again A B F`; F = 0 stands for the lowest frame that is not done
+-- `again A B F` makes node A send frame F to node B again; F = 0 means the lowest frame that is not acknowledged
 pub record SpellsAgain (nodes : ℕ) (command : Command) (words : List (List ℕ)) : Type 0 where
   pub node : NodeId
   pub to : NodeId
@@ -118,7 +118,7 @@ pub record SpellsAgain (nodes : ℕ) (command : Command) (words : List (List ℕ
   pub to_in_cluster : to.number < nodes
   pub frame_in : frame ≤ 18446744073709551615
 
--- `ack A B`
+-- `ack A B` makes node A acknowledge the frames from node B
 pub record SpellsAck (nodes : ℕ) (command : Command) (words : List (List ℕ)) : Type 0 where
   pub node : NodeId
   pub to : NodeId
@@ -127,14 +127,14 @@ pub record SpellsAck (nodes : ℕ) (command : Command) (words : List (List ℕ))
   pub in_cluster : node.number < nodes
   pub to_in_cluster : to.number < nodes
 
--- `arrive K`
+-- `arrive K` makes packet K arrive
 pub record SpellsArrive (command : Command) (words : List (List ℕ)) : Type 0 where
   pub packet : ℕ
   pub command_is : command ≡ Step (Arrive packet)
   pub words_are : words ≡ decimal packet ∷ []
   pub packet_in : packet ≤ 18446744073709551615
 
--- `noise B HEX`; the bytes may be spelt in digits of both cases
+-- `noise B HEX` makes bytes come to node B; they may be spelt in digits of both cases
 pub record SpellsNoise (nodes : ℕ) (command : Command) (words : List (List ℕ)) : Type 0 where
   pub node : NodeId
   pub bytes : List ℕ
@@ -144,22 +144,22 @@ pub record SpellsNoise (nodes : ℕ) (command : Command) (words : List (List ℕ
   pub in_cluster : node.number < nodes
   pub bytes_are : payload_of bytes_word ≡ Some bytes
 
--- `tick A`
+-- `tick A` makes time pass at node A
 pub record SpellsTick (nodes : ℕ) (command : Command) (words : List (List ℕ)) : Type 0 where
   pub node : NodeId
   pub command_is : command ≡ Step (Tick node)
   pub words_are : words ≡ decimal node.number ∷ []
   pub in_cluster : node.number < nodes
 
--- `stop A`
+-- `stop A` stops node A
 pub record SpellsStop (nodes : ℕ) (command : Command) (words : List (List ℕ)) : Type 0 where
   pub node : NodeId
   pub command_is : command ≡ Step (Stop node)
   pub words_are : words ≡ decimal node.number ∷ []
   pub in_cluster : node.number < nodes
 
--- The table: what the words behind each head spell. The first command starts the cluster, and no later one does; the number of
--- nodes is known from then on.
+-- the words behind this head spell this command; the first command starts the cluster, and no later one does; the number of
+-- nodes is known from then on
 abbrev pub Spells : Head → Option ℕ → Command → List (List ℕ) → Type 0
 Spells heads.Cluster None command words = SpellsCluster command words
 Spells heads.Cluster (Some nodes) command words = ⊥
@@ -177,14 +177,14 @@ Spells heads.Tick (Some nodes) command words = SpellsTick nodes command words
 Spells heads.Stop (Some nodes) command words = SpellsStop nodes command words
 Spells other None command words = ⊥
 
--- the line is a head and the words behind it, and they spell this command
+-- the line is a head and the words behind it, which spell this command
 pub record IsCommandLine (nodes : Option ℕ) (line : List ℕ) (command : Command) : Type 0 where
   pub head : Head
   pub words : List (List ℕ)
   pub line_is : words_of line ≡ head_word head ∷ words
   pub spelt : Spells head nodes command words
 
--- a cluster may be started so: the version of each node can name all nodes
+-- a cluster may be started by these parameters: the version of each node can name all nodes
 pub record IsStart (start : ClusterStart) : Type 0 where
   pub some : 1 ≤ start.nodes
   pub few : start.nodes ≤ NODES
@@ -192,8 +192,8 @@ pub record IsStart (start : ClusterStart) : Type 0 where
   pub most : start.silence ≤ SILENCE_MAX
   pub named : (a : ℕ) → a < start.nodes → start.nodes ≤ (limits_of (version_at start.versions a)).nodes
 
--- A command in its place: the first one starts the cluster; each later one starts none and names nodes below the number of
--- nodes.
+-- The command may be at this position of a schedule: the first one starts the cluster; each later one starts none and names nodes below the
+-- number of nodes.
 abbrev pub IsInPlace : Option ℕ → Command → Type 0
 IsInPlace None (Cluster start) = IsStart start
 IsInPlace (Some nodes) (Request node request) = node.number < nodes
@@ -212,6 +212,6 @@ abbrev pub IsSilent : List ℕ → Type 0
 IsSilent [] = Unit {0}
 IsSilent (byte ∷ bytes) = byte ≡ 35
 
--- a line that asks for nothing spells no command
+-- a line that is empty or a comment spells no command
 abbrev pub SilentLinesSpellNothing : Type 0
 SilentLinesSpellNothing = (nodes : Option ℕ) (line : List ℕ) (command : Command) → IsSilent line → IsCommandLine nodes line command → ⊥

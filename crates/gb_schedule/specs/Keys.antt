@@ -34,7 +34,7 @@ tenant_token tenant = token_of (tenant_key tenant) (Tenant tenant)
 unfoldable pub member_token : Addr → NodeId → List ℕ
 member_token address node = token_of (tenant_key address.tenant) (Member address.tenant address.group node)
 
--- keys by their tenants
+-- the keys belong to their tenants
 abbrev pub AreTenantKeys : List (ℕ × List ℕ) → Type 0
 AreTenantKeys entries = All (λ e. e.1 ≡ tenant_key e.0) entries
 
@@ -42,10 +42,10 @@ AreTenantKeys entries = All (λ e. e.1 ≡ tenant_key e.0) entries
 abbrev pub IsMemberToken : GroupMember → List ℕ → Type 0
 IsMemberToken member token = (node : NodeId) → node.number ≡ member.node → token ≡ member_token member.address node
 
--- tokens by their members
+-- the tokens belong to their members
 abbrev pub AreMemberTokens : List (GroupMember × List ℕ) → Type 0
 AreMemberTokens entries = All (λ e. IsMemberToken e.0 e.1) entries
 
--- each entry that stands at a place is a member's token
+-- each token in a slot belongs to its member
 abbrev pub AreRecentTokens : List (Option MemberToken) → Type 0
 AreRecentTokens places = All (λ place. IfSome place (λ found. IsMemberToken found.member found.token)) places

@@ -1,34 +1,34 @@
-//! What a line of a schedule asks for.
+//! The commands that the lines of a schedule spell.
 use gb_types::limits::NODES;
 use gb_types::{Addr, NodeId, Payload, Request, Version};
 
-/// What a line asks for by a head and numbers alone: a fetch, and all that is asked of links, time and a node's end.
+/// A command that is a head and numbers alone: a fetch, and each command about links, time and a node's end.
 #[derive(Clone, Copy)]
 pub enum Step {
-    /// Lets `node` pack the first items that wait for the node `to`.
+    /// `node` packs the first items that wait for the node `to`.
     Pack {
         node: NodeId,
         to: NodeId,
     },
-    /// Lets `node` send its frame with the number `frame` to the node `to` again, if that frame is not acknowledged. 0 stands for the
+    /// `node` sends its frame with the number `frame` to the node `to` again, if that frame is not acknowledged. 0 means the
     /// lowest such number.
     Again {
         node: NodeId,
         to: NodeId,
         frame: u64,
     },
-    /// Lets `node` acknowledge the frames that it received from the node `to`.
+    /// `node` acknowledges the frames that it received from the node `to`.
     Ack {
         node: NodeId,
         to: NodeId,
     },
-    /// Lets the packet with this number arrive at the node that it was sent to. Packets are numbered from 1 as they are sent.
+    /// The packet with this number arrives at the node that it was sent to. Packets are numbered from 1 as they are sent.
     Arrive(u64),
-    /// Lets time pass at a node.
+    /// Time passes at a node.
     Tick(NodeId),
-    /// Stops a node for good.
+    /// A node stops for good.
     Stop(NodeId),
-    /// Lets the group's member at `node` read its log, from the entry with index `from` on, up to `most` entries. The member's token
+    /// The group's member at `node` reads its log, from the entry with index `from` on, up to `most` entries. The member's token
     /// is added when the line is executed.
     Fetch {
         node: NodeId,
@@ -38,7 +38,7 @@ pub enum Step {
     },
 }
 
-/// How a cluster is started.
+/// The parameters of a cluster's start.
 #[derive(Clone, Copy)]
 pub struct ClusterStart {
     /// The number of nodes: 1 to 32, and at most what the version of each of them can name.
@@ -51,15 +51,15 @@ pub struct ClusterStart {
     pub room: u16,
 }
 
-/// What a line of a schedule asks for.
+/// The command that a line of a schedule spells.
 #[derive(Drop)]
 pub enum Command {
     /// Starts a cluster.
     Cluster(ClusterStart),
     /// Makes a request other than a fetch at a node.
     Request(NodeId, Request),
-    /// Hands bytes in at a node. If they are a packet of the cluster for that node, nothing is handed in.
+    /// Bytes come to a node. If they are a packet of the cluster for that node, nothing comes.
     Noise(NodeId, Payload),
-    /// Lets a packet be sent or arrive, time pass, a node stop, or a member fetch.
+    /// A packet is sent or arrives, time passes, a node stops, or a member fetches.
     Step(Step),
 }

@@ -54,7 +54,7 @@ fn read_node(word: &[u8], nodes: u8) -> Option<NodeId>
     Some(NodeId::new(number as u8))
 }
 
-// Reads the number of ticks without a good packet after which a node is noticed.
+// Returns the number of ticks without a good packet after which a node is noticed. `None` if the word spells none that is allowed.
 fn read_silence(word: &[u8]) -> Option<u16>
     ensures { (n : ℕ) → (result ≡ Some n)
         ↔ ((SILENCE_MIN ≤ n) × (n ≤ SILENCE_MAX) × (word.now ≡ decimal n)) }
@@ -63,7 +63,7 @@ fn read_silence(word: &[u8]) -> Option<u16>
     Some(silence as u16)
 }
 
-// Reads the number of nodes of a cluster: 1 to `most`.
+// Returns the number of nodes of a cluster, 1 to `most`. `None` if the word spells no such number.
 fn read_count(word: &[u8], most: u8) -> Option<u8>
     ensures { (n : ℕ) → (result ≡ Some n) ↔ ((1 ≤ n) × (n ≤ most) × (word.now ≡ decimal n)) }
 {
@@ -71,7 +71,7 @@ fn read_count(word: &[u8], most: u8) -> Option<u8>
     Some(count as u8)
 }
 
-// cluster N S
+// Returns the start of a cluster that the words `N S` behind `cluster` spell. `None` if they spell none.
 fn read_cluster(words: &[&[u8]]) -> Option<ClusterStart>
     ensures { (command : TheCommand) → (option_map Commands.Cluster result ≡ Some command)
         ↔ SpellsCluster command (map (λ word. word.now) words.now) }
@@ -89,7 +89,7 @@ fn read_cluster(words: &[&[u8]]) -> Option<ClusterStart>
     })
 }
 
-// Reads the most bytes of the items of a packet: 1 to 16,345. Returns 16,345 if there is no word.
+// Returns the most bytes of the items of a packet, 1 to 16,345, or 16,345 if there is no word. `None` if the words spell no such number.
 fn read_room(words: &[&[u8]]) -> Option<u16>
     ensures { (n : ℕ) → (result ≡ Some n) ↔ AreRoomWords (map (λ word. word.now) words.now) n }
 {
@@ -103,7 +103,7 @@ fn read_room(words: &[&[u8]]) -> Option<u16>
     }
 }
 
-// cluster2 N S VERS, or cluster2 N S VERS ROOM
+// Returns the start of a cluster that the words `N S VERS` or `N S VERS ROOM` behind `cluster2` spell. `None` if they spell none.
 fn read_cluster2(words: &[&[u8]]) -> Option<ClusterStart>
     ensures { (command : TheCommand) → (option_map Commands.Cluster result ≡ Some command)
         ↔ SpellsCluster2 command (map (λ word. word.now) words.now) }
@@ -123,7 +123,7 @@ fn read_cluster2(words: &[&[u8]]) -> Option<ClusterStart>
     })
 }
 
-// tenant A T GROUPS MSGS BYTES WINDOW
+// Returns the command that the words `A T GROUPS MSGS BYTES WINDOW` behind `tenant` spell. `None` if they spell none.
 fn read_tenant(keys: &Keys, nodes: u8, words: &[&[u8]]) -> Option<Command>
     requires { (1 ≤ nodes) × (nodes ≤ NODES) }
     ensures { (command : TheCommand) → (result ≡ Some command)
@@ -151,7 +151,7 @@ fn read_tenant(keys: &Keys, nodes: u8, words: &[&[u8]]) -> Option<Command>
     Some(Command::Request(node, request))
 }
 
-// Returns the node and the address of a group that A T G name.
+// Returns the node and the address of a group that the words `A T G` name. `None` if they name none.
 fn read_group(nodes: u8, node: &[u8], tenant: &[u8], group: &[u8]) -> Option<(NodeId, Addr)>
     requires { (1 ≤ nodes) × (nodes ≤ NODES) }
     ensures { (found : TheNode × TheAddress) → (result ≡ Some found)
@@ -164,7 +164,7 @@ fn read_group(nodes: u8, node: &[u8], tenant: &[u8], group: &[u8]) -> Option<(No
     Some((node, address))
 }
 
-// Returns what a schedule asks of a node by a command in a group.
+// Returns the command of a schedule for a command in a group at a node.
 #[inline(always)]
 fn asked_at(keys: &mut Keys, node: NodeId, address: Addr, command: GroupCommand) -> Command
     ensures { result ≡ asked_at node address command }
@@ -184,7 +184,7 @@ fn asked_at(keys: &mut Keys, node: NodeId, address: Addr, command: GroupCommand)
     Command::Request(node, Request::of_group(token, address, command))
 }
 
-// A T G, and the words of a command
+// Returns the command that the words `A T G` and the words of this command in a group spell. `None` if they spell none.
 fn read_group_command(
     alloc: Global,
     keys: &mut Keys,
@@ -208,7 +208,7 @@ fn read_group_command(
     Ok(Some(asked_at(keys, node, address, command)))
 }
 
-// Returns the member of a group's first generation that the first three words of a text name, and what stands behind them. This is
+// Returns the member of a group's first generation that the first three words of a text name, and the text behind them. This is
 // the short way for most lines of a schedule.
 #[inline(always)]
 fn first_member(nodes: u8, text: &[u8]) -> Option<(NodeId, Addr, &[u8])>
@@ -242,8 +242,8 @@ fn read_message_in(alloc: Global, text: &[u8]) -> Result<Option<NewMessage>, Out
     }
 }
 
-// say A T G PAYLOAD, or say A T G PAYLOAD SEQ, in a group's first generation. This is the short way for most says of a schedule; where
-// it returns `Ok(None)`, the line may spell a command.
+// Returns the command that the text `A T G PAYLOAD` or `A T G PAYLOAD SEQ` behind `say` spells, in a group's first generation. This is
+// the short way for most says of a schedule. If it returns `Ok(None)`, the line may spell a command nevertheless.
 fn read_first_say(
     alloc: Global,
     keys: &mut Keys,
@@ -267,7 +267,7 @@ fn read_first_say(
     Ok(Some(asked_at(keys, node, address, command)))
 }
 
-// forge A T G
+// Returns the command that the words `A T G` behind `forge` spell. `None` if they spell none.
 fn read_forge(alloc: Global, nodes: u8, words: &[&[u8]]) -> Option<Command>
     requires { (1 ≤ nodes) × (nodes ≤ NODES) }
     ensures { (command : TheCommand) → (result ≡ Some command)
@@ -283,7 +283,7 @@ fn read_forge(alloc: Global, nodes: u8, words: &[&[u8]]) -> Option<Command>
     Some(Command::Request(node, request))
 }
 
-// noise B HEX
+// Returns the command that the words `B HEX` behind `noise` spell. `None` if they spell none.
 fn read_noise(alloc: Global, nodes: u8, words: &[&[u8]]) -> Result<Option<Command>, OutOfMemory>
     requires { (1 ≤ nodes) × (nodes ≤ NODES) }
     ensures { IfOk result (λ found. (command : TheCommand) → (found ≡ Some command)
@@ -301,7 +301,7 @@ fn read_noise(alloc: Global, nodes: u8, words: &[&[u8]]) -> Result<Option<Comman
     Ok(Some(Command::Noise(node, bytes)))
 }
 
-// Returns the two nodes that the words of a text name.
+// Returns the two nodes that the words of a text name. `None` if they do not name two nodes.
 #[inline(always)]
 fn two_nodes(nodes: u8, text: &[u8]) -> Option<(NodeId, NodeId)>
     requires { (1 ≤ nodes) × (nodes ≤ NODES) }
@@ -317,7 +317,7 @@ fn two_nodes(nodes: u8, text: &[u8]) -> Option<(NodeId, NodeId)>
     Some((NodeId::new(node as u8), NodeId::new(to as u8)))
 }
 
-// pack A B
+// Returns the step that the text `A B` behind `pack` spells. `None` if it spells none.
 fn read_pack(nodes: u8, text: &[u8]) -> Option<Step>
     requires { (1 ≤ nodes) × (nodes ≤ NODES) }
     ensures { (step : TheStep) → (result ≡ Some step)
@@ -327,7 +327,7 @@ fn read_pack(nodes: u8, text: &[u8]) -> Option<Step>
     Some(Step::Pack { node, to })
 }
 
-// again A B F
+// Returns the step that the text `A B F` behind `again` spells. `None` if it spells none.
 fn read_again(nodes: u8, text: &[u8]) -> Option<Step>
     requires { (1 ≤ nodes) × (nodes ≤ NODES) }
     ensures { (step : TheStep) → (result ≡ Some step)
@@ -342,7 +342,7 @@ fn read_again(nodes: u8, text: &[u8]) -> Option<Step>
     })
 }
 
-// ack A B
+// Returns the step that the text `A B` behind `ack` spells. `None` if it spells none.
 fn read_ack(nodes: u8, text: &[u8]) -> Option<Step>
     requires { (1 ≤ nodes) × (nodes ≤ NODES) }
     ensures { (step : TheStep) → (result ≡ Some step)
@@ -352,7 +352,7 @@ fn read_ack(nodes: u8, text: &[u8]) -> Option<Step>
     Some(Step::Ack { node, to })
 }
 
-// arrive K
+// Returns the step that the text `K` behind `arrive` spells. `None` if it spells none.
 fn read_arrive(text: &[u8]) -> Option<Step>
     ensures { (step : TheStep) → (result ≡ Some step)
         ↔ SpellsArrive (Commands.Step step) (words_of text.now) }
@@ -361,7 +361,7 @@ fn read_arrive(text: &[u8]) -> Option<Step>
     Some(Step::Arrive(packet))
 }
 
-// tick A
+// Returns the step that the text `A` behind `tick` spells. `None` if it spells none.
 fn read_tick(nodes: u8, text: &[u8]) -> Option<Step>
     requires { (1 ≤ nodes) × (nodes ≤ NODES) }
     ensures { (step : TheStep) → (result ≡ Some step)
@@ -372,7 +372,7 @@ fn read_tick(nodes: u8, text: &[u8]) -> Option<Step>
     Some(Step::Tick(NodeId::new(node as u8)))
 }
 
-// stop A
+// Returns the step that the text `A` behind `stop` spells. `None` if it spells none.
 fn read_stop(nodes: u8, text: &[u8]) -> Option<Step>
     requires { (1 ≤ nodes) × (nodes ≤ NODES) }
     ensures { (step : TheStep) → (result ≡ Some step)
@@ -383,7 +383,7 @@ fn read_stop(nodes: u8, text: &[u8]) -> Option<Step>
     Some(Step::Stop(NodeId::new(node as u8)))
 }
 
-// fetch A T G FROM MAX, of a group's first generation. This is the short way for most fetches of a schedule.
+// Returns the step that the text `A T G FROM MAX` behind `fetch` spells, for a group's first generation. The short way for most fetches.
 #[inline(always)]
 fn read_first_fetch(nodes: u8, text: &[u8]) -> Option<Step>
     requires { (1 ≤ nodes) × (nodes ≤ NODES) }
@@ -424,7 +424,7 @@ fn read_fetch_words(nodes: u8, words: &[&[u8]]) -> Option<Step>
     })
 }
 
-// fetch A T G FROM MAX, of any generation. Not inlined, since it is called for few lines.
+// Returns the step that the text behind `fetch` spells, for any generation. Not inlined, since it is called for few lines.
 #[inline(never)]
 fn read_any_fetch(nodes: u8, text: &[u8]) -> Option<Step>
     requires { (1 ≤ nodes) × (nodes ≤ NODES) }
@@ -436,7 +436,7 @@ fn read_any_fetch(nodes: u8, text: &[u8]) -> Option<Step>
     read_fetch_words(nodes, &space[..count])
 }
 
-// fetch A T G FROM MAX
+// Returns the step that the text `A T G FROM MAX` behind `fetch` spells. `None` if it spells none.
 fn read_fetch(nodes: u8, text: &[u8]) -> Option<Step>
     requires { (1 ≤ nodes) × (nodes ≤ NODES) }
     ensures { (step : TheStep) → (result ≡ Some step)
@@ -448,7 +448,7 @@ fn read_fetch(nodes: u8, text: &[u8]) -> Option<Step>
     }
 }
 
-// Returns what stands in a line behind these bytes. `None` if the line does not begin with them.
+// Returns the part of a line behind these bytes. `None` if the line does not begin with them.
 #[inline(always)]
 fn behind<'a>(line: &'a [u8], begin: &[u8]) -> Option<&'a [u8]>
     ensures some { IfSome result (λ text. line.now ≡ begin.now ++ text.now) }
@@ -491,7 +491,7 @@ fn find_step(nodes: u8, line: &[u8]) -> Option<Step>
     }
 }
 
-/// Returns the step that a line of a schedule spells in a cluster of `nodes` nodes: a fetch, or what is asked of links, time and a
+/// Returns the step that a line of a schedule spells in a cluster of `nodes` nodes: a fetch, or a command about links, time or a
 /// node's end. `None` if it spells none.
 pub fn read_step(nodes: u8, line: &[u8]) -> Option<Step>
     requires { (1 ≤ nodes) × (nodes ≤ NODES) }
@@ -526,7 +526,7 @@ fn read_arguments(
     }
 }
 
-// Returns the command that a line spells, if it spells no step. This is the long way, by the words of the line.
+// Returns the command that a line spells, if it spells no step. This is the long way, which reads the line word by word.
 fn read_words(
     alloc: Global,
     keys: &mut Keys,
@@ -572,7 +572,7 @@ pub fn read_other_command(
     }
 }
 
-// Returns how a cluster is started by a head and the words behind it, its arguments.
+// Returns the start of a cluster that a head and the words behind it, its arguments, spell. `None` if they spell none.
 fn start_of(head: Head, arguments: &[&[u8]]) -> Option<ClusterStart>
     ensures { (command : TheCommand) → (option_map Commands.Cluster result ≡ Some command)
         ↔ Spells head None command (map (λ word. word.now) arguments.now) }
@@ -584,8 +584,8 @@ fn start_of(head: Head, arguments: &[&[u8]]) -> Option<ClusterStart>
     }
 }
 
-/// Returns how the cluster is started by a line of a schedule before which none was started. `None` if the line starts none; then it
-/// spells no command.
+/// Returns the start of the cluster that a line of a schedule spells before any cluster was started. `None` if the line spells none; then
+/// it spells no command.
 pub fn read_start(line: &[u8]) -> Option<ClusterStart>
     ensures spelt { (command : TheCommand) → (option_map Commands.Cluster result ≡ Some command)
         ↔ IsCommandLine None line.now command }
@@ -600,14 +600,14 @@ pub fn read_start(line: &[u8]) -> Option<ClusterStart>
     start_of(read_head(head)?, arguments)
 }
 
-/// Returns true if a line of a schedule asks for nothing: it is empty, or a comment, which begins with `#`.
+/// Returns true if a line of a schedule is empty, or a comment, which begins with `#`. Such a line spells no command.
 pub fn is_silent(line: &[u8]) -> bool
     ensures { IsTrue result ↔ IsSilent line.now }
 {
     matches!(line, [] | [b'#', ..])
 }
 
-/// A law: a line of a schedule that asks for nothing spells no command. So the two tests may be made in either order. It does nothing.
+/// A law: an empty line and a comment of a schedule spell no command. So the two tests may be made in either order. It does nothing.
 pub fn silent_lines_spell_nothing()
     ensures { SilentLinesSpellNothing }
 {}

@@ -28,10 +28,10 @@ pub fn tenant_key(tenant: TenantId) -> Key
     key
 }
 
-/// The most tokens of members that are kept.
+/// The most tokens of members that the map keeps.
 const KEPT: usize = 16_384;
 
-/// The number of places for the tokens of members that were named lately.
+/// The number of slots for the tokens of members that were named lately.
 const RECENT: usize = 2_048;
 
 /// A member of a group, by the group's address and its node's number.
@@ -50,13 +50,13 @@ pub struct MemberToken {
 
 /// Makes the tokens of a schedule's lines. The keys of the administrator and of each tenant that was named are hashed
 /// once, not for each token. The tokens of the first `KEPT` members that were named are kept. A token of a member that was named
-/// lately is found without a hash, at the place of its member; if two members share a place, the one that was named last has it.
+/// lately is found without a hash, in the slot of its member; if two members share a slot, the one that was named last has it.
 /// Contracts do not mention these caches: each token is a function of its arguments.
 pub struct Keys {
     admin: HmacKey,
     tenants: IndexMap<TenantId, HmacKey>,
     members: IndexMap<GroupMember, Token>,
-    /// `None` at an empty place; no places if there was no memory for them.
+    /// `None` in an empty slot. There are no slots if there was no memory for them.
     recent: Vec<Option<MemberToken>>,
 }
 
@@ -83,7 +83,7 @@ impl Model for Keys {
     ghost invariant = { λ k. (k.admin ≡ admin_key) × AreTenantKeys k.tenants.entries × AreMemberTokens k.members.entries × AreRecentTokens k.recent.items };
 }
 
-/// Returns `RECENT` empty places, or none if there is no memory for them.
+/// Returns `RECENT` empty slots, or none if there is no memory for them.
 fn empty_places(alloc: Global) -> Vec<Option<MemberToken>>
     ensures { AreRecentTokens result.items }
 {
@@ -93,8 +93,8 @@ fn empty_places(alloc: Global) -> Vec<Option<MemberToken>>
     }
 }
 
-/// Returns the place of a member's token. The members of the first 64 groups of a tenant at 32 nodes have different places, and so
-/// have those of 4 groups of 16 tenants.
+/// Returns the index of the slot for a member's token. The members of the first 64 groups of a tenant at 32 nodes have different slots,
+/// and so have those of 4 groups of 16 tenants.
 fn place_of(tenant: TenantId, group: u16, node: u8) -> usize {
     ((usize::from(tenant) * 4 + usize::from(group)) * NODES + usize::from(node)) % RECENT
 }
@@ -141,7 +141,7 @@ impl Keys {
         }
     }
 
-    /// Returns the token of a member. `None` if it does not stand at this place.
+    /// Returns the token of a member from the slot `place`. `None` if it is not there.
     #[inline(always)]
     fn recent_token(&self, member: &GroupMember, place: usize) -> Option<Token>
         ensures { IfSome result (IsMemberToken member.now) }
@@ -152,7 +152,7 @@ impl Keys {
         }
     }
 
-    /// Finds a member's token, or makes it, and puts it at a place. Not inlined, since most lines find the token at its place.
+    /// Finds a member's token, or makes it, and stores it in the slot `place`. Not inlined, since most tokens are found in their slots.
     #[inline(never)]
     fn find(&mut self, address: Addr, node: NodeId, place: usize) -> Token
         ensures { result ≡ member_token address node }
@@ -169,7 +169,7 @@ impl Keys {
         token
     }
 
-    /// Makes a member's token and keeps it.
+    /// Makes a member's token, stores it and returns it.
     fn make(&mut self, address: Addr, node: NodeId) -> Token
         ensures { result ≡ member_token address node }
     {
@@ -187,7 +187,7 @@ impl Keys {
         token
     }
 
-    /// Keeps a member's token, if fewer than `KEPT` are kept and there is memory for it.
+    /// Stores a member's token, if fewer than `KEPT` are stored and there is memory for it.
     fn keep(&mut self, member: GroupMember, token: Token)
         requires { IsMemberToken member token }
     {
@@ -196,7 +196,7 @@ impl Keys {
         }
     }
 
-    /// Puts a member's token at a place, if there is such a place.
+    /// Stores a member's token in the slot `place`, if there is such a slot.
     fn put(&mut self, found: MemberToken, place: usize)
         requires { IsMemberToken found.member found.token }
     {

@@ -1,4 +1,4 @@
-//! The versions of a cluster's nodes in a word: the numbers of their bytes, separated by commas.
+//! The word for the versions of a cluster's nodes: the numbers of their bytes, separated by commas.
 ghost use Rattle.std.specs.Prelude.{◌≡◌, ◌≤◌, ◌↔◌, List, Some, decimal};
 ghost use Rattle.gb_types.specs.Common.{limits_of};
 ghost use Rattle.gb_types.specs.declared.version.Version.{Version as TheVersion};

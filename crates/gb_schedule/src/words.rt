@@ -22,7 +22,7 @@ fn word_len(text: &[u8]) -> usize
     }
 }
 
-/// Returns the first word of a line's text, and what stands behind the space after it. The latter is `None` if there is no space.
+/// Returns the first word of a line's text, and the text behind the space after it. The latter is `None` if there is no space.
 pub fn cut_word(text: &[u8]) -> (&[u8], Option<&[u8]>)
     ensures more { IfSome result.1 (λ rest. words_of text.now ≡ result.0.now ∷ words_of rest.now) }
     ensures last { IfNone result.1 (words_of text.now ≡ result.0.now ∷ []) }
@@ -34,12 +34,12 @@ pub fn cut_word(text: &[u8]) -> (&[u8], Option<&[u8]>)
     (text, None)
 }
 
-/// A number of at most this many decimal digits has 64 bits.
+/// A number of at most this number of decimal digits has 64 bits.
 const FIT: usize = 19;
 
 const _: () = prove!(FIT == 19);
 
-/// Reads the digits that stand in a text from `from` on. Returns the number that they write, which is right if they are at most
+/// Reads the digits of a text from index `from` on. Returns the number that they write, which is right if they are at most
 /// `FIT`, and the number of digits.
 #[inline(always)]
 fn digits_at(text: &[u8], from: usize) -> (u64, usize)
@@ -68,8 +68,8 @@ fn read_word(word: &[u8]) -> Option<u64>
     read_number(word, u64::MAX)
 }
 
-/// Returns the number that `digits` digits, which stand in a text from `from` on, spell as a word. `number` is what they write, if
-/// they are at most `FIT`.
+/// Returns the number that `digits` digits of a text, from index `from` on, spell as a word. `number` is the number that they write, if
+/// they are at most `FIT`. `None` if they spell none.
 #[inline(always)]
 fn number_of(text: &[u8], from: usize, digits: usize, number: u64) -> Option<u64>
     requires from { from ≤ length text.now }
@@ -89,7 +89,7 @@ fn number_of(text: &[u8], from: usize, digits: usize, number: u64) -> Option<u64
     }
 }
 
-/// Returns the number that a word of one digit writes, which stands in a text from `from` on, and the index of the next word, if
+/// Returns the number that a word of one digit writes, at index `from` of a text, and the index of the next word, if
 /// there is one. `None` if there is no such word. This is the short way for most words of a schedule.
 #[inline(always)]
 fn one_digit_at(text: &[u8], from: usize) -> Option<(u64, Option<usize>)>
@@ -138,7 +138,7 @@ pub fn number_at(text: &[u8], from: usize) -> Option<(u64, Option<usize>)>
 }
 
 /// Returns the number that the last word of a line writes in decimal, which begins at the index `from`. `None` if the word writes no
-/// number below 2^64, or if a word stands behind it.
+/// number below 2^64, or if it is not the last.
 #[inline(always)]
 pub fn last_number_at(text: &[u8], from: usize) -> Option<u64>
     requires { from ≤ length text.now }
@@ -157,7 +157,7 @@ const NUMBERS: usize = 5;
 
 const _: () = prove!(NUMBERS == 5);
 
-/// Puts the numbers that the words of a text write into an array. Returns the number of words. `None` if a word writes no number
+/// Writes the numbers of the words of a text into an array. Returns the number of words. `None` if a word writes no number
 /// of 64 bits, or if there are more than `NUMBERS` words. Not inlined, since the readers of all steps share it.
 #[inline(never)]
 fn find_numbers(text: &[u8], numbers: &mut [u64; NUMBERS]) -> Option<usize>
@@ -198,7 +198,7 @@ pub fn numbers_in<const N: usize>(text: &[u8], most: [u64; N]) -> Option<[u64; N
     Some(numbers)
 }
 
-/// Puts the words of a line into the array `words`, in order, and returns their number, at least 1. `None` if the line has more than 9;
+/// Writes the words of a line into the array `words`, in order, and returns their number, at least 1. `None` if the line has more than 9;
 /// then the array has the first 9. Takes no memory.
 pub fn words_in<'a>(line: &'a [u8], words: &mut [&'a [u8]; WORDS]) -> Option<usize>
     ensures found { IfSome result (λ count. (count ≤ length words.new) × (map (λ word. word.now) (take count words.new) ≡ words_of line.now)) }

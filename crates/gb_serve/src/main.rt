@@ -1,5 +1,5 @@
-//! Serves groups on sockets of this machine: reads its keys on standard input, and writes what it serves and how it ended. Why
-//! it did not serve to its end is told on standard error.
+//! Serves groups on sockets of this machine: reads its keys on standard input, and writes what it serves and how it ended. The reason why
+//! it did not serve to its end is written to standard error.
 #![tactic(auto)]
 
 use gb_serve_words::words::{asked_text, refusal_text};
@@ -12,7 +12,7 @@ use std::io::{ErrorKind, Write};
 use std::process::ExitCode;
 use std::random::RandomSource;
 
-// The words of the command line; none if they cannot be read although there is memory.
+// Returns the words of the command line. They are none if they cannot be read although there is memory.
 fn words_of(rt: &HostRuntime, alloc: Global) -> Result<Vec<String>, AllocError> {
     match std::env::args(rt) {
         Ok(words) => words.collect(alloc),
@@ -23,7 +23,7 @@ fn words_of(rt: &HostRuntime, alloc: Global) -> Result<Vec<String>, AllocError> 
     }
 }
 
-// The same, borrowed.
+// Returns the words, borrowed.
 fn texts_of(alloc: Global, words: &[String]) -> Result<Vec<&str>, AllocError> {
     let mut texts: Vec<&str> = Vec::new(alloc);
     for word in words {
@@ -32,21 +32,21 @@ fn texts_of(alloc: Global, words: &[String]) -> Result<Vec<&str>, AllocError> {
     Ok(texts)
 }
 
-// Says on standard error why words are refused.
+// Writes to standard error why words are refused.
 fn explain(rt: &HostRuntime, alloc: Global, words: &[&str]) {
     if let Ok(text) = refusal_text(alloc, words) {
         let _ = write!(rt.stderr(), "{text}");
     }
 }
 
-// Tells that there is no memory for the words. The exit status.
+// Reports that there is no memory for the words. Returns the exit status.
 fn give_up(rt: &HostRuntime) -> ExitCode {
     let outcome = Err(ServeFault::OutOfMemory);
     let _ = tell_end(&mut io::writer(rt), outcome);
     ExitCode::from(status_of(outcome))
 }
 
-// Prints what was asked for. The exit status.
+// Prints the help or the version. Returns the exit status.
 fn show(rt: &HostRuntime, text: &str) -> ExitCode {
     if tell(&mut io::writer(rt), text.as_bytes()) {
         ExitCode::from(0)
@@ -55,14 +55,14 @@ fn show(rt: &HostRuntime, text: &str) -> ExitCode {
     }
 }
 
-// Draws the number of a run. None: the system has no random number.
+// Returns a random number for a run. `None` if the system has no random number.
 fn drawn(rt: &HostRuntime) -> Option<u64> {
     let mut bytes = [0u8; 8];
     rt.fill_bytes(&mut bytes).ok()?;
     Some(u64::from_be_bytes(bytes))
 }
 
-/// Status 0: all connections were served, the server was told to end, or help was asked for; 1: a fault; 2: refused words.
+/// Returns status 0 if all connections were served, the server received `stop`, or help was asked for; 1 for a fault; 2 for refused words.
 fn main(rt: HostRuntime) -> ExitCode {
     let alloc = rt.alloc();
     let Ok(strings) = words_of(&rt, alloc) else {

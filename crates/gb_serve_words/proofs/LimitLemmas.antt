@@ -1,4 +1,4 @@
--- The values of the option `--tenant-limit`: how their texts are read, and the limits that uses give.
+-- The values of the option `--tenant-limit`: the reading of their texts, and the limits that uses give.
 use Rattle.gb_types.specs.Common.{◌≡◌, ◌≢◌, ◌∙◌, ◌+◌, ◌-◌, ◌<◌, ◌≤◌, ◌^◌, ◌↔◌, ◌++◌, ℕ, zero, suc, Bor, List, [], ◌∷◌, Option, Some, None, IfSome, AllByRecursion, ap, arith, append_assoc, append-nil, decimal, drop, get_or, get_or-append_seam, get_or-replicate, length, length-append, length-map, length-replicate, map, map-append, nil_from_length, none-some, option_map, option_map_or, option_or, refl, replicate, same_Some, slice_set, subst, sym, unwrap_or}
 use Rattle.std.proofs.lemmas.{Fmt.decimal_is_IsNumeral, List.set_at, Str.Parse.digit_at, Str.Pattern.IsSplitOnceResult, Str.Pattern.split_after, Str.Pattern.split_parts}
 use Rattle.clap.specs.Words.{Text}
@@ -9,14 +9,14 @@ use Rattle.gb_serve_words.specs.Limits.{AreRows, AreTaken, AreUses, Differ, HasL
 never : {A B : Type 0} (x : A) → None ≡ Some x → B
 never x e = absurd (none-some x e)
 
--- what reads a number before a mark, and a number alone
+-- the result of reading a number before a mark, and a number alone
 abbrev pub Reads : Option (ℕ × List ℕ) → List ℕ → ℕ → ℕ → Type 0
 Reads r text mark most = (n : ℕ) (rest : List ℕ) → (r ≡ Some (n, rest)) ↔ ((n ≤ most) × (text ≡ decimal n ++ mark ∷ rest))
 
 abbrev pub Spells : Option ℕ → List ℕ → ℕ → Type 0
 Spells r text most = (n : ℕ) → (r ≡ Some n) ↔ ((n ≤ most) × (text ≡ decimal n))
 
--- and what reads limits, and a use
+-- the result of reading limits, and a use
 abbrev pub Limited : Option TenantLimit → List ℕ → Type 0
 Limited r text = (limit : TenantLimit) → (r ≡ Some limit) ↔ (IsLimitWithin limit × (text ≡ limit_text limit))
 
@@ -65,7 +65,7 @@ marked text mark most before behind r split is small spells n rest = (forth r sp
         let cut = split_after mark text (decimal n) rest (Some (before, behind)) split is.1 h.1 (digits_differ n mark (omega (arith, below, small)) is.0) in
         ap (option_map {U = ℕ × List ℕ} (λ k. (k, behind.now))) ((spells n).1 (h.0, cut.0)) ∙ ap (λ (l : List ℕ). pair_of n l) cut.1
 
--- limits whose first number is none
+-- limits without a first number
 pub no_requests : (text : List ℕ) → Reads None text 58 MOST_RATE → Limited None text
 no_requests text first limit = (λ e. never _ e, λ h. never _ ((first limit.requests (decimal limit.bytes ++ 58 ∷ decimal limit.waits)).1 (h.0.requests, h.1)))
 
@@ -75,7 +75,7 @@ behind_requests : (text rest : List ℕ) (requests : ℕ) (limit : TenantLimit) 
 behind_requests text rest requests limit first within written =
     same_Some _ _ ((first limit.requests (decimal limit.bytes ++ 58 ∷ decimal limit.waits)).1 (within.requests, written))
 
--- limits whose second number is none
+-- limits without a second number
 pub no_bytes : (text rest : List ℕ) (requests : ℕ) → Reads (Some (requests, rest)) text 58 MOST_RATE → Reads None rest 58 MOST_RATE → Limited None text
 no_bytes text rest requests first second limit = (
   λ e. never _ e,
@@ -84,7 +84,7 @@ no_bytes text rest requests first second limit = (
       never _ ((second limit.bytes (decimal limit.waits)).1 (h.0.bytes, ap (λ (p : ℕ × List ℕ). p.1) one)),
 )
 
--- limits whose third number is none
+-- limits without a third number
 pub no_waits : (text rest last : List ℕ) (requests bytes : ℕ) → Reads (Some (requests, rest)) text 58 MOST_RATE → Reads (Some (bytes, last)) rest 58 MOST_RATE → Spells None last MOST_WAITS
     → Limited None text
 no_waits text rest last requests bytes first second third limit = (
@@ -120,7 +120,7 @@ whole_limit text rest last requests bytes waits first second third limit = (fort
         let three : waits ≡ limit.waits = same_Some _ _ ((third limit.waits).1 (h.0.waits, ap (λ (p : ℕ × List ℕ). p.1) two)) in
         λ i. Some (record { requests = (one i).0; bytes = (two i).0; waits = three i })
 
--- the first mark of a text is one
+-- the first mark of two equal texts is the same
 same_mark : (xs ys us vs : List ℕ) (a b : ℕ) → ((i : ℕ) → i < length xs → get_or xs i 0 ≢ b) → ((i : ℕ) → i < length ys → get_or ys i 0 ≢ a) → xs ++ a ∷ us ≡ ys ++ b ∷ vs → a ≡ b
 same_mark [] [] us vs a b no_b no_a e = ap (λ l. get_or l 0 0) e
 same_mark [] (y ∷ ys) us vs a b no_b no_a e = absurd (no_a 0 (omega arith) (sym (ap (λ l. get_or l 0 0) e)))
@@ -152,13 +152,13 @@ by_kind text r each named one = go one.tenant one.limit
     go None limit = (λ e. let h = (each limit).0 e in (record { tenant = tt; limit = h.0 }, h.1), λ h. (each limit).1 (h.0.limit, h.1))
     go (Some t) limit = (λ e. let h = (named t limit).0 e in (record { tenant = h.0; limit = h.1 }, h.2), λ h. (named t limit).1 (h.0.tenant, h.0.limit, h.1))
 
--- no tenant, and no limits
+-- neither a tenant nor limits
 pub no_use : (text : List ℕ) → Reads None text 61 MOST_TENANT → Limited None text → Used None text
 no_use text reads limited = by_kind text None
     (λ limit. (λ e. never _ e, λ h. never _ ((limited limit).1 h)))
     (λ tenant limit. (λ e. never _ e, λ h. never _ ((reads tenant (limit_text limit)).1 (h.0, h.2))))
 
--- no tenant, and limits
+-- limits without a tenant
 pub use_for_each : (text : List ℕ) (limit : TenantLimit) → Reads None text 61 MOST_TENANT → Limited (Some limit) text → Used (Some (record { tenant = None; limit = limit })) text
 use_for_each text made reads limited = by_kind text (Some (each_use made))
     (λ limit. (
@@ -170,7 +170,7 @@ use_for_each text made reads limited = by_kind text (Some (each_use made))
       λ h. never _ ((reads tenant (limit_text limit)).1 (h.0, h.2)),
     ))
 
--- a tenant, and no limits
+-- a tenant without limits
 pub no_limits_named : (text rest : List ℕ) (tenant : ℕ) → Reads (Some (tenant, rest)) text 61 MOST_TENANT → Limited None rest → Used None text
 no_limits_named text rest tenant reads limited =
     let read = (reads tenant rest).0 refl in

@@ -1,4 +1,4 @@
--- What a parse by a command of options alone leaves of them.
+-- The entries of the options after a parse by a command that has only options.
 use Rattle.gb_types.specs.Common.{◌≡◌, ◌∙◌, ◌<◌, ◌≤◌, ◌&&◌, ◌||◌, ℕ, Bool, zero, suc, true, false, not, List, [], ◌∷◌, map, length, Option, Some, None, is_some, IfSome, refl, sym, ap, subst, inl, inr, arith, codes, true≢false, option_map, slice_get, pos, All, list_all, list_any, slice_index_or}
 use Rattle.std.specs.{Str.bytes_eq, Borrow.Bor}
 use Rattle.std.proofs.lemmas.Slice.Eq.{bytes_eq-Decides}
@@ -19,13 +19,13 @@ abbrev pub are_distinct : List Rule → Bool
 are_distinct [] = true
 are_distinct (r ∷ rs) = not (list_any (λ s. bytes_eq r.id s.id) rs) && are_distinct rs
 
--- the command has options alone, each with an id of its own and no rule on another
+-- the command has only options, each with an id of its own and no rule about another
 abbrev pub has_own_options : App → Bool
 has_own_options a =
     a.top.is_plain
     && (not a.top.subcommand_negates_reqs && (list_all (λ r. r.is_simple && r.is_free) a.top.rules && (list_all (λ r. is_own r.id) a.top.rules && are_distinct a.top.rules)))
 
--- an argument that changes no reading and has no rule on another is plain
+-- an argument that changes no reading and has no rule about another is plain
 plain_arg : (a : Arg) → is_simple_arg a ≡ true → is_free_arg a ≡ true → IsPlainArg a
 plain_arg a simple free =
     let p = both _ _ simple in
@@ -42,7 +42,7 @@ each_plain (x ∷ xs) e zero d lt =
     plain_arg x here.0 here.1
 each_plain (x ∷ xs) e (suc k) d lt = each_plain xs (both _ _ e).1 k d (omega arith)
 
--- the rule of the argument at a place
+-- the rule of the argument at an index
 rule_at : (xs : List Arg) (k : ℕ) (d : Arg) (r : Rule) → k < length xs → rule_of (slice_index_or xs k d) ≡ slice_index_or (map rule_of xs) k r
 rule_at [] k d r lt = absurd (omega arith)
 rule_at (x ∷ xs) zero d r lt = refl
@@ -57,7 +57,7 @@ some_arg : (xs : List Arg) → 0 < length xs → Arg
 some_arg [] lt = absurd (omega arith)
 some_arg (x ∷ xs) lt = x
 
--- what holds of all rules, or of none, at a place
+-- a test that all rules pass, for the rule at an index
 at_each : (f : Rule → Bool) (rs : List Rule) (k : ℕ) (r : Rule) → list_all f rs ≡ true → k < length rs → f (slice_index_or rs k r) ≡ true
 at_each f [] k r e lt = absurd (omega arith)
 at_each f (x ∷ rs) zero r e lt = (both _ _ e).0
@@ -79,7 +79,7 @@ any_at f (x ∷ rs) (suc k) r lt e = or_true (f x) (list_any f rs) (any_at f rs 
 turned : (a b : Text) → bytes_eq a b ≡ true → bytes_eq b a ≡ true
 turned a b e = (bytes_eq-Decides b a).1 (sym ((bytes_eq-Decides a b).0 e))
 
--- two places with one id are one
+-- two indices with the same id are equal
 distinct : (rs : List Rule) (j k : ℕ) (r s : Rule) → are_distinct rs ≡ true → j < length rs → k < length rs
     → bytes_eq (slice_index_or rs j r).id (slice_index_or rs k s).id ≡ true → j ≡ k
 distinct [] j k r s ds low_j low_k e = absurd (omega arith)
@@ -219,7 +219,7 @@ module _ (a : App) (own : has_own_options a ≡ true) (c : Command) (m : ArgMatc
       | inr h ↦ no_text (codes "version") (both _ _ (both _ _ own_id).1).1 h
     ]
 
-    -- the entry of an option with this parser is what the parser takes
+    -- the entry of an option with this parser is one that the parser accepts
     entry_at : (q : ValueParser) (Q : Text → Type 0) → (slice_index_or a.top.rules k r).parser ≡ Some q
         → ((b : Bool) (word : Text) → Accepts b q word → Q (read_as (reading_of q) word))
         → IfSome (one_of (slice_index_or a.top.rules k r).id (rows_of (found_of m))) Q
@@ -240,18 +240,18 @@ module _ (a : App) (own : has_own_options a ≡ true) (c : Command) (m : ArgMatc
         subst (λ (o : Option Text). IfSome o Q) (one_text-rows (found_of m) (slice_index_or a.top.rules k r).id)
         (subst (λ (w : Text). IfSome (one_text (found_of m) w) Q) id_is entry)
 
-    -- the entry of an option with a number is one in the option's range
+    -- the entry of an option with a number is a number in the option's range
     pub number_at : (least most : ℕ) → (slice_index_or a.top.rules k r).parser ≡ Some (Signed (pos least) (pos most))
         → HasNumber least most (one_of (slice_index_or a.top.rules k r).id (rows_of (found_of m)))
     number_at least most parser =
         entry_at (Signed (pos least) (pos most)) (λ text. (word : Text) × (text ≡ without_minus word) × IsSignedIn (pos least) (pos most) word) parser
         (λ b word taken. (word, refl, taken))
 
-    -- and that of one without a value is one of its two texts
+    -- the entry of an option without a value is one of its two texts
     pub flag_at : (slice_index_or a.top.rules k r).parser ≡ Some Flag → HasFlag (one_of (slice_index_or a.top.rules k r).id (rows_of (found_of m)))
     flag_at parser = entry_at Flag (λ text. (bytes_eq text (codes "true") || bytes_eq text (codes "false")) ≡ true) parser (λ b word taken. taken)
 
-    -- and a required one with a value has a text
+    -- the entry of a required option with a value has a text
     value_at : (slice_index_or a.top.rules k r).required ≡ true → (slice_index_or a.top.rules k r).action ≡ Some Set
         → (slice_index_or a.top.rules k r).range ≡ None → is_some (first_value (found_of m) (slice_index_or (args_of c) k d).id.now) ≡ true
     value_at is_required is_set no_range =
@@ -262,14 +262,14 @@ module _ (a : App) (own : has_own_options a ≡ true) (c : Command) (m : ArgMatc
         let least : 1 ≤ least_values (slice_index_or (args_of c) k d) = subst (λ (o : Option ValueRange). 1 ≤ (unwrap_or_range o).start_inclusive) (sym range) (omega arith) in
         required_has_value c m p plain local negates k d at required set (delimiter_of (slice_index_or (args_of c) k d) simple) least (unique k d lt) named not_auto
 
-    -- as it was written
+    -- this text as it was written
     pub first_at : (slice_index_or a.top.rules k r).required ≡ true → (slice_index_or a.top.rules k r).action ≡ Some Set
         → (slice_index_or a.top.rules k r).range ≡ None → is_some (first_of (slice_index_or a.top.rules k r).id (rows_of (found_of m))) ≡ true
     first_at required set range =
         subst (λ (o : Option Text). is_some o ≡ true) (first_value-rows (found_of m) (slice_index_or a.top.rules k r).id)
         (subst (λ (w : Text). is_some (first_value (found_of m) w) ≡ true) id_is (value_at required set range))
 
-    -- and as it is read
+    -- this text as it is read
     pub some_at : (slice_index_or a.top.rules k r).required ≡ true → (slice_index_or a.top.rules k r).action ≡ Some Set
         → (slice_index_or a.top.rules k r).range ≡ None → is_some (one_of (slice_index_or a.top.rules k r).id (rows_of (found_of m))) ≡ true
     some_at required set range =

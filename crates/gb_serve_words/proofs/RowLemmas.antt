@@ -10,7 +10,7 @@ use Rattle.gb_serve_words.proofs.LimitLemmas.{Used}
 never : {A B : Type 0} (x : A) → None ≡ Some x → B
 never x e = absurd (none-some x e)
 
--- what holds of each of a list, and of its parts
+-- a property of all elements of a list, for its parts
 front : {A : Type 0} (P : A → Type 0) (xs ys : List A) → AllByRecursion P (xs ++ ys) → AllByRecursion P xs
 front P [] ys all = tt
 front P (x ∷ xs) ys all = (all.0, front P xs ys all.1)
@@ -23,7 +23,7 @@ behind : {A : Type 0} (P : A → Type 0) (xs ys : List A) → AllByRecursion P (
 behind P [] ys all = all
 behind P (x ∷ xs) ys all = behind P xs ys all.1
 
--- no use is for a tenant, or for each tenant
+-- no use is for this tenant, or for each tenant
 abbrev pub Apart : Option ℕ → List LimitUse → Type 0
 Apart tenant uses = AllByRecursion (λ other. other.tenant ≢ tenant) uses
 
@@ -31,7 +31,7 @@ Apart tenant uses = AllByRecursion (λ other. other.tenant ≢ tenant) uses
 abbrev pub NoRow : ℕ → List NamedLimit → Type 0
 NoRow tenant rows = AllByRecursion (λ row. row.tenant ≢ tenant) rows
 
--- uses that differ, and one more
+-- the list of uses that differ, with one more
 differ_push : (uses : List LimitUse) (one : LimitUse) → Differ uses → Apart one.tenant uses → Differ (uses ++ one ∷ [])
 differ_push [] one differ apart = (tt, tt)
 differ_push (u ∷ uses) one differ apart = (joined _ uses (one ∷ []) differ.0 ((λ e. apart.0 (sym e)), tt), differ_push uses one differ.1 apart.1)
@@ -108,7 +108,7 @@ fit_front uses more fit =
       few = omega (arith, few, ap length (rows_append uses more), length-append (rows_of uses) (rows_of more));
     }
 
--- the first free place, and what says that there is none
+-- the index of the first free element, and the case without one
 abbrev pub Free : List (Option NamedLimit) → ℕ → ℕ → Type 0
 Free named tenant place = (rows : List NamedLimit) (free : ℕ) → AreRows named rows free → (place ≡ length rows) × (0 < free) × NoRow tenant rows
 
@@ -131,7 +131,7 @@ free_first named rest tenant is rows free are = go rows (sym is ∙ are)
     go [] e = (refl, omega (arith, ap length e, length-replicate free no_row), tt)
     go (r ∷ rs) e = never r (ap (λ l. get_or l 0 None) e)
 
--- the row in front
+-- the first row
 first_row : (row : NamedLimit) (rest : List (Option NamedLimit)) (rows : List NamedLimit) (free : ℕ) → Some row ∷ rest ≡ map Some rows ++ replicate free None
     → (rs : List NamedLimit) × (rows ≡ row ∷ rs) × AreRows rest rs free
 first_row row rest [] free e =
@@ -156,13 +156,13 @@ full_more named rest tenant row is more rows free are some apart =
     let one = first_row row rest rows free (sym is ∙ are) in
     more one.0 free one.2 some (subst (NoRow tenant) one.1 apart).1
 
--- one more row in the first free place
+-- one more row in the first free element
 filled : (rows : List NamedLimit) (free : ℕ) (row : NamedLimit) → slice_set (map Some rows ++ replicate (suc free) None) (length rows) (Some row) ≡ map Some (rows ++ row ∷ []) ++ replicate free None
 filled rows free row =
     set_at (map Some rows) None (replicate free None) (Some row) (length rows) (length-map rows Some)
     ∙ (sym (append_assoc (map Some rows) (Some row ∷ []) (replicate free None)) ∙ ap (λ l. l ++ replicate free None) (sym (map-append Some rows (row ∷ []))))
 
--- a use for each tenant, behind uses
+-- a use for each tenant, after other uses
 pub each_use_taken : (uses : List LimitUse) (taken : Taken) (limit : TenantLimit) → AreTaken uses taken → taken.each ≡ None
     → AreTaken (uses ++ record { tenant = None; limit = limit } ∷ []) (record { each = Some limit; named = taken.named })
 each_use_taken uses taken limit are none =
@@ -181,7 +181,7 @@ pub each_use_refused : (uses : List LimitUse) (taken : Taken) (one : LimitUse) (
 each_use_refused uses taken one limit are kind some fit =
     each_taken uses limit (sym are.each ∙ some) (subst (λ (o : Option ℕ). Apart o uses) kind (differ_apart uses one fit.differ))
 
--- a use for one tenant, behind uses
+-- a use for one tenant, after other uses
 pub named_use_taken : (uses : List LimitUse) (taken : Taken) (tenant place : ℕ) (limit : TenantLimit) → AreTaken uses taken → Free taken.named tenant place
     → AreTaken (uses ++ record { tenant = Some tenant; limit = limit } ∷ [])
     (record { each = taken.each; named = slice_set taken.named place (Some (record { tenant = tenant; limit = limit })) })
@@ -217,7 +217,7 @@ named_use_refused uses taken one tenant are kind full fit =
     one_row : rows_of (one ∷ []) ≡ row_at one.limit tenant ∷ []
     one_row = ap (λ (o : Option ℕ). option_map_or (λ t. row_at one.limit t ∷ []) o []) kind
 
--- what follows where there is no value
+-- a weaker fact for the case without a value
 pub if_none : {A : Type 0} {P Q : Type 0} (r : Option A) → (P → Q) → IfNone r P → IfNone r Q
 if_none None f h = f h
 if_none (Some x) f h = tt
@@ -227,7 +227,7 @@ pub taken_all : (uses : List LimitUse) (taken : Taken) (texts : List Text) → l
 taken_all uses taken [] none are = ([], tt, subst (λ l. AreTaken l taken) (sym (append-nil uses)) are)
 taken_all uses taken (t ∷ ts) none are = absurd (omega (arith, none))
 
--- the first text says a use, and the rest follows
+-- the first text writes a use, and the rest follows
 pub taken_more : (uses : List LimitUse) (taken next last : Taken) (texts rest : List Text) (first : Text) (one : LimitUse) → texts ≡ first ∷ rest → Used (Some one) first
     → (AreTaken uses taken → AreTaken (uses ++ one ∷ []) next)
     → (AreTaken (uses ++ one ∷ []) next → (more : List LimitUse) × AreUses rest more × AreTaken ((uses ++ one ∷ []) ++ more) last)
@@ -236,7 +236,7 @@ taken_more uses taken next last texts rest first one is used step go are =
     let got = go (step are) in
     (one ∷ got.0, subst (λ l. AreUses l (one ∷ got.0)) (sym is) ((used one).0 refl, got.1), subst (λ l. AreTaken l last) (append_assoc uses (one ∷ []) got.0) got.2)
 
--- the first text says no use
+-- the first text writes no use
 pub unread : (texts rest : List Text) (first : Text) (more : List LimitUse) → texts ≡ first ∷ rest → Used None first → AreUses texts more → ⊥
 unread texts rest first more is used written = go more (subst (λ l. AreUses l more) is written)
   where
@@ -244,27 +244,27 @@ unread texts rest first more is used written = go more (subst (λ l. AreUses l m
     go [] w = w
     go (u ∷ us) w = never _ ((used u).1 w.0)
 
--- the first text says a use, and what follows it
+-- the first text writes a use, and others follow it
 same_use : (rest : List Text) (first : Text) (one : LimitUse) (more : List LimitUse) → Used (Some one) first → AreUses (first ∷ rest) more
     → (us : List LimitUse) × (more ≡ one ∷ us) × AreUses rest us
 same_use rest first one [] used written = absurd written
 same_use rest first one (u ∷ us) used written = (us, (λ i. sym (same_Some one u ((used u).1 written.0)) i ∷ us), written.1)
 
--- which has no place
+-- there is no room for the use
 pub unplaced : (uses : List LimitUse) (taken : Taken) (texts rest : List Text) (first : Text) (one : LimitUse) (more : List LimitUse) → texts ≡ first ∷ rest → Used (Some one) first
     → (IsFit (uses ++ one ∷ []) → ⊥) → AreUses texts more → IsFit (uses ++ more) → ⊥
 unplaced uses taken texts rest first one more is used refused written fit =
     let same = same_use rest first one more used (subst (λ l. AreUses l more) is written) in
     refused (fit_front (uses ++ one ∷ []) same.0 (subst IsFit (sym (append_assoc uses (one ∷ []) same.0)) (subst (λ l. IsFit (uses ++ l)) same.1 fit)))
 
--- or whose successors say none, or have none
+-- the next texts write no use, or there is no room for one
 pub unfinished : (uses : List LimitUse) (texts rest : List Text) (first : Text) (one : LimitUse) (more : List LimitUse) → texts ≡ first ∷ rest → Used (Some one) first
     → ((us : List LimitUse) → AreUses rest us → IsFit ((uses ++ one ∷ []) ++ us) → ⊥) → AreUses texts more → IsFit (uses ++ more) → ⊥
 unfinished uses texts rest first one more is used refused written fit =
     let same = same_use rest first one more used (subst (λ l. AreUses l more) is written) in
     refused same.0 same.2 (subst IsFit (sym (append_assoc uses (one ∷ []) same.0)) (subst (λ l. IsFit (uses ++ l)) same.1 fit))
 
--- what is taken is within its ranges
+-- the limits that were taken are within their ranges
 each_within : (uses : List LimitUse) → AllByRecursion IsUseWithin uses → IsLimitWithin (unwrap_or (each_of uses) no_limit)
 each_within [] all = record { requests = omega arith; bytes = omega arith; waits = omega arith }
 each_within (u ∷ uses) all = go u.tenant (each_within uses all.1)

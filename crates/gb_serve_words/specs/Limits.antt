@@ -33,7 +33,7 @@ pub record IsLimitWithin (limit : TenantLimit) : Type 0 where
   pub bytes : limit.bytes ≤ MOST_RATE
   pub waits : limit.waits ≤ MOST_WAITS
 
--- and so is the number of the tenant, if the use names one
+-- each number of a use is in its range, and so is the number of its tenant, if it names one
 pub record IsUseWithin (one : LimitUse) : Type 0 where
   pub tenant : IfSome one.tenant (λ tenant. tenant ≤ MOST_TENANT)
   pub limit : IsLimitWithin one.limit
@@ -64,7 +64,7 @@ pub record IsFit (uses : List LimitUse) : Type 0 where
   pub differ : Differ uses
   pub few : length (rows_of uses) ≤ NAMED
 
--- places with these rows, and so many free places behind them
+-- the elements are these rows, and behind them this many empty elements
 abbrev pub AreRows : List (Option NamedLimit) → List NamedLimit → ℕ → Type 0
 AreRows places rows free = places ≡ map Some rows ++ replicate free None
 
@@ -72,8 +72,8 @@ AreRows places rows free = places ≡ map Some rows ++ replicate free None
 abbrev pub no_limit : TenantLimit
 no_limit = record { requests = 0; bytes = 0; waits = 0 }
 
--- the limits that the option gives by values with these texts: each text writes a use, no two are for the same tenant, and at most 16 tenants
--- have limits of their own, which stand in the order of their uses
+-- the limits that the option gives by values with these texts: each text writes a use, no two are for the same tenant, and at most 16 tenants have
+-- limits of their own, in the order of their uses
 pub record IsLimitsOf (texts : List Text) (limits : TenantLimits) : Type 0 where
   pub uses : List LimitUse
   pub written : AreUses texts uses
@@ -94,7 +94,7 @@ pub record IsLimitsWithin (limits : TenantLimits) : Type 0 where
   pub each : IsLimitWithin limits.each
   pub named : AllByRecursion (λ row. IfSome row IsRowWithin) limits.named
 
--- uses that fit have given this so far
+-- uses that fit have given these limits so far
 pub record AreTaken (uses : List LimitUse) (taken : Taken) : Type 0 where
   pub fit : IsFit uses
   pub each : taken.each ≡ each_of uses

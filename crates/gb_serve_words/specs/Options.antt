@@ -15,7 +15,7 @@ number_rule name least most is_required = record (new_rule name) {
   required = is_required;
 }
 
--- the same with a name for its value in the help
+-- an option `--name` with one number, and a name for its value in the help
 abbrev pub named_rule : Text → ℕ → ℕ → Bool → Rule
 named_rule name least most is_required = record (number_rule name least most is_required) { value_names = 1 }
 
@@ -63,7 +63,7 @@ given rows name = option_map spelt (one_of name rows)
 abbrev pub is_set : List Row → Text → Bool
 is_set rows name = option_map_or (λ text. bytes_eq text (codes "true")) (one_of name rows) false
 
--- the address is the one that the given text writes, or none if no text was given
+-- the address is the one that the given text writes, or there is none if no text was given
 abbrev pub IsAddressOf : Option Text → Option SocketAddr → Type 0
 IsAddressOf None address = address ≡ None
 IsAddressOf (Some text) address = (a : SocketAddr) × (address ≡ Some a) × IsSocketText text a
@@ -89,7 +89,7 @@ IsLoopback address = MatchIp (socket_ip address) IsLoopbackV4 IsLoopbackV6
 abbrev pub MayReach : Bool → SocketAddr → Type 0
 MayReach is_allowed address = (is_allowed ≡ true) ⊎ IsLoopback address
 
--- no path was given for a folder, or one that has a byte
+-- no path was given for a folder, or the path is not empty
 abbrev pub names_folder : Option Text → Bool
 names_folder dir = option_map_or (λ path. not (length path == 0)) dir true
 

@@ -1,4 +1,4 @@
-//! How much tenants may ask at a node: the option `--tenant-limit`, and the limits that its uses give.
+//! The limits of tenants at a node: the option `--tenant-limit`, and the limits that its uses give.
 ghost use Rattle.std.specs.Prelude.{◌≡◌, ◌≢◌, ◌≤◌, ◌<◌, ◌++◌, ◌∷◌, [], ◌↔◌, ℕ, List, Some, false, IfSome, IfNone, decimal, length, map, option_map};
 ghost use Rattle.std.specs.List.{AllByRecursion};
 ghost use Rattle.clap.specs.Words.{found_of, rows_of, rule_of};
@@ -10,7 +10,7 @@ use clap::{Arg, ArgAction, ArgMatches};
 use gb_spelling::number::read_number;
 use std::alloc::{AllocError, Global};
 
-/// How many tenants may have limits of their own.
+/// The greatest number of tenants with limits of their own.
 pub const NAMED: usize = 16;
 
 /// The greatest limit of the requests a second, and of the bytes a second.
@@ -27,7 +27,7 @@ const _: () = prove!(NAMED == 16 && MOST_RATE == 4_000_000_000);
 
 const _: () = prove!(MOST_WAITS == 60_000 && MOST_TENANT == 65_535);
 
-/// How much a tenant may ask at a node. 0: there is no limit.
+/// The limits of a tenant's requests at a node. 0: there is no limit.
 #[derive(Clone, Copy, Debug, PartialEq, Eq)]
 pub struct TenantLimit {
     /// The requests a second, 0 to 4,000,000,000.
@@ -43,20 +43,20 @@ pub struct TenantLimit {
 pub struct NamedLimit {
     /// The number of the tenant, 0 to 65,535.
     pub tenant: u16,
-    /// How much this tenant may ask.
+    /// The limits of this tenant.
     pub limit: TenantLimit,
 }
 
-/// How much each tenant may ask at a node.
+/// The limits of each tenant at a node.
 #[derive(Clone, Copy, Debug, PartialEq, Eq)]
 pub struct TenantLimits {
-    /// How much each tenant may ask that has no limits of its own.
+    /// The limits of each tenant that has no limits of its own.
     pub each: TenantLimit,
-    /// The tenants with limits of their own, in the order of the words, and `None` behind them. None of them stands there twice.
+    /// The tenants with limits of their own, in the order of the words, and then `None`. None of them is there twice.
     pub named: [Option<NamedLimit>; NAMED],
 }
 
-/// What one use of the option `--tenant-limit` says.
+/// One use of the option `--tenant-limit`.
 #[derive(Clone, Copy, Debug, PartialEq, Eq)]
 pub struct LimitUse {
     /// The tenant that has the limits. `None`: each tenant that no other use names.
@@ -72,7 +72,7 @@ struct Taken {
     named: [Option<NamedLimit>; NAMED],
 }
 
-/// Returns the option `--tenant-limit LIMIT` of a server, which may be given several times: how much each tenant, or one tenant, may ask.
+/// Returns the option `--tenant-limit LIMIT` of a server, which may be given several times: the limits of each tenant, or of one tenant.
 pub fn limit_arg<'a>(alloc: Global) -> Arg<'a>
     ensures rule { rule_of result ≡ limit_rule }
     ensures local { result.global ≡ false }
@@ -88,7 +88,7 @@ TENANT=REQUESTS:BYTES:WAITS is for one tenant; may be given several times, for u
         )
 }
 
-// Returns the number before the first such mark of a text, and what stands behind the mark. `None` if no number up to `most` stands there.
+// Returns the number before the first `mark` of a text, and the text behind the mark. `None` if there is no number up to `most` before it.
 fn number_before<'a>(text: &'a str, mark: char, most: u64) -> Option<(u64, &'a str)>
     requires { IsMark mark }
     ensures { (n : ℕ) (rest : List ℕ) → (option_map {U = ℕ × List ℕ} (λ got. (got.0, got.1.now)) result ≡ Some (n, rest))
@@ -123,7 +123,7 @@ fn limit_of(text: &str) -> Option<TenantLimit>
     }
 }
 
-// Returns what a text says as a value of the option: `REQUESTS:BYTES:WAITS`, or this behind `TENANT=`. `None` if it is neither.
+// Returns the use that a text writes as a value of the option: `REQUESTS:BYTES:WAITS`, or this after `TENANT=`. `None` if it is neither.
 fn use_of(text: &str) -> Option<LimitUse>
     ensures { (one : LimitUse) → (result ≡ Some one) ↔ (IsUseWithin one × (text.now ≡ use_text one)) }
 {
@@ -145,7 +145,7 @@ fn use_of(text: &str) -> Option<LimitUse>
     }
 }
 
-// Returns the first place without a tenant. `None` if there is no such place, or if the tenant stands before it.
+// Returns the index of the first element without a tenant. `None` if there is no such element, or if the tenant is before it.
 fn free_place(named: &[Option<NamedLimit>], tenant: u16) -> Option<usize>
     ensures free { IfSome result (λ place. (rows : List NamedLimit) (free : ℕ) → AreRows named.now rows free
         → (place ≡ length rows) × (0 < free) × AllByRecursion (λ row. row.tenant ≢ tenant) rows) }
@@ -199,7 +199,7 @@ fn with_use(taken: Taken, one: LimitUse) -> Option<Taken>
     }
 }
 
-// Returns the limits after uses with these texts. `None` if a text says none, or if a use has no place.
+// Returns the limits after uses with these texts. `None` if a text writes none, or if there is no room for a use.
 fn with_uses(taken: Taken, texts: &[&str]) -> Option<Taken>
     ensures some { IfSome result (λ more. (uses : List LimitUse) → AreTaken uses taken
         → (behind : List LimitUse) × AreUses (map (λ text. text.now) texts.now) behind × AreTaken (uses ++ behind) more) }
@@ -217,7 +217,7 @@ fn with_uses(taken: Taken, texts: &[&str]) -> Option<Taken>
     }
 }
 
-// No limits.
+// Returns no limits.
 fn nothing_taken() -> Taken
     ensures { AreTaken [] result }
 {
@@ -246,8 +246,8 @@ pub fn limits_of(texts: &[&str]) -> Option<TenantLimits>
     }
 }
 
-/// Returns the limits that the option `--tenant-limit` has in words that `clap` took. There are no limits if it is not given. `None` if its
-/// values give none (`limits_of`).
+/// Returns the limits that the option `--tenant-limit` has in words that `clap` accepted. There are no limits if it is not given. `None` if
+/// its values give none (`limits_of`).
 pub fn limits_given(matches: &ArgMatches<'_>) -> Option<TenantLimits>
     ensures read { IfSome result (IsLimitsOf (limit_texts (rows_of (found_of matches.now)))) }
     ensures within { IfSome result IsLimitsWithin }
@@ -267,7 +267,7 @@ fn has_row(taken: &Taken, tenant: u16) -> bool {
     })
 }
 
-// Returns why a use has no place behind others.
+// Returns the reason why a use does not fit after others.
 fn place_refusal(
     alloc: Global,
     taken: &Taken,
@@ -289,8 +289,8 @@ fn place_refusal(
     )
 }
 
-/// Returns the text that says why the values of the option `--tenant-limit` give no limits. It is empty if they give some, or if the option
-/// is not given. `Err` if there is no memory.
+/// Returns the text with the reason why the values of the option `--tenant-limit` give no limits. It is empty if they give some, or if the
+/// option is not given. `Err` if there is no memory.
 pub fn limits_refusal(alloc: Global, matches: &ArgMatches<'_>) -> Result<String, AllocError> {
     let Some(texts) = matches.get_strs("tenant-limit") else {
         return Ok(String::new(alloc));

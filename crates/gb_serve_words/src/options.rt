@@ -20,7 +20,7 @@ pub const MOST_IDLE: u32 = 60_000;
 /// The most connections that a node serves at once.
 pub const MOST_CONNECTIONS: u32 = 60_000;
 
-/// The greatest limit of the messages that a connection may ask.
+/// The greatest limit of the messages that a connection may send.
 pub const MOST_REQUESTS: u32 = 4_000_000_000;
 
 /// The number of connections that a node serves at once if the words give none.
@@ -69,7 +69,7 @@ pub fn flag_arg<'a>(alloc: Global, name: &'static str) -> Arg<'a>
         .value_parser(ValueParser::Bool)
 }
 
-/// Returns the option `--sessions K` of a server, 0 to 1,000: how many connections a node serves in all. 0 is no limit.
+/// Returns the option `--sessions K` of a server, 0 to 1,000: the number of connections that a node serves in all. 0 is no limit.
 pub fn sessions_arg<'a>(alloc: Global) -> Arg<'a>
     ensures rule { rule_of result ≡ sessions_rule }
     ensures local { result.global ≡ false }
@@ -79,7 +79,7 @@ pub fn sessions_arg<'a>(alloc: Global) -> Arg<'a>
         .help("how many connections a node serves in all; 0, or not given: for ever")
 }
 
-/// Returns the option `--idle SECONDS` of a server, 0 to 60,000: after how long without a byte a connection that asked something is
+/// Returns the option `--idle SECONDS` of a server, 0 to 60,000: the time without a byte after which a connection that asked something is
 /// closed. 0 is never.
 pub fn idle_arg<'a>(alloc: Global) -> Arg<'a>
     ensures rule { rule_of result ≡ idle_rule }
@@ -92,7 +92,7 @@ pub fn idle_arg<'a>(alloc: Global) -> Arg<'a>
         )
 }
 
-/// Returns the option `--connections C` of a server, 1 to 60,000: how many connections a node serves at once.
+/// Returns the option `--connections C` of a server, 1 to 60,000: the number of connections that a node serves at once.
 pub fn connections_arg<'a>(alloc: Global) -> Arg<'a>
     ensures rule { rule_of result ≡ connections_rule }
     ensures local { result.global ≡ false }
@@ -102,7 +102,7 @@ pub fn connections_arg<'a>(alloc: Global) -> Arg<'a>
         .help("how many connections a node serves at once, one more is closed; 1,024 if not given")
 }
 
-/// Returns the option `--session-requests R` of a server, 0 to 4,000,000,000: how many messages a connection may ask. 0 is no limit.
+/// Returns the option `--session-requests R` of a server, 0 to 4,000,000,000: the number of messages that a connection may send. 0 is no limit.
 pub fn requests_arg<'a>(alloc: Global) -> Arg<'a>
     ensures rule { rule_of result ≡ requests_rule }
     ensures local { result.global ≡ false }
@@ -123,7 +123,7 @@ pub fn stop_arg<'a>(alloc: Global) -> Arg<'a>
     )
 }
 
-/// Returns the option `--status ADDR` of a server: the address where it answers requests for its status by HTTP.
+/// Returns the option `--status ADDR` of a server: the address at which it answers requests for its status by HTTP.
 pub fn status_arg<'a>(alloc: Global) -> Arg<'a>
     ensures rule { rule_of result ≡ status_rule }
     ensures local { result.global ≡ false }
@@ -141,7 +141,7 @@ pub fn quiet_arg<'a>(alloc: Global) -> Arg<'a>
     flag_arg(alloc, "quiet").help("write no log to standard error")
 }
 
-/// Returns the option `--record` of a server: what happens at a node is written to a file.
+/// Returns the option `--record` of a server: the events at a node are written to a file.
 pub fn record_arg<'a>(alloc: Global) -> Arg<'a>
     ensures rule { rule_of result ≡ flag_rule (codes "record") }
     ensures local { result.global ≡ false }
@@ -191,8 +191,8 @@ pub fn may_reach(is_allowed: bool, address: SocketAddr) -> bool
     is_allowed || address.ip().is_loopback()
 }
 
-/// Returns true if no folder is given, or if its path has a byte. Without one it would name the root of the file system, by the stroke
-/// that is put behind it.
+/// Returns true if no folder is given, or if its path is not empty. An empty path would name the root of the file system, by the slash that
+/// is appended to it.
 pub fn is_folder(dir: Option<&str>) -> bool
     ensures { result ≡ names_folder (option_map (λ path. path.now) dir.entry) }
 {
@@ -209,7 +209,7 @@ pub fn may_stand(other: bool, option: bool) -> bool
     other || !option
 }
 
-/// Returns the fault for an error of `clap`: `OutOfMemory` if it lacked memory, else `Refused`.
+/// Returns the fault for an error of `clap`: `OutOfMemory` if it lacked memory, otherwise `Refused`.
 pub fn fault_from(error: &Error) -> WordFault
     ensures refused { result ≡ WordFault.Refused → kind_of error.now ≢ ErrorKind.OutOfMemory }
     ensures memory { result ≡ WordFault.OutOfMemory → kind_of error.now ≡ ErrorKind.OutOfMemory }
@@ -223,7 +223,7 @@ pub fn fault_from(error: &Error) -> WordFault
 /// The end of the text of a refusal.
 pub static HINT: &str = "\n\nFor more information, try '--help'.\n";
 
-/// Returns the text that says why the value of the option `--status` is no address. It is empty if the option is not given, or is an
+/// Returns the text with the reason why the value of the option `--status` is no address. It is empty if the option is not given, or is an
 /// address. `Err` if there is no memory.
 pub fn status_refusal(alloc: Global, matches: &ArgMatches<'_>) -> Result<String, AllocError> {
     if status_of(matches).is_some() {
@@ -252,8 +252,8 @@ pub fn folder_refusal(alloc: Global, matches: &ArgMatches<'_>) -> Result<String,
     Ok(String::new(alloc))
 }
 
-/// Returns the text that the words of a command line ask for, which `clap` refused with this error: the help, or, if the word behind
-/// the program's name is `-V`, the program's name and version. `Ok(None)` if they ask for neither. `Err` if there is no memory.
+/// Returns the text that the words of a command line ask for, which `clap` refused with this error: the help, or, if the word after the
+/// program's name is `-V`, the program's name and version. `Ok(None)` if they ask for neither. `Err` if there is no memory.
 pub fn text_asked(
     alloc: Global,
     error: &Error,
@@ -269,7 +269,7 @@ pub fn text_asked(
     }
 }
 
-// Returns the program's name and version if the word behind the program's name is `-V`.
+// Returns the program's name and version if the word after the program's name is `-V`.
 fn version_text(
     alloc: Global,
     words: &[&str],

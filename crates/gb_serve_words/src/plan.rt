@@ -1,9 +1,9 @@
-//! What a server is told to do.
+//! The plan of a server.
 use crate::limits::TenantLimits;
 use gb_types::Version;
 use std::net::SocketAddr;
 
-/// What the words of a command line tell a server to do.
+/// The options of a server, as the words of a command line give them.
 #[derive(Clone, Copy, PartialEq, Eq)]
 pub struct ServePlan {
     /// The number of nodes: 1 to 32, and at most what the version can name.
@@ -22,9 +22,9 @@ pub struct ServePlan {
     pub idle: u16,
     /// The most connections that each node serves at once, 1 to 60,000.
     pub connections: u16,
-    /// The most messages that a connection may ask, 0 to 4,000,000,000. 0: there is no limit.
+    /// The greatest number of messages that a connection may send, 0 to 4,000,000,000. 0: there is no limit.
     pub session_requests: u32,
-    /// How much each tenant may ask at each node.
+    /// The limits of each tenant at each node.
     pub limits: TenantLimits,
     /// True: the tapes of the nodes are kept and merged at the end.
     pub tape: bool,
@@ -34,18 +34,18 @@ pub struct ServePlan {
     pub status: Option<SocketAddr>,
     /// True: no log is written.
     pub quiet: bool,
-    /// Whether what happens at each node is written to a file. Then no tapes are kept, and the words name a folder.
+    /// True: the events at each node are written to a file. Then no tapes are kept, and the words name a folder.
     pub records: bool,
-    /// Whether what is written there is on the disk before anything leaves the node.
+    /// True: the files are on the disk before anything leaves the node.
     pub sync: bool,
     /// Whether nodes that have begun in the run go on where their records end. Then the words name a run.
     pub resume: bool,
 }
 
-/// What the words of a command line name, and what they tell a server to do.
+/// The folder that the words of a command line name, and the plan that they give a server.
 #[derive(Clone, Copy)]
 pub struct ServeWords<'a> {
-    /// The path of the folder for the records, as it was written, if it was.
+    /// The path of the folder for the records, as it was written. `None` if no folder was given.
     pub dir: Option<&'a str>,
     /// The number of the run, if it was written.
     pub run: Option<u64>,

@@ -104,7 +104,7 @@ The second line of the file keys is the administrator's key, which gb_ctl wants.
 Exit status: 0 when all connections were served, or the server was ended in order, and, with --tape, its tapes were merged; 1 for a fault, 2 for \
 words that are refused.";
 
-// Returns the plan of words that `clap` took. `None` if their version does not exist or cannot name their number of nodes, if their
+// Returns the plan of words that `clap` accepted. `None` if their version does not exist or cannot name their number of nodes, if their
 // text for the status is no address, or if their texts for the limits of tenants give none.
 fn plan_of(matches: &ArgMatches<'_>) -> Option<ServePlan>
     requires { IsGiven (rows_of (found_of matches.now)) }
@@ -154,7 +154,7 @@ fn plan_of(matches: &ArgMatches<'_>) -> Option<ServePlan>
     })
 }
 
-// Returns false if a plan wants records beside tapes or without a folder.
+// Returns false if a plan wants records together with tapes or without a folder.
 fn may_record(plan: &ServePlan, has_dir: bool) -> bool
     ensures { result ≡ may_record plan.now.records plan.now.tape has_dir }
 {
@@ -229,7 +229,7 @@ pub fn read_words<'a>(alloc: Global, words: &'a [&'a str]) -> Result<ServeWords<
     }
 }
 
-// Returns why words that `clap` took are no plan. It is empty if they are one.
+// Returns the reason why words that `clap` accepted are no plan. It is empty if they are one.
 fn plan_refusal(alloc: Global, matches: &ArgMatches<'_>) -> Result<String, AllocError> {
     let nodes = matches.get_one::<u8>("nodes").unwrap_or(0);
     let byte = matches.get_one::<u8>("packet-version").unwrap_or(VERSION);
@@ -264,7 +264,7 @@ fn plan_refusal(alloc: Global, matches: &ArgMatches<'_>) -> Result<String, Alloc
     record_refusal(alloc, matches)
 }
 
-// Returns why records cannot be kept as they are wanted. It is empty if they can, or if none are wanted and the folder has a path.
+// Returns the reason why records cannot be kept as they are wanted. It is empty if they can, or if none are wanted and the folder has a path.
 fn record_refusal(alloc: Global, matches: &ArgMatches<'_>) -> Result<String, AllocError> {
     if !matches.get_flag("record") {
         return folder_refusal(alloc, matches);
@@ -282,7 +282,7 @@ fn record_refusal(alloc: Global, matches: &ArgMatches<'_>) -> Result<String, All
     folder_refusal(alloc, matches)
 }
 
-/// Returns the text that says why the words of gb_serve's command line are refused. It is empty if they are a plan. `Err` if there is
+/// Returns the text with the reason why the words of gb_serve's command line are refused. It is empty if they are a plan. `Err` if there is
 /// no memory.
 pub fn refusal_text(alloc: Global, words: &[&str]) -> Result<String, AllocError> {
     match command(alloc)?.try_get_matches_from(words) {
@@ -291,7 +291,7 @@ pub fn refusal_text(alloc: Global, words: &[&str]) -> Result<String, AllocError>
     }
 }
 
-/// Returns the text that the words of gb_serve's command line ask for: the help, or, if the word behind the program's name is `-V`, the
+/// Returns the text that the words of gb_serve's command line ask for: the help, or, if the word after the program's name is `-V`, the
 /// program's name and version. `Ok(None)` if they ask for neither. `Err` if there is no memory.
 pub fn asked_text(alloc: Global, words: &[&str]) -> Result<Option<String>, AllocError>
     ensures taken { takes serve_app (map (λ word. word.now) words.entry.now) ≡ true → IfOk result (λ text. text ≡ None) }

@@ -17,7 +17,7 @@ fresh_if p true k before (Some r) opened = (ap length opened.3, opened.4)
 fresh_if p false k before None opened = tt
 fresh_if p false k before (Some r) opened = absurd cc
 
--- what stands at the place of the next item
+-- the element at the next index is a recorder that has taken nothing
 pub fresh_at : (p : HostPlan) (here : set.FinSet nat_cmp) (n : ℕ) (pasts : List (Known TapeEntry)) (all yielded rest : List (Option RecorderValue)) (place : Option RecorderValue)
     → all ≡ yielded ++ place ∷ rest → length all ≡ n → AreOpened p here n pasts all → IfSome place IsFresh
 fresh_at p here n pasts all yielded rest place split len opened =
@@ -26,7 +26,7 @@ fresh_at p here n pasts all yielded rest place split len opened =
     let under : k < n = subst (λ m. k < m) len at.0 in
     fresh_if p (set.contains here k) k (past_at pasts k) place (subst (IsOpened p (set.contains here k) k (past_at pasts k)) (at.1 place) (opened k place under))
 
--- a list without elements
+-- a list of length 0 is empty
 pub none_of : (es : List TapeEntry) → length es ≡ 0 → es ≡ []
 none_of [] e = refl
 none_of (x ∷ es) e = absurd (omega (arith, e))

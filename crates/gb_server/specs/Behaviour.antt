@@ -5,7 +5,7 @@ use Rattle.gb_loop.specs.declared.{rates.Rate.Rate, rates.RateLimits.RateLimits,
 use Rattle.gb_serve_words.specs.declared.{limits.NamedLimit.NamedLimit, limits.TenantLimit.TenantLimit, limits.TenantLimits.TenantLimits}
 use Rattle.gb_serve_words.specs.declared.plan.ServePlan.{ServePlan}
 
--- after how many microseconds without anything sent to a node it is sent a sign of life, by the milliseconds of a tick and the ticks of silence
+-- the microseconds without a packet to a node after which it is sent a sign of life, by the milliseconds of a tick and the ticks of silence
 abbrev pub beat_of : ℕ → ℕ → ℕ
 beat_of tick silence = if nat_lt silence 8 then tick * 1000 / 2 else tick * 1000 * (silence / 8)
 
@@ -18,7 +18,7 @@ abbrev pub row_by : Option NamedLimit → Option TenantRate
 row_by None = None
 row_by (Some named) = Some (record { tenant = named.tenant; rate = rate_by named.limit })
 
--- how much each tenant may ask
+-- the rates of the tenants
 abbrev pub rates_by : TenantLimits → RateLimits
 rates_by limits = record { each = rate_by limits.each; named = map row_by limits.named }
 

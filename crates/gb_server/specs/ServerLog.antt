@@ -12,7 +12,7 @@ use Rattle.gb_server.specs.declared.signals.Why.TheVariants.{Served, Asked, Stop
 abbrev pub range_words : ℕ → ℕ → List ℕ
 range_words first count = decimal first ++ codes " to " ++ decimal (first + count - 1)
 
--- where the status is told
+-- the address at which the server reports its status, if there is one
 abbrev pub status_words : Option SocketAddr → List ℕ
 status_words (Some address) = codes ", status at http://" ++ socket_text address ++ codes "/metrics"
 status_words None = []
@@ -22,19 +22,19 @@ abbrev pub port_words : ℕ → ℕ → List ℕ
 port_words nodes base =
     (codes " nodes, packets at UDP 127.0.0.1:" ++ range_words base nodes) ++ (codes ", sessions at TCP 127.0.0.1:" ++ range_words (base + 64) nodes)
 
--- what the first line of `gb_serve` begins with: the version, how many nodes there are, and their ports
+-- the beginning of the first line of `gb_serve`: the version, the number of nodes, and their ports
 abbrev pub begin_front : List ℕ → ℕ → ℕ → List ℕ
 begin_front version nodes port = (codes "gb_serve " ++ version ++ codes ": " ++ decimal nodes) ++ port_words nodes port
 
--- the first line: what it begins with, and where the status is told
+-- the first line: its beginning, and the address of the status
 abbrev pub first_line : List ℕ → Option SocketAddr → List ℕ
 first_line front status = lined (front ++ status_words status)
 
--- what stands between the numbers of links and those of buffers
+-- the text between the numbers of links and those of buffers
 unfoldable pub own_words : List ℕ
 own_words = codes " links have an own socket, each receive buffer has "
 
--- the second line: how many links between nodes have an own socket, and what the system keeps at a socket of what was asked for
+-- the second line: how many links between nodes have an own socket, and how many of the wanted bytes the system buffers at a socket
 abbrev pub sockets_line_of : List ℕ → PortSockets → List ℕ
 sockets_line_of name sockets =
     lined (name ++ codes ": " ++ decimal sockets.own ++ codes " of " ++ decimal sockets.others ++ own_words ++ decimal sockets.buffer ++ codes " of " ++ decimal BUFFER ++ codes " bytes")
@@ -54,6 +54,6 @@ end_words Unwritten = codes "a line could not be written to standard output"
 end_words Unrecorded = codes "a record could not be written"
 end_words Lost = codes "a record lacks its last lines"
 
--- the line that tells it, behind the name of the program
+-- the line with the reason, behind the name of the program
 abbrev pub end_line_of : List ℕ → Why → List ℕ
 end_line_of name why = lined (name ++ codes ": ends: " ++ end_words why)

@@ -1,8 +1,8 @@
-//! What a server's main thread does itself, beside the threads that it starts: unlike them, it can be said what it leaves in what it
-//! was lent.
+//! Work that a server's main thread does itself, beside the threads that it starts. Unlike theirs, its effect on the values that it
+//! was lent can be stated.
 ghost use Rattle.std.specs.Prelude.{◌≡◌};
 
-/// Work that is done once, with what it may be given and what it makes of that.
+/// Work that is done once, with the conditions under which it may be done, and its results.
 pub trait Task {
     type Output;
 
@@ -10,7 +10,7 @@ pub trait Task {
 
     ghost run_gives: { Self → Self.Output → Type 0 };
 
-    /// Does the work, once, and ends it. Returns what the work makes, as the implementation's `run_gives` says.
+    /// Does the work, once, and ends it. Returns its result, as the implementation's `run_gives` says.
     fn run(self) -> Self::Output
         requires { can_run self }
         ensures { run_gives self result };

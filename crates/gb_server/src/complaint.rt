@@ -1,4 +1,4 @@
-//! What a server tells on standard error of why it did not serve to its end.
+//! The line on standard error with the reason why a server did not serve to its end.
 ghost use Rattle.std.specs.Prelude.{◌≡◌, ◌++◌, true, OnOk, IfOk, decimal};
 ghost use Rattle.std.specs.{Io.KnownBytes.Appends, Net.Text.socket_text};
 ghost use Rattle.gb_server.specs.Complaint.{audit_words, complaint, fault_words, key_words, record_words};
@@ -45,7 +45,7 @@ pub(crate) fn put_two(
     put_bytes(text, back)
 }
 
-// Appends how many characters a line has that is to have 64.
+// Appends the number of characters of a key line that should have 64.
 fn put_count(text: &mut Vec<u8>, line: u8, count: u8) -> Result<(), OutOfMemory>
     ensures { OnOk result (text.new.items ≡ text.old.items ++ key_words (KeyFault.Short line count)) }
 {
@@ -60,7 +60,7 @@ fn put_count(text: &mut Vec<u8>, line: u8, count: u8) -> Result<(), OutOfMemory>
     )
 }
 
-// Appends which character of a line is no digit.
+// Appends the position of the character of a key line that is no digit.
 fn put_place(text: &mut Vec<u8>, line: u8, place: u8) -> Result<(), OutOfMemory>
     ensures { OnOk result (text.new.items ≡ text.old.items ++ key_words (KeyFault.Digit line place)) }
 {
@@ -75,7 +75,7 @@ fn put_place(text: &mut Vec<u8>, line: u8, place: u8) -> Result<(), OutOfMemory>
     )
 }
 
-// Appends why standard input gave no keys.
+// Appends the reason why standard input gave no keys.
 fn put_key_words(text: &mut Vec<u8>, why: KeyFault) -> Result<(), OutOfMemory>
     ensures { OnOk result (text.new.items ≡ text.old.items ++ key_words why) }
 {
@@ -93,7 +93,7 @@ fn put_key_words(text: &mut Vec<u8>, why: KeyFault) -> Result<(), OutOfMemory>
     }
 }
 
-// Why tapes were not merged.
+// Returns the reason why tapes were not merged.
 fn audit_words(fault: AuditFault) -> &'static [u8]
     ensures { result.now ≡ audit_words fault }
 {
@@ -106,7 +106,7 @@ fn audit_words(fault: AuditFault) -> &'static [u8]
     }
 }
 
-// Returns what became of a record.
+// Returns the reason why a record is not there or not whole.
 fn record_words(trouble: RecordTrouble) -> &'static [u8]
     ensures { result.now ≡ record_words trouble }
 {
@@ -121,7 +121,7 @@ fn record_words(trouble: RecordTrouble) -> &'static [u8]
     }
 }
 
-// Appends that keys are bad, and why.
+// Appends that keys are bad, and the reason.
 fn put_bad_keys(text: &mut Vec<u8>, why: KeyFault) -> Result<(), OutOfMemory>
     ensures { OnOk result (text.new.items ≡ text.old.items ++ fault_words (ServeFault.BadKeys why)) }
 {
@@ -144,7 +144,7 @@ fn put_with_address(
     put_bytes(text, back)
 }
 
-// Appends which port could not be bound.
+// Appends the port that could not be bound.
 fn put_port(text: &mut Vec<u8>, port: PortName) -> Result<(), OutOfMemory>
     ensures { OnOk result (text.new.items ≡ text.old.items ++ fault_words (ServeFault.Port port)) }
 {
@@ -170,7 +170,7 @@ fn put_port(text: &mut Vec<u8>, port: PortName) -> Result<(), OutOfMemory>
     }
 }
 
-// Appends why a server did not serve to its end.
+// Appends the reason why a server did not serve to its end.
 fn put_fault_words(text: &mut Vec<u8>, fault: ServeFault) -> Result<(), OutOfMemory>
     ensures { OnOk result (text.new.items ≡ text.old.items ++ fault_words fault) }
 {
@@ -199,7 +199,7 @@ fn put_fault_words(text: &mut Vec<u8>, fault: ServeFault) -> Result<(), OutOfMem
     }
 }
 
-// The line of a fault, behind the name of the program.
+// Returns the line of a fault, behind the name of the program.
 fn complaint(alloc: Global, name: &[u8], fault: ServeFault) -> Result<Vec<u8>, OutOfMemory>
     ensures { IfOk result (λ line. line.items ≡ complaint name.now fault) }
 {
@@ -211,8 +211,8 @@ fn complaint(alloc: Global, name: &[u8], fault: ServeFault) -> Result<Vec<u8>, O
     Ok(line)
 }
 
-/// Writes to `writer` one line, which tells why a server did not serve to its end, behind `name`, the name of the program. Returns true
-/// if it was written and flushed. False if it could not be, or there was no memory for it.
+/// Writes one line to `writer` with the reason why a server did not serve to its end, behind `name`, the name of the program. Returns true
+/// if it was written and flushed. Returns false if it could not be, or there was no memory for it.
 pub fn complain<W: Write>(alloc: Global, name: &[u8], fault: ServeFault, writer: &mut W) -> bool
     ensures { result ≡ true → Appends (W.contents writer.old) (W.contents writer.new) (complaint name.now fault) }
 {

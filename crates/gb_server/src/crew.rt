@@ -1,4 +1,4 @@
-//! The threads of a server: they are made, and waited for until they have ended.
+//! The threads of a server: the server makes them, and waits until they have ended.
 use crate::beside::{Lent, Task, take_back};
 use crate::given::{Given, Server};
 use crate::recorded::{LeftLog, take_log};
@@ -16,7 +16,7 @@ use std::thread;
 use std::thread::{JoinHandle, SpawnError, Threads};
 use std::time::Clock;
 
-/// Adds a thread of a server that was started to `threads`. If it could not be started, or there is no memory to keep it, sets the
+/// Adds a thread of a server to `threads`, if it was started. If it could not be started, or there is no memory to keep it, sets the
 /// signal that the server has failed, which ends it.
 pub fn keep<T: Drop, F: Drop>(
     threads: &mut Vec<JoinHandle<T>>,
@@ -33,14 +33,14 @@ pub fn keep<T: Drop, F: Drop>(
     }
 }
 
-/// What is left of a server whose loops have ended: its seats, and what its nodes recorded by.
+/// The remains of a server whose loops have ended: its seats, and the logs of its nodes that keep records.
 #[derive(Drop)]
 pub struct Held<L: Tapes> {
     pub seats: Vec<Seat<L>>,
     pub logs: Vec<LeftLog<L>>,
 }
 
-// Waits until these threads have ended, and takes back what is left of their nodes.
+// Waits until these threads have ended, and takes the seats and logs of their nodes back.
 fn join_all<L: Tapes, H: Threads>(
     rt: &H,
     threads: Vec<JoinHandle<LeftNode<L>>>,
@@ -62,7 +62,7 @@ fn join_desk<H: Threads>(rt: &H, threads: Vec<JoinHandle<()>>) {
     }
 }
 
-// As `hold_beside`, which lends what this thread does.
+// Does the work of `hold_beside`, whose `beside` is lent to it.
 fn hold<
     L: Tapes + Send + Sync,
     H: Net<Listener = TcpListener, Stream = TcpStream> + Threads + Wait + Clock + Sync,
@@ -133,9 +133,9 @@ fn hold<
 
 /// Runs the threads of a server until the signals say that it is over, and calls `beside` in this thread meanwhile. There is a thread
 /// for each node's loop, with a seat and, if the host's nodes have recorders, the node's log; and one for the desk, which writes the
-/// log and tells the status. Returns the seats and logs that are left of the nodes, and what `beside` returned. The former is `Err`
-/// with `OutOfMemory` if a loop could not begin or a thread could not be made. The signals say the latter before `beside` is called,
-/// and no connection was served then.
+/// log and answers requests for the status. Returns the seats and logs of the nodes, and the result of `beside`. The former is `Err`
+/// with `OutOfMemory` if a loop could not begin or a thread could not be made. If a thread could not be made, the signals have failed
+/// before `beside` is called, and no connection was served then.
 pub fn hold_beside<
     L: Tapes + Send + Sync,
     H: Net<Listener = TcpListener, Stream = TcpStream> + Threads + Wait + Clock + Sync,

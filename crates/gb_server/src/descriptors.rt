@@ -1,4 +1,4 @@
-//! How many connections the descriptors of the process allow, and whether they are enough for its nodes.
+//! The number of connections that the descriptors of the process allow, and whether they are enough for its nodes.
 ghost use Rattle.std.specs.Prelude.{◌≡◌, ◌≤◌, ◌<◌, ◌+◌, ◌*◌, ◌↔◌, IsTrue, IfErr, OnOk};
 ghost use Rattle.gb_server.specs.Descriptors.{descriptors_needed};
 
@@ -6,10 +6,10 @@ use crate::fault::ServeFault;
 use libc::types::rlimit;
 use libc::{RLIMIT_NOFILE, getrlimit};
 
-/// How many descriptors a server holds that belong to no node: standard input, output and error, and some to spare.
+/// The number of descriptors of a server that belong to no node: standard input, output and error, and some to spare.
 pub const SPARE: u64 = 16;
 
-/// How many descriptors a node's loop holds beside its connections: its two sockets, the one that it waits at, a connection that is
+/// The number of descriptors of a node's loop beside its connections: its two sockets, the one that it waits at, a connection that is
 /// closed as soon as it is accepted, and two that are kept for administrators.
 pub const BESIDE: u64 = 6;
 
@@ -32,13 +32,13 @@ pub fn connections_of(wanted: u64, nodes: u8, descriptors: u64) -> u64
     room.min(wanted).max(1)
 }
 
-/// How many connections each node keeps at least where each other node has an own socket for its packets.
+/// The least number of connections that each node keeps if each other node has an own socket for its packets.
 pub const LEAST: u64 = 16;
 
 const _: () = prove!(LEAST == 16);
 
-/// Returns true if each of `nodes` nodes of a process may have an own socket for each other one, beside what it holds otherwise and 16
-/// connections, where the process may hold this number of descriptors.
+/// Returns true if each of `nodes` nodes of a process may have an own socket for each other one, beside its other descriptors and 16
+/// connections, if the process may hold this number of descriptors.
 pub fn may_part(nodes: u8, descriptors: u64) -> bool
     ensures { IsTrue result ↔ (16 + (22 + nodes) * nodes ≤ descriptors) }
 {
@@ -46,7 +46,7 @@ pub fn may_part(nodes: u8, descriptors: u64) -> bool
     SPARE + (BESIDE + LEAST + nodes) * nodes <= descriptors
 }
 
-/// Returns the descriptors that a server of `nodes` nodes holds at least: 16 that belong to no node, and for each node 6 beside its
+/// Returns the least number of descriptors of a server of `nodes` nodes: 16 that belong to no node, and for each node 6 beside its
 /// connections, one connection, and the file of its record if `are_recorded`.
 pub fn descriptors_needed(nodes: u8, are_recorded: bool) -> u64
     ensures { result ≡ descriptors_needed nodes are_recorded }
@@ -55,8 +55,8 @@ pub fn descriptors_needed(nodes: u8, are_recorded: bool) -> u64
     SPARE + each * u64::from(nodes)
 }
 
-/// Returns whether a process that may hold `limit` descriptors may serve this number of nodes. `Err` with `Descriptors`, the number that
-/// they need and the limit, if it has too few.
+/// Returns `Ok` if a process that may hold `limit` descriptors may serve this number of nodes. `Err` with `Descriptors`, the number that
+/// they need and the limit, if the limit is too low.
 pub fn allow_nodes(limit: u64, nodes: u8, are_recorded: bool) -> Result<(), ServeFault>
     ensures ok { OnOk result (descriptors_needed nodes are_recorded ≤ limit) }
     ensures refused { IfErr result (λ fault. (fault ≡ ServeFault.Descriptors (descriptors_needed nodes are_recorded) limit)
@@ -69,7 +69,7 @@ pub fn allow_nodes(limit: u64, nodes: u8, are_recorded: bool) -> Result<(), Serv
     Ok(())
 }
 
-/// Asks the system, and returns the number of descriptors that the process may hold at once. It is 2^64 - 1 if the system does not say
+/// Asks the system, and returns the number of descriptors that the process may hold at once. It is 2^64 - 1 if the system does not answer
 /// or sets no limit.
 pub fn descriptor_limit() -> u64 {
     let mut limit = rlimit {

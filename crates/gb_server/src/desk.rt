@@ -1,4 +1,4 @@
-//! What a server tells of itself while it serves: its log, and its status to who asks for it.
+//! The reports of a server while it serves: its log, and its status, for those who ask for it.
 use crate::server_log::ServerLog;
 use crate::signals::Signals;
 use crate::status::StatusServer;
@@ -6,7 +6,7 @@ use gb_loop::Ending;
 use std::io::Write;
 use std::time::Clock;
 
-/// A log with its first two lines, and who answers requests for the status, if anybody does.
+/// A log with its first two lines, and the server of requests for the status, if there is one.
 #[derive(Drop)]
 pub struct Desk {
     pub log: ServerLog,
@@ -20,8 +20,8 @@ impl Desk {
         self.log.begin(&self.first, errors);
     }
 
-    /// Writes to `errors` what is new for the server's log, unless it is quiet, and answers each client that asks for the status, as
-    /// far as it can now. Waits for nobody.
+    /// Writes the news for the server's log to `errors`, unless the log is quiet. Answers each client that asks for the status, as
+    /// far as it can now. Waits for nothing.
     pub fn look<H: Clock, E: Write>(&mut self, rt: &H, signals: &Signals, errors: &mut E) {
         self.log.look(signals, errors);
         if let Some(status) = self.status.as_mut() {

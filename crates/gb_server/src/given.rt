@@ -1,4 +1,4 @@
-//! What a server is given: what was opened for it, what each of its nodes has of its own, and what all its threads share.
+//! The parts that a server gets: those that were opened for it, those of each node, and those that all its threads share.
 use crate::record_file::RecordFile;
 use crate::recorded::NodeLog;
 use crate::signals::Signals;
@@ -7,18 +7,18 @@ use crate::status::StatusSource;
 use gb_host::{Host, Seat, Tapes};
 use gb_loop::LoopOptions;
 
-/// What was opened for a server before its host is made.
+/// The files and sockets that were opened for a server before its host is made.
 #[derive(Drop)]
 pub struct Opened {
     /// The sockets of each node, in the order of the nodes.
     pub sockets: Vec<Sockets>,
-    /// The file of each node's record, in the order of the nodes. None if no records are kept.
+    /// The file of each node's record, in the order of the nodes. It is empty if no records are kept.
     pub files: Vec<RecordFile>,
-    /// Where its status is asked for, if it may be.
+    /// The source of its status, if it answers requests for it.
     pub status: Option<StatusSource>,
 }
 
-/// What a server is given: for each node a seat and its sockets, and what it records by, if it does.
+/// The parts of each node of a server: a seat and sockets for each, and the logs of those that keep records.
 #[derive(Drop)]
 pub struct Given<L: Tapes> {
     pub seats: Vec<Seat<L>>,
@@ -26,13 +26,13 @@ pub struct Given<L: Tapes> {
     pub logs: Vec<NodeLog<L>>,
 }
 
-/// What the threads of a server share.
+/// The values that the threads of a server share.
 #[derive(Drop)]
 pub struct Server<'a, L: Tapes> {
     /// The host of its nodes.
     pub host: &'a Host<L>,
-    /// How the loops of its nodes behave.
+    /// The options of the loops of its nodes.
     pub options: LoopOptions,
-    /// What its threads tell one another.
+    /// The signals between its threads.
     pub signals: Signals,
 }

@@ -1,25 +1,25 @@
-//! Standard input, whose bytes come at their own time.
+//! Standard input, whose bytes come at any time.
 use libc::STDIN_FILENO;
 use libc::net::{POLLIN, poll};
 use libc::types::pollfd;
 use std::io;
 use std::io::Read;
 
-/// Bytes that come at their own time.
+/// A reader whose bytes come at any time.
 pub trait Input: Read {
     /// Waits for at most this number of milliseconds until a read would not wait. Returns true if there is something to read or the
-    /// input has ended. False if a read would still wait.
+    /// input has ended. Returns false if a read would still wait.
     fn is_ready(&self, millis: u16) -> bool;
 }
 
-// All bytes are there.
+// All bytes are there, so a read never waits.
 impl Input for &[u8] {
     fn is_ready(&self, _millis: u16) -> bool {
         true
     }
 }
 
-/// The standard input of the process, and what reads it.
+/// The standard input of the process, with the reader of its bytes.
 #[derive(Drop)]
 pub struct StandardInput<R> {
     pub reader: R,

@@ -1,4 +1,4 @@
-//! Heeding the lines of standard input behind the keys, beside the threads of a server.
+//! Reading the lines of standard input behind the keys, beside the threads of a server.
 ghost use Rattle.std.specs.Prelude.{◌<◌, ℕ, List, length};
 ghost use Rattle.std.specs.Io.KnownBytes.{Consumes};
 
@@ -12,19 +12,19 @@ use std::sync::Wait;
 use std::thread;
 use std::time::{Clock, Duration};
 
-// How long standard input is waited for before the server is looked at again, in milliseconds.
+// The longest wait for standard input before the server looks at its signals again, in milliseconds.
 const LOOK: u16 = 50;
 
 const _: () = prove!(LOOK == 50);
 
-// How far standard input was read: how much of a line is filled, and whether more may come.
+// The state of reading standard input: how much of a line is filled, and whether more may come.
 #[derive(Clone, Copy)]
 struct Place {
     filled: usize,
     is_open: bool,
 }
 
-// Waits a moment for standard input, and reads a byte of it where there is one.
+// Waits a moment for standard input, and reads a byte of it if there is one. Returns the state after it.
 fn heed_once<H: Clock, R: Input>(
     rt: &H,
     signals: &Signals,

@@ -1,4 +1,4 @@
-//! How much tenants may ask, from the words of a command line to the loops.
+//! The rates of the tenants, from the words of a command line to the loops.
 ghost use Rattle.std.specs.Prelude.{◌≡◌, map};
 ghost use Rattle.gb_server.specs.Behaviour.{rate_by, rates_by, row_by};
 
@@ -42,7 +42,7 @@ fn rows_by(named: &[Option<NamedLimit>; NAMED]) -> [Option<TenantRate>; NAMED]
     rows
 }
 
-/// Returns how much each tenant may ask at a node, as the words of a command line say.
+/// Returns the rates of the tenants at a node, from the words of a command line.
 pub fn rates_by(limits: TenantLimits) -> RateLimits
     ensures { result ≡ rates_by limits }
 {

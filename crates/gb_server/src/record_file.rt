@@ -18,7 +18,7 @@ use std::io::{ErrorKind, Write};
 use std::os::unix::fs::{DirBuilderExt, OpenOptionsExt};
 use std::{fs, io, str};
 
-/// What became of a record.
+/// The reason why a record is not there or not whole.
 #[derive(Clone, Copy, Debug, PartialEq, Eq)]
 pub enum RecordTrouble {
     /// It was there before, or another process has it: the node has begun in this run.
@@ -31,7 +31,7 @@ pub enum RecordTrouble {
     Lost,
 }
 
-/// Why there are no records.
+/// The reason why there are no records.
 #[derive(Clone, Copy, Debug, PartialEq, Eq)]
 pub enum RecordFault {
     Trouble(RecordTrouble),
@@ -44,14 +44,14 @@ impl From<OutOfMemory> for RecordFault {
     }
 }
 
-/// Where records are kept, and how.
+/// The folder of the records, their run, and how they are written.
 #[derive(Clone, Copy)]
 pub struct RecordPlace<'a> {
     /// The path of the folder.
     pub dir: &'a str,
     /// The number of the run.
     pub run: u64,
-    /// What was written is on the disk before the flush returns.
+    /// If true, a flush returns only when the written bytes are on the disk.
     pub syncs: bool,
     /// The identifier of the system's boot. `None` if the system does not tell it.
     pub boot: Option<[u8; 16]>,
@@ -75,7 +75,7 @@ pub struct RecordFile {
     pub node: NodeId,
     file: File,
     syncs: bool,
-    // Something was written since it was last seen that all is on the disk.
+    // True if bytes were written since all bytes were last known to be on the disk.
     is_dirty: bool,
 }
 
@@ -94,7 +94,7 @@ impl Write for RecordFile {
     }
 }
 
-/// The file of a record, whose length is noted on a board.
+/// The file of a record, which stores its length on a board.
 #[derive(Drop)]
 pub struct CountedFile<'a> {
     file: RecordFile,
@@ -103,7 +103,7 @@ pub struct CountedFile<'a> {
 }
 
 impl<'a> CountedFile<'a> {
-    /// Returns this file of a record, to which nothing was written yet by what is noted on the board.
+    /// Returns this file of a record with a board, on which it stores the length 0.
     pub fn new(file: RecordFile, board: &'a Board) -> CountedFile<'a> {
         board.put_record(file.node, 0);
         CountedFile {
@@ -113,7 +113,7 @@ impl<'a> CountedFile<'a> {
         }
     }
 
-    /// Returns the file of the record.
+    /// Returns the file of the record, without the board.
     pub fn into_file(self) -> RecordFile {
         let CountedFile {
             file,
@@ -144,7 +144,7 @@ pub fn make_folder<F: Files>(files: &F, dir: &str) {
     let _ = builder.create(files, dir);
 }
 
-// Makes a file that was not there, which its owner alone may read.
+// Makes and returns a file that was not there, which its owner alone may read.
 fn make<F: Files<File = File>>(files: &F, name: &str) -> Result<File, RecordTrouble> {
     let mut options = OpenOptions::new();
     options.write(true).create_new(true).mode(0o600);
@@ -274,7 +274,7 @@ pub fn remove_record<F: Files<File = File>>(
     }
 }
 
-/// Sees that the names in a folder are on the disk. A system that does not do so for folders is passed over.
+/// Waits until the names in a folder are on the disk. Does nothing if the system cannot do so for folders.
 pub fn settle_folder<F: Files>(files: &F, dir: &str) {
     if let Ok(folder) = OpenOptions::new().read(true).open(files, dir) {
         let _ = folder.sync_all();

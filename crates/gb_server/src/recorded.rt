@@ -1,4 +1,4 @@
-//! What the loop of a node records by, which is its log (a recorder and a file), and what is left of it.
+//! The log of a node that keeps a record, which is a recorder and a file, and the remains of the log at its end.
 ghost use Rattle.std.specs.Prelude.{◌≡◌, List, [], false, IfSome, length, vec_len};
 ghost use Rattle.gb_past.specs.Story.{Known};
 ghost use Rattle.gb_host.specs.Common.{AreOpened, TapeEntry};
@@ -23,7 +23,7 @@ pub struct NodeLog<L: Tapes> {
 }
 
 impl<L: Tapes> NodeLog<L> {
-    /// Takes a node's log apart: returns its recorder, which has taken nothing, and the file of its record.
+    /// Consumes a node's log, and returns its recorder, which has taken nothing, and the file of its record.
     #[tactic(auto, using(crate::proofs::RecordedLemmas::none_of))]
     pub fn into_parts(self) -> (Recorder<L>, RecordFile)
         ensures { (result.0.entries ≡ []) × (result.0.is_whole ≡ false) }
@@ -33,14 +33,14 @@ impl<L: Tapes> NodeLog<L> {
     }
 }
 
-/// What is left of them when the node's loop has ended.
+/// The recorder and the file of a node whose loop has ended.
 #[derive(Drop)]
 pub struct LeftLog<L: Tapes> {
     pub recorder: Recorder<L>,
     pub file: RecordFile,
 }
 
-/// Keeps what happens at a node in its record. Once that cannot be written the server ends.
+/// Writes the events at a node to its record. If that fails, the server ends.
 #[derive(Drop)]
 pub struct Settling<'a, 'b, R: RecordName, L: Tapes, W: Write> {
     pub record: &'a SharedRecording<R, L, W>,
@@ -57,7 +57,7 @@ impl<R: RecordName, L: Tapes, W: Write> Settle for Settling<'_, '_, R, L, W> {
     }
 }
 
-// Takes the first of these files.
+// Removes and returns the first of these files. `None` if there is none.
 fn next_file(files: &mut Vec<RecordFile>) -> Option<RecordFile> {
     if files.is_empty() {
         None
@@ -66,7 +66,7 @@ fn next_file(files: &mut Vec<RecordFile>) -> Option<RecordFile> {
     }
 }
 
-// Returns a recorder that has taken nothing with the next file. `None` if there is no recorder or no file, or it is another node's.
+// Returns a recorder that has taken nothing with the next file. `None` without a recorder or a file, or if the file is another node's.
 fn log_of<L: Tapes>(place: Option<Recorder<L>>, files: &mut Vec<RecordFile>) -> Option<NodeLog<L>>
     requires { IfSome place (λ recorder. (length recorder.entries ≡ 0) × (recorder.is_whole ≡ false)) }
 {
@@ -106,7 +106,7 @@ pub fn take_log<L: Tapes>(logs: &mut Vec<NodeLog<L>>, node: NodeId) -> Option<No
     Some(logs.swap_remove(at))
 }
 
-// Writes what a recorder still has. Returns true if the record is whole.
+// Writes the entries that a recorder still has, and the end of the record. Returns true if the record is whole.
 fn end_log<L: Tapes>(alloc: Global, log: LeftLog<L>) -> bool {
     let LeftLog {
         mut recorder,
@@ -115,8 +115,8 @@ fn end_log<L: Tapes>(alloc: Global, log: LeftLog<L>) -> bool {
     write_rest(alloc, &mut recorder, &mut file).is_ok() && recorder.into_past().is_some()
 }
 
-/// Gives up a host, and writes to the files what its recorders still have, and the ends of their records. Returns true if all records
-/// are whole. False if one could not be written to its end.
+/// Ends a host, and writes to the files the entries that its recorders still have, and the ends of their records. Returns true if all
+/// records are whole. Returns false if one could not be written to its end.
 pub fn end_records<L: Tapes, H: Wait>(
     rt: &H,
     alloc: Global,

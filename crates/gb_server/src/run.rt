@@ -1,4 +1,4 @@
-//! The threads of a server from their start to their end, and what stands beside them.
+//! The threads of a server from their start to their end, and the work beside them.
 ghost use Rattle.std.specs.Prelude.{◌≡◌, ℕ, List, OnOk};
 ghost use Rattle.std.specs.Io.KnownBytes.{Appends, Consumes};
 
@@ -24,12 +24,12 @@ use std::sync::Wait;
 use std::thread::Threads;
 use std::time::Clock;
 
-/// Why a server did not run to its end.
+/// The reason why a server did not run to its end.
 #[derive(Clone, Copy, Debug, PartialEq, Eq)]
 pub enum RunFault {
     /// A request for memory was refused, a thread could not be made, or sockets could not be waited for.
     OutOfMemory,
-    /// The line that tells what is served could not be written.
+    /// The first line of the server could not be written.
     Write,
     /// A record could not be written.
     Unrecorded,
@@ -48,27 +48,27 @@ impl From<OutOfMemory> for RunFault {
     }
 }
 
-/// What a server of some nodes is told, beside how its loops behave.
+/// The settings of a server of some nodes, beside the options of its loops.
 #[derive(Drop)]
 pub struct Service {
     /// The name of the program, with which each line of the log begins.
     pub name: &'static [u8],
-    /// The number of the first node, and how many there are.
+    /// The number of the first node, and the number of nodes.
     pub first: NodeId,
     pub nodes: u8,
-    /// The line for standard output that tells what is served.
+    /// The first line for standard output.
     pub line: Vec<u8>,
-    /// What the first line of the log begins with.
+    /// The beginning of the first line of the log.
     pub front: Vec<u8>,
     /// The lines of the log behind the first ones that tell where nodes go on.
     pub resumed: Vec<u8>,
     /// Whether the server ends in order when standard input ends.
     pub stops_at_end: bool,
-    /// Whether no log is written.
+    /// True if no log is written.
     pub is_quiet: bool,
 }
 
-// Returns what a server says of itself: its log, and its status, if there is a source of it.
+// Returns the desk of a server: its log, and the server of its status, if there is a source of it.
 fn desk_of<H: Clock>(
     rt: &H,
     alloc: Global,

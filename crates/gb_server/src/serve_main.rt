@@ -50,7 +50,7 @@ const ROOM: u16 = 16_345;
 
 const _: () = prove!(ROOM == 16_345);
 
-// The host of a plan in a run. Each node sends the version of the plan.
+// Returns the host of a plan in a run. Each node sends the version of the plan.
 fn host_plan(plan: ServePlan, keys: Keys, run: u64) -> HostPlan
     ensures is { result ≡ host_of plan keys run }
     ensures limits { IsWithin plan → IsPlan result }
@@ -78,15 +78,15 @@ fn host_plan(plan: ServePlan, keys: Keys, run: u64) -> HostPlan
 // The name of the program.
 const NAME: &[u8] = b"gb_serve";
 
-/// Within what time a message comes whole, in microseconds: while nothing was admitted of a connection, and later.
+/// The time within which a message must be whole, in microseconds, while nothing was admitted of a connection. `LATER` is the time after that.
 pub const FIRST: u64 = 10_000_000;
 
 pub const LATER: u64 = 60_000_000;
 
 const _: () = prove!(FIRST == 10_000_000 && LATER == 60_000_000);
 
-/// Returns two times in microseconds. The first is that between two ticks; `tick` is in milliseconds. The second is how long nothing
-/// may be sent to a node before it is sent a sign of life: an eighth of `silence` ticks, rounded down to ticks, or half a tick if
+/// Returns two times in microseconds. The first is the time between two ticks; `tick` is in milliseconds. The second is the time without
+/// a packet to a node after which it is sent a sign of life: an eighth of `silence` ticks, rounded down to ticks, or half a tick if
 /// `silence` is below 8. After `silence` ticks without a packet a node is held for crashed (noticed as crashed).
 pub fn beats_of(tick: u16, silence: u16) -> (u64, u64)
     ensures tick { result.0 ≡ tick * 1000 }
@@ -150,7 +150,7 @@ fn service_of(
     })
 }
 
-// Serves on sockets that are bound.
+// Serves on sockets that are bound. Returns how the server ended.
 fn serve_host<
     L: Tapes + Send + Sync,
     H: Net<Listener = TcpListener, Stream = TcpStream> + Threads + Wait + Clock + Sync + Files,
@@ -270,7 +270,7 @@ fn begin_nodes<F: Files<File = File> + Clock>(
     begin_from(rt, alloc, plan, pasts, from)
 }
 
-// Serves by words that were read, with keys, in a run.
+// Serves by words that were read, with keys, in a run. Returns how the server ended.
 fn serve_plan<
     H: Net<Listener = TcpListener, Stream = TcpStream>
         + Threads
@@ -364,7 +364,7 @@ pub fn serve<
     serve_plan(rt, alloc, &read, keys, number, reader, writer, errors)
 }
 
-// Tells why a server did not serve to its end. Why words are refused is told where they were read.
+// Writes the reason why a server did not serve to its end. For refused words it writes nothing: their reader has written the reason.
 fn explain<E: Write>(alloc: Global, outcome: Result<Ended, ServeFault>, errors: &mut E)
     ensures { outcome ≡ Err ServeFault.RefusedWords → errors.new ≡ errors.old }
 {
@@ -379,10 +379,10 @@ fn explain<E: Write>(alloc: Global, outcome: Result<Ended, ServeFault>, errors: 
 
 /// Runs a whole server by the words of a command line, in the run that they name, or else in the one with the number `run`. The first word is the program's name. `run` is
 /// `None` if the system had no random number. Reads the keys from `reader`, and behind them the line `stop`, which ends the server.
-/// Writes a line for what it serves and a line for how it ended to `writer`. Writes its log to `errors`, and there too why it did not
-/// serve to its end, unless the words were refused. Returns the exit status: 0 if all connections were served or the server was told to
-/// end, and its tapes were merged or its records are whole; 2 for refused words; 1 otherwise. When it returns, its threads have ended
-/// and its sockets are closed.
+/// Writes to `writer` a line with the nodes and ports that it serves, and a line for its end. Writes its log to `errors`, and there too
+/// the reason if it did not serve to its end, unless the words were refused. Returns the exit status: 0 if all connections were served
+/// or the server was asked to end, and its tapes were merged or its records are whole; 2 for refused words; 1 otherwise. When it returns,
+/// its threads have ended and its sockets are closed.
 pub fn serve_main<
     H: Net<Listener = TcpListener, Stream = TcpStream>
         + Threads

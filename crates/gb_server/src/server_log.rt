@@ -20,22 +20,22 @@ use std::alloc::Global;
 use std::io::Write;
 use std::net::SocketAddr;
 
-/// What the log has told.
+/// The log of a server, with the news that it has reported.
 #[derive(Drop)]
 pub struct ServerLog {
-    /// Nothing is written.
+    /// If true, nothing is written.
     pub is_quiet: bool,
     alloc: Global,
     // The name of the program, with which each line begins.
     name: Vec<u8>,
-    // The number of the first node, and how many there are.
+    // The number of the first node, and the number of nodes.
     first: u8,
     nodes: u8,
-    // Of each node.
+    // For each node, the news that were reported.
     told: Vec<Told>,
-    // Of each node and each other one, how many lines of each misfit were written.
+    // For each node and each other one, the number of lines of each misfit that were written.
     misfits: Vec<[u64; 2]>,
-    // Why the server ends.
+    // True if the reason why the server ends was reported.
     is_end_told: bool,
 }
 
@@ -69,7 +69,7 @@ fn put_ports(out: &mut Vec<u8>, nodes: u64, base: u64) -> Result<(), OutOfMemory
     put_range(out, b", sessions at TCP 127.0.0.1:", base + 64, nodes)
 }
 
-// Appends where the status is told, if it is.
+// Appends the address at which the server reports its status, if there is one.
 fn put_status(out: &mut Vec<u8>, status: Option<SocketAddr>) -> Result<(), OutOfMemory>
     ensures { OnOk result (out.new.items ≡ out.old.items ++ status_words status) }
 {
@@ -111,8 +111,8 @@ pub fn begin_front(
     Ok(front)
 }
 
-/// Returns the first line of a server's log: `front`, and then the address where the status is told, if there is one. `Err` if there is
-/// no memory.
+/// Returns the first line of a server's log: `front`, and then the address at which it reports its status, if there is one. `Err` if there
+/// is no memory.
 pub fn first_line(
     alloc: Global,
     front: &[u8],
@@ -127,7 +127,7 @@ pub fn first_line(
     Ok(line)
 }
 
-// Returns what stands between the numbers of links and those of buffers.
+// Returns the text between the numbers of links and those of buffers.
 #[tactic(auto, unfolding(crate::specs::ServerLog::own_words))]
 fn own_words() -> &'static [u8]
     ensures { result.now ≡ own_words }
@@ -135,7 +135,7 @@ fn own_words() -> &'static [u8]
     b" links have an own socket, each receive buffer has "
 }
 
-/// Returns the line of a server's log that tells how many links between nodes have an own socket, and what the system keeps at a socket.
+/// Returns the line of a server's log with the number of links between nodes that have an own socket, and the size of a socket's buffer.
 /// `name` is the name of the program. `Err` if there is no memory.
 pub fn sockets_line(
     alloc: Global,
@@ -204,7 +204,7 @@ fn end_words(why: Why) -> &'static [u8]
     }
 }
 
-/// Returns the line of a server's log that tells why the server ends, behind `name`, the name of the program. `Err` if there is no
+/// Returns the line of a server's log with the reason why the server ends, behind `name`, the name of the program. `Err` if there is no
 /// memory.
 pub fn end_line(alloc: Global, name: &[u8], why: Why) -> Result<Vec<u8>, OutOfMemory>
     ensures { IfOk result (λ line. line.items ≡ end_line_of name.now why) }
@@ -217,7 +217,7 @@ pub fn end_line(alloc: Global, name: &[u8], why: Why) -> Result<Vec<u8>, OutOfMe
     Ok(line)
 }
 
-// Returns the lines that tell what is new of a node, and notes that it was told.
+// Returns the lines with the news of a node, and records that they were reported.
 fn news(
     alloc: Global,
     name: &[u8],
@@ -243,7 +243,7 @@ fn write<E: Write>(errors: &mut E, lines: Result<Vec<u8>, OutOfMemory>) {
 }
 
 impl ServerLog {
-    /// Returns the log of a server, which has told nothing yet. `name` is the name of the program, with which each line begins. The
+    /// Returns the log of a server that has reported nothing yet. `name` is the name of the program, with which each line begins. The
     /// server has `nodes` nodes, numbered from `first` on. If `is_quiet`, the log writes nothing. `Err` if there is no memory.
     pub fn new(
         alloc: Global,
@@ -284,7 +284,7 @@ impl ServerLog {
         let _ = tell(errors, line);
     }
 
-    // Writes what is new of the nodes.
+    // Writes the news of the nodes.
     fn tell_news<E: Write>(&mut self, board: &Board, errors: &mut E)
         ensures quiet { self.new.is_quiet ≡ self.old.is_quiet }
     {
@@ -297,7 +297,7 @@ impl ServerLog {
         }
     }
 
-    // Writes that packets from a node's address do not fit, if a line of it is due.
+    // Writes that packets from a node's address do not fit, if the board has counted a line that is not written yet.
     fn tell_misfit<E: Write>(
         &mut self,
         board: &Board,
@@ -324,7 +324,7 @@ impl ServerLog {
         }
     }
 
-    // Writes which packets that came to a node from the addresses of other nodes do not fit.
+    // Writes the lines of packets that came to a node from the addresses of other nodes and do not fit.
     fn tell_misfits_of<E: Write>(&mut self, board: &Board, node: NodeId, errors: &mut E)
         ensures quiet { self.new.is_quiet ≡ self.old.is_quiet }
     {
@@ -336,7 +336,7 @@ impl ServerLog {
         }
     }
 
-    // Writes which packets from the addresses of other nodes do not fit.
+    // Writes the lines of packets that came to any node from the addresses of other nodes and do not fit.
     fn tell_misfits<E: Write>(&mut self, board: &Board, errors: &mut E)
         ensures quiet { self.new.is_quiet ≡ self.old.is_quiet }
     {
@@ -347,7 +347,7 @@ impl ServerLog {
         }
     }
 
-    // Writes why the server ends, once.
+    // Writes the reason why the server ends, once.
     fn tell_end<E: Write>(&mut self, signals: &Signals, errors: &mut E)
         ensures quiet { self.new.is_quiet ≡ self.old.is_quiet }
     {
@@ -360,9 +360,9 @@ impl ServerLog {
         }
     }
 
-    /// Writes to `errors` what is new since the last look, unless the log is quiet: news of the nodes, which packets from their addresses do
-    /// not fit, and, once, why the server ends.
-    /// Notes in this log what was told. A line that cannot be written is lost.
+    /// Writes to `errors` what is new since the last look, unless the log is quiet: news of the nodes, lines of packets from their addresses
+    /// that do not fit, and, once, the reason why the server ends.
+    /// Records in this log what was reported. A line that cannot be written is lost.
     pub fn look<E: Write>(&mut self, signals: &Signals, errors: &mut E)
         ensures quiet { self.old.is_quiet ≡ true → errors.new ≡ errors.old }
         ensures same { self.new.is_quiet ≡ self.old.is_quiet }

@@ -1,11 +1,11 @@
-//! What the threads of a server tell one another.
+//! The signals between the threads of a server.
 use gb_loop::Ending;
 use gb_status::{Board, Figures, LoopTimes, Misfit};
 use gb_types::{NodeId, NodeSet, OutOfMemory};
 use std::alloc::Global;
 use std::sync::atomic::{AtomicBool, AtomicU64, Ordering};
 
-/// Why a server ends.
+/// The reason why a server ends.
 #[derive(Clone, Copy, Debug, PartialEq, Eq)]
 pub enum Why {
     /// All connections that it was to serve were served.
@@ -26,7 +26,7 @@ pub enum Why {
     Lost,
 }
 
-// The number that stands for a reason, from 1.
+// Returns the number of a reason, from 1.
 fn number_of(why: Why) -> u64 {
     match why {
         Why::Served => 1,
@@ -40,7 +40,7 @@ fn number_of(why: Why) -> u64 {
     }
 }
 
-// The reason that a number stands for.
+// Returns the reason with a number.
 fn why_of(number: u64) -> Option<Why> {
     match number {
         1 => Some(Why::Served),
@@ -55,14 +55,14 @@ fn why_of(number: u64) -> Option<Why> {
     }
 }
 
-/// How far a server is. Any thread may look, at any time.
+/// The state of a server. Any thread may read it, at any time.
 #[derive(Drop)]
 pub struct Signals {
     left: AtomicU64,
-    // How many loops have not begun.
+    // The number of loops that have not begun.
     waiting: AtomicU64,
     is_begun: AtomicBool,
-    // The number of the reason why the server ends; 0: it does not end.
+    // The number of the reason why the server ends, or 0 if it does not end.
     why: AtomicU64,
     have_left: AtomicBool,
     has_failed: AtomicBool,
@@ -95,7 +95,7 @@ impl Signals {
         self.waiting.load(Ordering::SeqCst) == 0
     }
 
-    /// Sets the signal that connections may be served. All threads are made then, or one could not be made and the server is over.
+    /// Sets the signal that connections may be served. Then all threads are made, or one could not be made and the server is over.
     pub fn begin(&self) {
         self.is_begun.store(true, Ordering::SeqCst);
     }

@@ -1,4 +1,4 @@
-//! Who asks for the status of a server by HTTP, and how they are answered: a thread looks at them now and then, and waits for none.
+//! Requests by HTTP for the status of a server, and their answers: a thread looks at the clients now and then, and waits for none.
 use crate::process::ProcessText;
 use crate::pulse::{Cluster, Pulses};
 use gb_loop::LoopClock;
@@ -14,29 +14,29 @@ use std::io::{ErrorKind, Read, Write};
 use std::net::{Shutdown, SocketAddr, TcpListener, TcpStream};
 use std::time::Clock;
 
-/// How many bytes of a request are read at most.
+/// The most bytes of a request that are read.
 pub const MOST: usize = 4_096;
 
-/// How many clients are served at once. One more takes the place of the one that came first.
+/// The most clients that are served at once. One more replaces the one that came first.
 pub const CLIENTS: usize = 8;
 
-/// After how many microseconds a client is left that was not answered, or does not close its connection.
+/// The microseconds after which a client is dropped that was not answered, or does not close its connection.
 pub const LIMIT: u64 = 2_000_000;
 
-// How often a write is tried again in one look while the stream takes only a part.
+// The most writes in one look while the stream takes only a part.
 const WRITES: u32 = 64;
 
 // docs/reference/LIMITS.md names these values.
 const _: () = prove!(MOST == 4_096 && CLIENTS == 8 && LIMIT == 2_000_000 && WRITES == 64);
 
-/// How far a client is.
+/// The stage of a client.
 #[derive(Clone, Copy, Debug, PartialEq, Eq)]
 enum Stage {
     /// Its request is read.
     Asks,
     /// The answer is sent.
     IsTold,
-    /// All was sent: it is waited for until it closes the connection.
+    /// All was sent, and the client has yet to close the connection.
     Leaves,
 }
 
@@ -47,17 +47,17 @@ struct StatusClient {
     stage: Stage,
     // The bytes of the request, and then those of the answer.
     bytes: Vec<u8>,
-    // How many bytes of the answer were sent.
+    // The number of bytes of the answer that were sent.
     sent: usize,
-    // When it is left.
+    // The time at which it is dropped.
     until: u64,
 }
 
-/// Where the status of a server is asked for, and what says how much its process takes.
+/// The listener for requests for the status, and the text about the resources of the process.
 #[derive(Drop)]
 pub struct StatusSource {
     pub listener: TcpListener,
-    /// `None` if the system does not say it.
+    /// `None` if the system has no such text.
     pub process: Option<ProcessText>,
 }
 
@@ -71,13 +71,13 @@ pub fn status_source<F: Files<File = File>>(
     Some(StatusSource { listener, process })
 }
 
-/// Listens for those who ask for the status.
+/// A server of requests for the status.
 #[derive(Drop)]
 pub struct StatusServer {
     alloc: Global,
     source: StatusSource,
     clock: LoopClock,
-    // When it was made, in seconds since the beginning of the year 1970.
+    // The time when it was made, in seconds since the beginning of the year 1970.
     started: u64,
     clients: Vec<StatusClient>,
     pulses: Pulses,
@@ -91,7 +91,7 @@ fn seconds_now<H: Clock>(rt: &H) -> u64 {
     }
 }
 
-// What a server says of itself: its figures, when it started, what its process takes, and how it is.
+// The state that a server reports: its figures, its start, its resources and its health.
 #[derive(Clone, Copy)]
 struct Telling<'a> {
     board: &'a Board,
@@ -100,7 +100,7 @@ struct Telling<'a> {
     health: Health,
 }
 
-// Returns what the server says of itself beside its figures.
+// Returns the server's report about itself, beside its figures.
 fn facts_by(alloc: Global, telling: Telling<'_>) -> Result<Vec<u8>, OutOfMemory> {
     let facts = Facts {
         version: VERSION.as_bytes(),
@@ -118,7 +118,7 @@ fn facts_by(alloc: Global, telling: Telling<'_>) -> Result<Vec<u8>, OutOfMemory>
     facts_text(alloc, &facts, &rows)
 }
 
-// Returns the answer to the bytes of a request, by what stands at a board; None: more are waited for.
+// Returns the answer to the bytes of a request, from the figures on a board. `None` if more bytes are awaited.
 fn reply_by(
     alloc: Global,
     bytes: &[u8],
@@ -134,7 +134,7 @@ fn reply_by(
 }
 
 impl StatusClient {
-    // Reads what came of the request, and makes the answer once it is whole. Returns false if the client is lost.
+    // Reads the bytes that came of the request, and makes the answer once it is whole. Returns false if the client is lost.
     fn hear(&mut self, alloc: Global, telling: Telling<'_>) -> bool {
         let mut space = [0u8; MOST];
         let mut reader = &self.stream;
@@ -160,7 +160,7 @@ impl StatusClient {
         }
     }
 
-    // Sends what the stream takes of the answer. Returns false if the client is lost.
+    // Sends as much of the answer as the stream takes. Returns false if the client is lost.
     fn tell(&mut self) -> bool {
         for _ in 0..WRITES {
             let Some(rest) = self.bytes.get(self.sent..) else {
@@ -183,7 +183,7 @@ impl StatusClient {
         true
     }
 
-    // Reads on, so that the answer is not lost with bytes that nobody read. Returns false if the client has left.
+    // Reads on, so that unread bytes do not make the system drop the answer. Returns false if the client has left.
     fn drain(&mut self) -> bool {
         let mut space = [0u8; MOST];
         let mut reader = &self.stream;
@@ -196,7 +196,7 @@ impl StatusClient {
         }
     }
 
-    // Does what there is to do. Returns false if the client is served or lost.
+    // Serves the client as far as it can now. Returns false if the client is served or lost.
     fn look(&mut self, alloc: Global, telling: Telling<'_>, now: u64) -> bool {
         if now >= self.until {
             return false;
@@ -230,12 +230,12 @@ impl StatusServer {
         }
     }
 
-    /// Returns the address where this status server listens. `None` if the system does not say.
+    /// Returns the address where this status server listens. `None` if the system does not report it.
     pub fn address(&self) -> Option<SocketAddr> {
         self.source.listener.local_addr().ok()
     }
 
-    // Takes a client in, in place of the first where there are as many as are served at once.
+    // Adds a client. If as many are served as may be at once, drops the first of them.
     fn take(&mut self, stream: TcpStream, now: u64) {
         if stream.set_nonblocking(true).is_err() {
             return;
@@ -253,7 +253,7 @@ impl StatusServer {
         let _ = self.clients.push(client);
     }
 
-    // Returns what the process takes, if anybody asks for the status. `None` if nobody does, or the system does not say.
+    // Returns the resources of the process, if a client asks for the status. `None` if none does, or the system does not report them.
     fn process(&self) -> Option<Process> {
         if self.clients.is_empty() {
             return None;
@@ -264,7 +264,7 @@ impl StatusServer {
         }
     }
 
-    // Takes in who came.
+    // Adds the clients that came.
     fn accept(&mut self, now: u64) {
         for _ in 0..CLIENTS {
             match self.source.listener.accept() {
@@ -274,9 +274,9 @@ impl StatusServer {
         }
     }
 
-    /// Takes in new clients that ask for the status, and answers each client as far as it can now, with the figures of `board`. Drops
-    /// clients that are served or lost, and those that came 2 seconds ago or earlier. `is_over` says that the server ends. Waits for
-    /// nobody.
+    /// Adds new clients that ask for the status, and answers each client as far as it can now, with the figures of `board`. Drops
+    /// clients that are served or lost, and those that came 2 seconds ago or earlier. `is_over` means that the server ends. Waits for
+    /// nothing.
     pub fn look<H: Clock>(&mut self, rt: &H, board: &Board, is_over: bool) {
         let now = self.clock.now(rt);
         self.accept(now);

@@ -1,5 +1,5 @@
-//! What the threads of a server do that are no loop's: one tells when the server serves and heeds standard input, the other writes the
-//! log and answers who asks for the status.
+//! The two threads of a server that run no loop. One prints when the server serves and reads standard input; the other writes the
+//! log and answers requests for the status.
 ghost use Rattle.std.specs.Prelude.{◌≡◌, ℕ, List, true};
 ghost use Rattle.std.specs.Io.KnownBytes.{Appends, Consumes};
 
@@ -15,7 +15,7 @@ use std::sync::Wait;
 use std::thread;
 use std::time::{Clock, Duration};
 
-// How long the thread of a desk sleeps before it looks again, in milliseconds: while the server serves, and once it is over.
+// The milliseconds that the thread of a desk sleeps before it looks again: while the server serves, and once it is over.
 const LOOK: u64 = 50;
 
 const LAST_LOOK: u64 = 10;
@@ -23,7 +23,7 @@ const LAST_LOOK: u64 = 10;
 const _: () = prove!(LOOK == 50 && LAST_LOOK == 10);
 
 /// Writes `line` to `writer` once the loops of all nodes have begun, and then reads standard input until the server is over, as
-/// `orders::heed` does. Returns true then. False if a thread could not be made, a loop could not begin, or the line could not be
+/// `orders::heed` does. Returns true then. Returns false if a thread could not be made, a loop could not begin, or the line could not be
 /// written; the last ends the server.
 pub fn watch<H: Wait + Clock, R: Input, W: Write>(
     rt: &H,
@@ -47,7 +47,7 @@ pub fn watch<H: Wait + Clock, R: Input, W: Write>(
     true
 }
 
-/// A desk, and where its log is written.
+/// A desk, and the stream of its log.
 #[derive(Drop)]
 pub struct Attending<'a, E> {
     pub desk: Desk,
@@ -72,8 +72,8 @@ fn serve_desk<H: Wait + Clock, E: Write>(
     }
 }
 
-/// Writes the first line of the server's log once the loops of all nodes have begun. Then writes what is new for the log, and answers
-/// who asks for the status, until the threads of all loops have ended. Does nothing if a thread could not be made or a loop could not
+/// Writes the first line of the server's log once the loops of all nodes have begun. Then writes the news for the log, and answers
+/// requests for the status, until the threads of all loops have ended. Does nothing if a thread could not be made or a loop could not
 /// begin.
 pub fn attend<H: Wait + Clock, E: Write>(rt: &H, signals: &Signals, attending: Attending<'_, E>) {
     let Attending { desk, errors } = attending;

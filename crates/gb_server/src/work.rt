@@ -1,4 +1,4 @@
-//! What the thread of a node does in a server: it runs the node's loop. It owns its seat, and gives it back.
+//! The work of the thread of a node in a server: it runs the node's loop. It owns its seat, and returns it at the end.
 ghost use Rattle.std.specs.Prelude.{◌≡◌, []};
 
 use crate::gates::wait_to_begin;
@@ -18,7 +18,7 @@ use std::net::{Net, TcpListener, TcpStream};
 use std::sync::Wait;
 use std::time::Clock;
 
-/// What is left of a node when its loop has ended: its seat, and what it recorded by.
+/// The remains of a node whose loop has ended: its seat, and its log if it keeps a record.
 #[derive(Drop)]
 pub struct LeftNode<L: Tapes> {
     pub seat: Seat<L>,
@@ -61,7 +61,7 @@ fn run_unrecorded<L: Tapes, H: Net<Listener = TcpListener, Stream = TcpStream> +
     LeftNode { seat, log: None }
 }
 
-// Runs the loop of a node that keeps a record, whose written entries are noted in a past.
+// Runs the loop of a node that keeps a record. The written entries are added to a past.
 fn run_recorded<
     R: RecordName,
     L: Tapes,
@@ -115,7 +115,7 @@ fn run_recorded<
 }
 
 /// Waits until all threads have been made, and runs the loop of a node until the server is over. With a log it keeps a record: a packet
-/// or a reply leaves only once what led to it was written. Returns what is left of the node: its seat, and its log if it had one.
+/// or a reply leaves only once the events before it were written. Returns the node's seat, and its log if it had one.
 pub fn run_node<L: Tapes, H: Net<Listener = TcpListener, Stream = TcpStream> + Wait + Clock>(
     rt: &H,
     alloc: Global,

@@ -1,5 +1,5 @@
-// A chat of three members, as examples/walk.sh and examples/client.py hold it: a server is started, each member's node takes the
-// tenant in, makes its group and opens it, each member says something, each reads what all said, and the server ends.
+// A chat of three members, like that of examples/walk.sh and examples/client.py: a server is started, each member's node takes the
+// tenant in, makes its group and opens it, each member says a message, each reads all messages, and the server ends.
 ghost use Rattle.std.specs.Prelude.{◌≤◌, vec_len, IfOk};
 ghost use Rattle.gb_session.specs.declared.grammar.TheConstants.{BODY};
 
@@ -105,7 +105,7 @@ pub fn reply(
 }
 
 /// Sends requests to a chat member's node, one after the other, and compares the replies. Each row of `table` has the kind of request,
-/// the words behind it, and the wanted text of the reply. Returns false at the first reply that is another, else true. `Err` as
+/// the words behind it, and the wanted text of the reply. Returns false at the first reply that is another, else true. `Err` as with
 /// `reply`.
 pub fn gives(
     alloc: Global,
@@ -127,7 +127,7 @@ fn has_all(alloc: Global, log: &[u8]) -> Result<bool, ClientFault> {
     Ok(are_all(words.as_slice()))
 }
 
-// Returns true if the words are those of such a log.
+// Returns true if the words are those of a log with exactly the three entries, in any order.
 fn are_all(words: &[&[u8]]) -> bool {
     if words.len() != 5 || words[0] != b"log".as_slice() || words[1] != b"3".as_slice() {
         return false;
@@ -165,7 +165,7 @@ fn all_joined<H: Net<Stream = TcpStream> + Clock>(
     Ok(members)
 }
 
-// Lets each member make its group. Returns true if each reply was right.
+// Makes the group of each member. Returns true if each reply was right.
 fn all_prepare(alloc: Global, members: &mut [Member]) -> Result<bool, ClientFault> {
     let mut is_right = true;
     for member in members {
@@ -174,7 +174,7 @@ fn all_prepare(alloc: Global, members: &mut [Member]) -> Result<bool, ClientFaul
     Ok(is_right)
 }
 
-// Lets each member say its message. Returns true if each reply was right.
+// Says the message of each member. Returns true if each reply was right.
 fn all_say(alloc: Global, members: &mut [Member]) -> Result<bool, ClientFault> {
     let mut is_right = true;
     for (member, say) in members.iter_mut().zip(&SAYS) {
@@ -183,7 +183,7 @@ fn all_say(alloc: Global, members: &mut [Member]) -> Result<bool, ClientFault> {
     Ok(is_right)
 }
 
-// Lets each member read all messages, and end its group. Returns true if each reply was right.
+// Reads all messages as each member, and ends its group. Returns true if each reply was right.
 fn all_hear<H: Clock>(rt: &H, alloc: Global, members: &mut [Member]) -> Result<bool, ClientFault> {
     let mut is_right = true;
     for member in members {
@@ -193,7 +193,7 @@ fn all_hear<H: Clock>(rt: &H, alloc: Global, members: &mut [Member]) -> Result<b
     Ok(is_right)
 }
 
-// Lets the members talk. Returns true if each reply was right.
+// Runs the chat of the members. Returns true if each reply was right.
 fn talk<H: Clock>(rt: &H, alloc: Global, members: &mut [Member]) -> Result<bool, ClientFault> {
     let is_prepared = all_prepare(alloc, members)?;
     let is_said = all_say(alloc, members)?;
@@ -201,7 +201,7 @@ fn talk<H: Clock>(rt: &H, alloc: Global, members: &mut [Member]) -> Result<bool,
     Ok(is_prepared && is_said && is_heard)
 }
 
-// Connects three members and lets them talk. Returns true if each reply was right.
+// Connects three members and runs their chat. Returns true if each reply was right.
 fn chat<H: Net<Stream = TcpStream> + Clock>(rt: &H, alloc: Global, base_port: u16) -> bool {
     let Ok(mut members) = all_joined(rt, alloc, base_port) else {
         return false;

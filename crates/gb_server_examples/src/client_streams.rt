@@ -9,7 +9,7 @@ use std::{io, thread};
 /// The most milliseconds that a gate is held.
 const PATIENCE: u64 = 10_000;
 
-/// A reader that returns this number of requests, one in each read. The read with a number, from 1, fails; 0: none fails.
+/// A reader that returns this number of requests, one in each read. The read with the number `fails_at`, from 1, fails; with 0 none fails.
 #[derive(Drop)]
 pub struct Asking {
     requests: u64,
@@ -43,7 +43,7 @@ impl Read for Asking {
     }
 }
 
-/// Counts the replies that say Denied. The write with a number, from 1, fails; 0: none fails.
+/// A writer that counts the replies `Denied`. The write with the number `fails_at`, from 1, fails; with 0 none fails.
 #[derive(Drop)]
 pub struct Told<'a> {
     denied: &'a AtomicU64,
@@ -80,7 +80,7 @@ impl Write for Told<'_> {
     }
 }
 
-/// A gate that may be held until another client was told something. It answers false if that takes too long.
+/// A gate that is held until another client got a reply. It returns false if that takes too long.
 #[derive(Drop)]
 pub struct Held<'a, R> {
     pub rt: &'a R,

@@ -1,4 +1,4 @@
-//! A writer that keeps its text, a server that answers nothing, and a record that can be kept a number of times.
+//! A writer that keeps its text, an answerer that answers nothing, and a record that can be kept a number of times.
 use gb_loop::Settle;
 use gb_session::{Answers, Operation};
 use gb_types::{OutOfMemory, Refusal, Reply, Request};
@@ -7,7 +7,7 @@ use std::cell::{Cell, RefCell};
 use std::io;
 use std::io::{ErrorKind, Write};
 
-/// What was written.
+/// The text that was written.
 #[derive(Drop)]
 pub struct Desk {
     pub text: RefCell<Vec<u8>>,
@@ -21,7 +21,7 @@ impl Desk {
         }
     }
 
-    /// Gives up the desk. Returns what was written.
+    /// Consumes the desk, and returns the text that was written.
     pub fn into_text(self) -> Vec<u8> {
         let Desk { text } = self;
         text.into_inner()
@@ -36,7 +36,7 @@ impl Desk {
     }
 }
 
-/// Writes to a desk.
+/// A writer to a desk.
 #[derive(Drop)]
 pub struct Pen<'a> {
     pub desk: &'a Desk,
@@ -56,7 +56,7 @@ impl Write for Pen<'_> {
     }
 }
 
-/// Answers nothing.
+/// An answerer that answers nothing.
 #[derive(Drop)]
 pub struct Nobody;
 
@@ -72,7 +72,7 @@ impl Answers for Nobody {
     }
 }
 
-/// Keeps nothing, and says that all is kept the first `most` times that it is asked.
+/// A record that keeps nothing, and reports that all is kept the first `most` times that it is asked.
 #[derive(Drop)]
 pub struct Asked {
     pub times: Cell<u32>,

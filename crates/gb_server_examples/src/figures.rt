@@ -1,4 +1,4 @@
-//! Worked figures of nodes, and how they are told.
+//! Worked figures of nodes, and their texts.
 ghost use Rattle.std.specs.Prelude.{◌<◌};
 
 use crate::texts::has;
@@ -42,7 +42,7 @@ fn a_status_has_each_figure_once(rt: HostRuntime) {
     );
 }
 
-// The figures of the node with this number.
+// Returns the figures of the node with this number.
 fn row(number: u8, figures: Figures) -> NodeFigures
     requires { number < 32 }
 {
@@ -84,7 +84,7 @@ fn metrics_are_told_of_each_node(rt: HostRuntime) {
     assert!(rt; text.iter().filter(|byte| **byte == b'#').count() == 2 * 24);
 }
 
-// What a server says of itself at a known time, with two rows of noticed nodes, a record and the times of a loop.
+// A server's report about itself at a known time, with two rows of noticed nodes, a record and the times of a loop.
 static FACTS: &[u8] =
     b"# HELP foqradesh_node_suspected 1 for each other node that the node has noticed as crashed.\n\
 # TYPE foqradesh_node_suspected gauge\n\
@@ -133,7 +133,7 @@ foqradesh_reply_seconds_bucket{node=\"2\",le=\"+Inf\"} 1\n\
 foqradesh_reply_seconds_sum{node=\"2\"} 0.100001\n\
 foqradesh_reply_seconds_count{node=\"2\"} 1\n";
 
-// A row of a node that has noticed two others.
+// Returns the row of a node that has noticed two others.
 fn noticed(number: u8, first: u8, second: u8) -> NodeNoticed
     requires own { number < 32 }
     requires one { first < 32 }
@@ -174,7 +174,7 @@ fn a_server_tells_of_itself(rt: HostRuntime) {
     assert!(rt; text.as_slice() == FACTS);
 }
 
-// Heads, and what they ask for.
+// Heads of requests, and the pages that they ask for.
 static HEADS: [(&[u8], Asked); 9] = [
     (b"GET /metrics HTTP/1.1\r\nHost: a\r\n\r\n", Asked::Metrics),
     (b"GET /healthz HTTP/1.0\r\n\r\n", Asked::Health),
@@ -194,7 +194,7 @@ fn heads_ask_for_figures(rt: HostRuntime) {
     }
 }
 
-// Whether the answer to what is asked for is this.
+// Returns true if this is the answer to a request for the page.
 fn is_answered(alloc: Global, asked: Asked, health: Health, want: &[u8]) -> bool {
     match answer(alloc, asked, &[], b"", health) {
         Ok(text) => text.as_slice() == want,
@@ -202,7 +202,7 @@ fn is_answered(alloc: Global, asked: Asked, health: Health, want: &[u8]) -> bool
     }
 }
 
-// What is asked for, how the server is, and the answer.
+// The page, the health of the server, and the answer.
 static ANSWERS: [(Asked, Health, &[u8]); 5] = [
     (
         Asked::Health,

@@ -33,7 +33,7 @@ impl Read for Pieces<'_> {
     }
 }
 
-/// A reader whose first reads are interrupted, this many of them.
+/// A reader whose first `interruptions` reads are interrupted.
 #[derive(Drop)]
 struct Late<'a> {
     bytes: &'a [u8],
@@ -117,7 +117,7 @@ fn a_line_of_keys_is_whole_within_its_reads(rt: HostRuntime) {
     assert!(rt; matches!(read_keys(&mut too_many), Err(KeyFault::Read)));
 }
 
-// An index and the byte that stands there: no digit, a line that is too long, a carriage return in place of the line feed.
+// The index of a byte and another byte there: no digit, one that makes a line too long, a carriage return instead of the line feed.
 static WRONG: [(usize, u8); 7] = [
     (0, b'g'),
     (63, b' '),

@@ -1,5 +1,5 @@
 //! Worked uses of the servers, as tests: their keys, sessions of workers, whole servers and the nodes of clusters of several machines, with
-//! clients on sockets of this machine, and their records. There is nothing here but tests.
+//! clients on sockets of this machine, and their records. This crate has tests only.
 #![tactic(auto)]
 
 #[cfg(test)]

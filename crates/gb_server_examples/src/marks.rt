@@ -37,7 +37,7 @@ fn a_folder_is_made_for_marks(rt: HostRuntime) {
     let deeper = format!(in alloc; "{name}/a/b").expect(&rt, "a name");
     assert!(rt; mark(&rt, alloc, &deeper, 7, 1) == Ok(Marked::New));
     assert!(rt; mark(&rt, alloc, &deeper, 7, 1) == Ok(Marked::Old));
-    // A file is no folder.
+    // A file is no folder, so no mark is made below it.
     let below = format!(in alloc; "{deeper}/run-7-node-1.mark").expect(&rt, "a name");
     assert!(rt; mark(&rt, alloc, &below, 7, 1) == Ok(Marked::Failed));
     let _ = fs::remove_dir_all(&rt, name.as_str());
@@ -62,7 +62,7 @@ fn a_folder_is_made_for_its_owner_alone(rt: HostRuntime) {
     let _ = fs::remove_dir_all(&rt, name.as_str());
 }
 
-// A mark that cannot be written is not there, so the node may begin later.
+// A mark that cannot be written is not there afterwards, so the node may begin later.
 #[test]
 fn a_mark_is_written_or_not_there(rt: HostRuntime) {
     let alloc = rt.alloc();
@@ -71,7 +71,7 @@ fn a_mark_is_written_or_not_there(rt: HostRuntime) {
     let marked = mark(&rt, alloc, &name, 7, 1);
     let is_there = fs::metadata(&rt, path.as_str()).is_ok();
     assert!(rt; is_there == (marked == Ok(Marked::New)));
-    // A start that is taken back leaves none either.
+    // A start that is taken back leaves no mark either.
     unmark(&rt, alloc, &name, 7, 1);
     assert!(rt; fs::metadata(&rt, path.as_str()).is_err());
     assert!(rt; mark(&rt, alloc, &name, 7, 1) != Ok(Marked::Old));

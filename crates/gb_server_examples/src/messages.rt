@@ -4,12 +4,12 @@
 pub static OPEN: &[u8] =
     b"\x00\x00\x00\x49open 0000000000000000000000000000000000000000000000000000000000000000 7 1";
 
-/// A running node's reply to it.
+/// The reply of a running node to `OPEN`.
 pub static DENIED: &[u8] = b"\x00\x00\x00\x10refused 1 Denied";
 
-/// A request that takes tenant 7 in, with the administrator's token under the administrator's key of `runs::KEYS`.
+/// A request that adds tenant 7, with the administrator's token under the administrator's key of `runs::KEYS`.
 pub static TENANT: &[u8] =
     b"\x00\x00\x00\x99tenant 674e623760cac750ae766b788c59c762f116bab90bcfb901f9c20ac06448c55d 7 3333333333333333333333333333333333333333333333333333333333333333 4 100 4096 100";
 
-/// A node's reply to it.
+/// The reply of a node to `TENANT`.
 pub static DONE: &[u8] = b"\x00\x00\x00\x02ok";

@@ -1,4 +1,4 @@
-// Whole nodes, which are told to stop as soon as they serve.
+// Whole nodes, which are asked to stop as soon as they serve.
 use crate::folders::{file, folder};
 use crate::runs::{Run, run_node};
 use crate::texts::has;
@@ -19,7 +19,7 @@ static TWO: &[u8] =
 static STOP: &[u8] =
     b"1111111111111111111111111111111111111111111111111111111111111111\n2222222222222222222222222222222222222222222222222222222222222222\nstop\n";
 
-// The nodes that are run one after the other: the number of each, its status, its text, how its log begins, what it has, and how it ends.
+// The nodes, run one after the other: number, status, output, beginning of the log, a part of it, and its end.
 static ENDS: [(&str, u8, &[u8], &[u8], &[u8], &[u8]); 3] = [
     (
         "0",
@@ -37,7 +37,7 @@ static ENDS: [(&str, u8, &[u8], &[u8], &[u8], &[u8]); 3] = [
         b": node 1 of 2 in run 7, packets at UDP 127.0.0.1:31201, sessions at TCP 127.0.0.1:31265\ngb_peer: 1 of 1 links have an own socket, each receive buffer has ",
         b" of 4194304 bytes\ngb_peer: ends: standard input said stop\n",
     ),
-    // Each has begun in this run.
+    // Each node has begun in this run already.
     (
         "1",
         1,
@@ -48,7 +48,7 @@ static ENDS: [(&str, u8, &[u8], &[u8], &[u8], &[u8]); 3] = [
     ),
 ];
 
-// Runs a node with this number of a file, which is told to stop.
+// Runs the node with this number of a file, which is asked to stop.
 fn run_numbered<
     H: Net<Listener = TcpListener, Stream = TcpStream>
         + Threads

@@ -1,4 +1,4 @@
-//! The plan of a host of two nodes, and their names.
+//! The plan of a host of two nodes, and their numbers.
 ghost use Rattle.std.specs.Prelude.{◌≡◌};
 ghost use Rattle.gb_host.specs.Common.{IsPlan};
 
@@ -11,7 +11,7 @@ pub const FIRST: NodeId = NodeId { number: 0 };
 pub const SECOND: NodeId = NodeId { number: 1 };
 
 /// Returns the plan of two nodes that send this version of the packet text, with this room for the items of a packet. Their entries are
-/// kept on tapes if `tape`, and go to recorders if not.
+/// kept on tapes if `tape`, and go to recorders otherwise.
 pub fn two_nodes(version: Version, room: u16, tape: bool) -> HostPlan
     ensures nodes { result.cluster.nodes ≡ 2 }
     ensures limits { IsPlan result }

@@ -1,9 +1,9 @@
-// What the system says of a process.
+// The facts that the system reports about a process.
 use gb_server::process::{ProcessText, process_said};
 use gb_status::Process;
 use std::rt::HostRuntime;
 
-// Texts as that of /proc/self/stat, and the memory and the processor time that they say.
+// Texts like /proc/self/stat, and the memory and the processor time in them.
 static STATS: [(&[u8], Option<Process>); 5] = [
     (
         b"8920 (gb_serve) R 8865 8865 10265 0 -1 4194304 101 0 0 0 1200 5 0 0 20 0 1 0 85881 16961536 424 184",
@@ -39,7 +39,7 @@ fn a_process_is_read(rt: HostRuntime) {
 
 #[test]
 fn this_process_has_memory(rt: HostRuntime) {
-    // A machine without /proc says nothing.
+    // A machine without /proc reports nothing.
     if let Some(text) = ProcessText::open(&rt) {
         let before = text.read().expect(&rt, "fields");
         let after = text.read().expect(&rt, "fields");

@@ -1,4 +1,4 @@
-// How a server is: by the age of its loops' ticks, and by how many other nodes a node has noticed.
+// The health of a server: by the age of its loops' ticks, and by the number of other nodes that a node has noticed.
 ghost use Rattle.std.specs.Prelude.{◌<◌};
 
 use gb_server::pulse::{Cluster, Pulses, patience_of};
@@ -7,7 +7,7 @@ use gb_status::{Board, Figure, Figures, Health, NodeHealth};
 use gb_types::{NodeId, NodeSet};
 use std::rt::HostRuntime;
 
-// Returns the figures of a node whose loop runs, or does not.
+// Returns the figures of a node whose loop runs if this is 1, and does not if it is 0.
 fn figures(running: u64) -> Figures {
     let mut figures = Figures::new();
     figures.set(Figure::Running, running);
@@ -56,7 +56,7 @@ fn ticks_may_be_two_seconds_old_or_two_ticks(rt: HostRuntime) {
     assert!(rt; patience_of(1_000_001) == 2_000_002 && patience_of(60_000_000) == 120_000_000);
 }
 
-// How many others there are, how many of them a node noticed, and how its server is.
+// The number of other nodes, the number of them that a node noticed, and the health of its server.
 static NOTICED: [(u8, u8, Health); 8] = [
     (0, 0, Health::Well),
     (1, 0, Health::Well),

@@ -1,4 +1,4 @@
-// A node that is recorded: what its record has when a write fails, and which packets leave.
+// A node that is recorded: the content of its record when a write fails, and the packets that leave.
 ghost use Rattle.std.specs.Prelude.{◌≡◌, [], false, vec_len, IfSome};
 ghost use Rattle.gb_host.specs.Common.{AreBlank, books_of, IsPlan};
 
@@ -25,7 +25,7 @@ use std::rt::HostRuntime;
 use std::sync::Wait;
 use std::{fs, io};
 
-// A writer to a desk whose write with a number, from 1, fails, and each after it.
+// A writer to a desk. The write with a number, from 1, and each after it fail.
 #[derive(Drop)]
 struct FailingPen<'a> {
     pen: Pen<'a>,
@@ -96,8 +96,8 @@ fn ticks<L: Tapes, R: Wait>(rt: &R, host: &Host<L>, seat: &mut Seat<L>) -> bool 
     host.call(rt, seat, FIRST, NodeEvent::Tick).is_ok()
 }
 
-// Records a node whose second write fails: two ticks, a write, a tick, and two writes. Returns whether each write went well, and what is
-// written.
+// Records a node whose second write fails: two ticks, a write, a tick, and two writes. Returns whether each write succeeded, and the text
+// that was written.
 fn failing<R: RecordName, L: Tapes, H: Wait>(
     rt: &H,
     alloc: Global,
@@ -130,7 +130,7 @@ fn failing<R: RecordName, L: Tapes, H: Wait>(
     Some(([first, second, third], desk.into_text()))
 }
 
-// The same of a host that is opened for it.
+// Does the same for a host that is opened for it.
 fn failed<L: Tapes, H: Wait + Files<File = File> + RandomSource + AllocGlobal>(
     rt: &H,
     alloc: Global,
@@ -147,7 +147,7 @@ fn failed<L: Tapes, H: Wait + Files<File = File> + RandomSource + AllocGlobal>(
     failing::<Brand, L, H>(rt, alloc, host, seat, recorder, Past::new())
 }
 
-// The same of two new nodes.
+// Does the same for two new nodes.
 fn fail_second<H: Wait + Files<File = File> + RandomSource + AllocGlobal>(
     rt: &H,
     alloc: Global,
@@ -167,8 +167,8 @@ fn a_record_whose_write_fails_has_what_was_written_before(rt: HostRuntime) {
     assert!(rt; text.as_slice() == lines.as_slice());
 }
 
-// What became of three packets that were handed to a port which writes first: one that no event sent, one that an event sent, and this once
-// more; how many bytes were written when the second left; and whether that packet, and no other, came to the other node.
+// The results of three packets that were passed to a port which writes first: one that no event sent, one that an event sent, and this one
+// again; the number of bytes that were written when the second left; and whether that packet, and no other, came to the other node.
 #[derive(Clone, Copy)]
 struct Passed {
     went: [bool; 3],
@@ -176,7 +176,7 @@ struct Passed {
     came: bool,
 }
 
-// Hands the packets on.
+// Passes the three packets to the port, and returns the results.
 fn hand<R: RecordName, L: Tapes, H: Wait>(
     rt: &H,
     alloc: Global,
@@ -225,7 +225,7 @@ fn hand<R: RecordName, L: Tapes, H: Wait>(
     })
 }
 
-// The same of a host that is opened for it.
+// Does the same for a host that is opened for it.
 fn handed<L: Tapes, H: Wait + Files<File = File> + RandomSource + AllocGlobal>(
     rt: &H,
     alloc: Global,
@@ -242,7 +242,7 @@ fn handed<L: Tapes, H: Wait + Files<File = File> + RandomSource + AllocGlobal>(
     hand::<Brand, L, H>(rt, alloc, host, seat, recorder, Past::new())
 }
 
-// The same of two new nodes.
+// Does the same for two new nodes.
 fn hand_first<H: Wait + Files<File = File> + RandomSource + AllocGlobal>(
     rt: &H,
     alloc: Global,

@@ -1,4 +1,4 @@
-// Servers that keep records, and what an audit says of these.
+// Servers that keep records, and the audits of these.
 use crate::folders::folder;
 use crate::messages::{DENIED, OPEN};
 use crate::runs::RUN;
@@ -71,7 +71,7 @@ fn sends_noise<H: Net>(rt: &H, port: u16) -> bool {
     }
 }
 
-// Audits two records under the key of a run. Returns the verdict, and whether more than 8 events are one run.
+// Audits two records under the key of a run. Returns the verdict, and true if more than 8 events are one run.
 fn audited(alloc: Global, first: &[u8], second: &[u8], run: u64) -> Option<(Verdict, bool)> {
     let mut texts = Vec::new(alloc);
     texts.push(Vec::from_slice(alloc, first).ok()?).ok()?;
@@ -119,12 +119,12 @@ fn what_a_server_records_is_one_run(rt: HostRuntime) {
     assert!(rt; is_served && first && second);
     let first = text_of(&rt, alloc, &dir, 0).expect(&rt, "a record");
     let second = text_of(&rt, alloc, &dir, 1).expect(&rt, "a record");
-    // Neither a request without its token nor bytes that are no packet stand there.
+    // The records have neither a request without its token nor bytes that are no packet.
     let is_clean = !has_strangers(&first) && !has_strangers(&second);
     assert!(rt; is_clean);
     let found = audited(alloc, &first, &second, RUN);
     assert!(rt; found == Some((Verdict::Whole, true)));
-    // Under the key of another run their packets are none.
+    // Under the key of another run the packets in the records are no packets.
     let other = audited(alloc, &first, &second, 78);
     assert!(rt; other.is_none());
     // A second server does not write to these files.

@@ -1,4 +1,4 @@
-//! Words, files and addresses by which a node of a cluster of several machines does not serve, as tests.
+//! Words, files and addresses with which a node of a cluster of several machines does not serve, as tests.
 use crate::folders::{file, folder};
 use crate::runs::{KEYS, Run, run_node};
 use gb_server::ServeFault;
@@ -13,7 +13,7 @@ use std::sync::Wait;
 use std::thread::Threads;
 use std::time::Clock;
 
-// How a node of a cluster whose file has this text ends, in a folder.
+// Runs a node of a cluster whose file has this text, in a folder. Returns its end.
 fn run_in<
     H: Net<Listener = TcpListener, Stream = TcpStream>
         + Threads
@@ -42,11 +42,11 @@ fn run_in<
 const ALONE: &[u8] =
     b"run = 7\n[[node]]\npackets = \"127.0.0.1:31000\"\nsessions = \"127.0.0.1:31064\"\n";
 
-// Another one, whose run is 9.
+// A file of one node on this machine, whose run is 9.
 const RECORDED: &[u8] =
     b"run = 9\n[[node]]\npackets = \"127.0.0.1:31010\"\nsessions = \"127.0.0.1:31074\"\n";
 
-// Files by which no node is served: the number that is asked for, the status, the line, and the end of the line on standard error.
+// Files with which no node is served: the text, the node that is asked for, the status, the output, and the end of standard error.
 static FILES: [(&[u8], &str, u8, &[u8], &[u8]); 6] = [
     (
         ALONE,
@@ -123,7 +123,7 @@ fn words_and_names_are_refused(rt: HostRuntime) {
     assert!(rt; lost.has_logged(2, b"refused cluster file\n", b"", error));
 }
 
-// A start that fails behind its mark leaves neither mark nor record, unless a record was there before, by which the node has begun.
+// A start that fails after its mark leaves neither mark nor record, unless the node had a record before, which shows that it has begun.
 #[test]
 fn a_start_that_fails_leaves_no_mark(rt: HostRuntime) {
     let alloc = rt.alloc();
@@ -161,7 +161,7 @@ fn a_start_that_fails_leaves_no_mark(rt: HostRuntime) {
     let _ = fs::remove_dir_all(&rt, dir.as_str());
 }
 
-// Nodes, whether they have records, the descriptors that they need, and what is told where there is one less.
+// Nodes, whether they have records, the descriptors that they need, and the complaint if there is one descriptor less.
 static DESCRIPTORS: [(u8, bool, u64, &[u8]); 4] = [
     (
         1,
@@ -189,7 +189,7 @@ static DESCRIPTORS: [(u8, bool, u64, &[u8]); 4] = [
     ),
 ];
 
-// Whether a fault is told by this line.
+// Returns true if this is the complaint for a fault.
 fn is_complaint(alloc: Global, fault: ServeFault, line: &[u8]) -> bool {
     let mut errors = Vec::new(alloc);
     complain(alloc, b"gb_serve", fault, &mut errors) && errors.as_slice() == line
@@ -205,7 +205,7 @@ fn too_few_descriptors_are_refused(rt: HostRuntime) {
     }
 }
 
-// A cluster file of 65,537 bytes is refused, as is one of which no end is read; one of 65,536 is read.
+// A cluster file of 65,537 bytes is refused, as is one whose end is not read; one of 65,536 is read.
 #[test]
 fn a_cluster_file_is_read_up_to_its_limit(rt: HostRuntime) {
     let alloc = rt.alloc();
@@ -224,7 +224,7 @@ fn a_cluster_file_is_read_up_to_its_limit(rt: HostRuntime) {
             b": it has 1, from 0 on\n"
         )
     );
-    // The last byte of a character that is cut where the limit is.
+    // The limit cuts this character between its two bytes.
     text.extend_from_slice(b"\xc3\xa4").expect(&rt, "memory");
     let long = run_in(&rt, alloc, &dir, &text, "1").expect(&rt, "a file");
     let error = b"/cluster.toml: the file has more than 65536 bytes\n";

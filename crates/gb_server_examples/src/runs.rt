@@ -1,4 +1,4 @@
-//! Runs of whole servers and of nodes of a cluster of several machines: their keys, their standard input, and how they end.
+//! Runs of whole servers and of nodes of a cluster of several machines: their keys, their standard input, and their ends.
 use gb_peer_run::peer_main::peer_main;
 use gb_server::Input;
 use gb_server::serve_main::serve_main;
@@ -54,7 +54,7 @@ impl Input for Later<'_> {
     }
 }
 
-/// How a server or a node ended: its status, and what it wrote to standard output and to standard error.
+/// The end of a server or a node: its status, and the bytes that it wrote to standard output and to standard error.
 #[derive(Drop)]
 pub struct Run {
     pub status: u8,
@@ -68,8 +68,8 @@ impl Run {
         self.status == status && self.lines.as_slice() == lines && self.errors.as_slice() == errors
     }
 
-    /// Returns true if the run ended with this status and wrote exactly these bytes to standard output. What it wrote to standard error
-    /// has to begin with `first` and to end with `last`.
+    /// Returns true if the run ended with this status, wrote exactly these bytes to standard output, and wrote to standard error bytes that
+    /// begin with `first` and end with `last`.
     pub fn has_logged(&self, status: u8, lines: &[u8], first: &[u8], last: &[u8]) -> bool {
         self.status == status
             && self.lines.as_slice() == lines
@@ -78,7 +78,7 @@ impl Run {
     }
 }
 
-/// Runs a whole server with these words as its command line and this standard input, until it ends. Returns how it ended.
+/// Runs a whole server with these words as its command line and this standard input, until it ends. Returns its end.
 pub fn run_server<
     H: Net<Listener = TcpListener, Stream = TcpStream>
         + Threads
@@ -107,7 +107,7 @@ pub fn run_server<
     }
 }
 
-/// Runs a node of a cluster of several machines with these words and this standard input, until it ends. Returns how it ended.
+/// Runs a node of a cluster of several machines with these words and this standard input, until it ends. Returns its end.
 pub fn run_node<
     H: Net<Listener = TcpListener, Stream = TcpStream>
         + Threads

@@ -1,4 +1,4 @@
-// Whole servers: what they print, and the replies to their clients.
+// Whole servers: the lines that they print, and the replies to their clients.
 use crate::messages::{DENIED, DONE, OPEN, TENANT};
 use crate::runs::{KEYS, run_server};
 use crate::socket_clients::{MALFORMED, address, leaves, told};
@@ -25,8 +25,8 @@ pub fn prints<
     run.status == status && run.lines.as_slice() == lines
 }
 
-/// Sends `bytes` to a server's port, as a client, and reads to the end. Returns true if exactly the bytes `want` come back. False if
-/// others come, or it cannot connect or read.
+/// Sends `bytes` to a server's port, as a client, and reads to the end. Returns true if exactly the bytes `want` come back. Returns false
+/// if others come, or if it cannot connect or read.
 pub fn is_told<H: Net<Stream = TcpStream> + Clock>(
     rt: &H,
     alloc: Global,
@@ -68,7 +68,7 @@ fn faults_are_told(rt: HostRuntime) {
     assert!(rt; is_refused && are_too_many);
 }
 
-// Bytes of standard input, and what is told of them. The line on standard output is the same.
+// Bytes of standard input, and the complaint about them. The line on standard output is always the same.
 static BAD_KEYS: [(&[u8], &[u8]); 6] = [
     (
         b"",
@@ -136,7 +136,7 @@ fn two_nodes_are_served(rt: HostRuntime) {
     assert!(rt; is_served && first && second);
 }
 
-// Returns the number of merged events that a server's lines tell: `first`, and then the line with the number.
+// Returns the number of merged events in a server's lines: `first`, and then the line with the number. `None` if there is none.
 fn merged(lines: &[u8], first: &[u8]) -> Option<u64> {
     let rest = lines.strip_prefix(first)?;
     let count = rest.strip_prefix(b"merged ".as_slice())?;
@@ -233,7 +233,7 @@ pub fn is_free<H: Net<Listener = TcpListener, Stream = TcpStream>>(
     is_udp && is_tcp
 }
 
-// The server tells which port is bound already. It leaves no socket: all ports can be bound then.
+// The server names the port that is bound already. It leaves no socket: all ports can be bound afterwards.
 #[test]
 fn bound_ports_are_told(rt: HostRuntime) {
     let holder = UdpSocket::bind(&rt, address(28_451)).expect(&rt, "a socket");

@@ -1,4 +1,4 @@
-// What good and bad clients of a server do over sockets.
+// Good and bad clients of a server over sockets.
 use std::alloc::Global;
 use std::io::{Read, Write};
 use std::net::{Ipv4Addr, Net, Shutdown, SocketAddr, SocketAddrV4, TcpStream};
@@ -25,7 +25,7 @@ pub fn connect<H: Net<Stream = TcpStream> + Clock>(rt: &H, port: u16) -> Option<
     None
 }
 
-/// Connects to a TCP port of this machine, sends these bytes and no more, and returns all that the server writes until it closes.
+/// Connects to a TCP port of this machine, sends these bytes and no more, and returns all bytes that the server writes until it closes.
 /// `None` if it cannot connect, write or read.
 pub fn told<H: Net<Stream = TcpStream> + Clock>(
     rt: &H,

@@ -1,4 +1,4 @@
-// The status of a server and its log: figures of known traffic, read by HTTP, how other requests are answered, and which lines are logged.
+// The status of a server and its log: figures of known traffic, read by HTTP, the answers to other requests, and the lines of the log.
 use crate::chat::{gives, joined};
 use crate::runs::{KEYS, run_server};
 use crate::served::is_free;
@@ -26,7 +26,7 @@ static METRICS: &[u8] = b"GET /metrics HTTP/1.1\r\nHost: localhost\r\n\r\n";
 
 static HEALTH: &[u8] = b"GET /healthz HTTP/1.1\r\nHost: localhost\r\n\r\n";
 
-// What a member asks at node 0, and its replies: two of the six requests are refused.
+// The requests of a member at node 0, and the replies: two of the six requests are refused.
 static TRAFFIC: [(Head, &str, &str); 6] = [
     (Head::Tenant, "7 24 100 4096 100", "ok"),
     (
@@ -48,7 +48,7 @@ static TRAFFIC: [(Head, &str, &str); 6] = [
     ),
 ];
 
-// What a member asks at node 1, which knows no tenant.
+// The request of a member at node 1, which has no tenant.
 static DENIED_OPEN: [(Head, &str, &str); 1] = [(
     Head::Group(CommandHead::Open),
     "8 1",
@@ -76,7 +76,7 @@ static FIGURES: [&[u8]; 17] = [
     b"\nfoqradesh_node_running{node=\"1\"} 1\n",
 ];
 
-// Sends three bytes, which are no packet, to a UDP port. Returns whether they were sent.
+// Sends three bytes, which are no packet, to a UDP port. Returns true if they were sent.
 fn send_garbage<H: Net>(rt: &H, port: u16) -> bool {
     match UdpSocket::bind(rt, address(24_899)) {
         Ok(socket) => socket.send_to(b"hey", address(port)).is_ok(),
@@ -84,7 +84,7 @@ fn send_garbage<H: Net>(rt: &H, port: u16) -> bool {
     }
 }
 
-// Returns whether the figures that are told at a port come to have all these lines; ten seconds are waited for that.
+// Returns true if the figures at a port have all these lines within ten seconds.
 fn has_figures<H: Net<Stream = TcpStream> + Clock>(rt: &H, alloc: Global, port: u16) -> bool {
     for _ in 0..200 {
         if let Some(text) = told(rt, alloc, port, METRICS)
@@ -98,7 +98,7 @@ fn has_figures<H: Net<Stream = TcpStream> + Clock>(rt: &H, alloc: Global, port: 
     false
 }
 
-// Returns whether the server at a port says that it is well.
+// Returns true if the server at a port reports that it is well.
 fn is_healthy<H: Net<Stream = TcpStream> + Clock>(rt: &H, alloc: Global, port: u16) -> bool {
     let Some(text) = told(rt, alloc, port, HEALTH) else {
         return false;
@@ -106,7 +106,7 @@ fn is_healthy<H: Net<Stream = TcpStream> + Clock>(rt: &H, alloc: Global, port: u
     text.starts_with(b"HTTP/1.1 200 ") && text.ends_with(b"\r\n\r\nok\n")
 }
 
-// Returns whether each request is answered as it is to be while the server runs, and the figures tell of it.
+// Returns true if each request is answered as it should be while the server runs, and the figures show it.
 fn asks<H: Net<Stream = TcpStream> + Clock>(rt: &H, alloc: Global) -> Result<bool, ClientFault> {
     let mut member = joined(rt, 24_700, NodeId::new(0))?;
     let mut other = joined(rt, 24_700, NodeId::new(1))?;
@@ -134,13 +134,13 @@ static WATCHED_BEGIN: &[u8] =
 
 static WATCHED_END: &[u8] = b"gb_serve: ends: all connections were served\n";
 
-// Returns whether a log begins with its first line and tells why the server ended. It tells more on a machine that has so much to do that a
-// node is noticed.
+// Returns true if a log begins with its first line and has the reason why the server ended. It has more lines on a busy machine, where a
+// node may be noticed.
 fn is_log(errors: &[u8]) -> bool {
     let Some(rest) = errors.strip_prefix(WATCHED_BEGIN) else {
         return false;
     };
-    // How many bytes a receive buffer has is the system's.
+    // The size of a receive buffer depends on the system.
     let Some(end) = rest.iter().position(|byte| *byte == b'\n') else {
         return false;
     };
@@ -171,7 +171,7 @@ static TAKEN: [&str; 6] = [
     "127.0.0.1:24890",
 ];
 
-// An address for the status that is bound already is told, and nothing is left bound.
+// The complaint names an address for the status that is bound already, and nothing is left bound.
 #[test]
 fn a_bound_address_for_the_status_is_told(rt: HostRuntime) {
     let holder = TcpListener::bind(&rt, address(24_890)).expect(&rt, "a listener");
@@ -191,7 +191,7 @@ fn some_figures() -> Figures {
     figures
 }
 
-// Tells the status by these signals at a port, and looks until this is set. Returns false where it could not listen, or this is never set.
+// Serves the status of these signals at a port until this is set. Returns false if it could not listen, or this is never set.
 fn tells<H: Net<Listener = TcpListener, Stream = TcpStream> + Wait + Clock + Files>(
     rt: &H,
     alloc: Global,
@@ -228,7 +228,7 @@ fn tells<H: Net<Listener = TcpListener, Stream = TcpStream> + Wait + Clock + Fil
 
 static UNAVAILABLE: &[u8] = b"HTTP/1.1 503 Service Unavailable\r\n";
 
-// What is asked, and what the answer begins with. Half a request is answered once no more comes.
+// Requests, and the beginnings of their answers. Half a request is answered once no more comes.
 static ANSWERS: [(&[u8], &[u8]); 8] = [
     (b"GET /metrics HTTP/1.0\r\n\r\n", b"HTTP/1.1 200 OK\r\n"),
     (
@@ -252,7 +252,7 @@ static ANSWERS: [(&[u8], &[u8]); 8] = [
     (b"", b"HTTP/1.1 400 Bad Request\r\n"),
 ];
 
-// Returns whether a request at a port is answered by a text that begins so.
+// Returns true if a request at a port is answered by a text that begins with these bytes.
 fn is_answered<H: Net<Stream = TcpStream> + Clock>(
     rt: &H,
     alloc: Global,
@@ -266,7 +266,7 @@ fn is_answered<H: Net<Stream = TcpStream> + Clock>(
     }
 }
 
-// Returns whether a request of 5,005 bytes without an end is refused, and its connection is closed.
+// Returns true if a request of 5,005 bytes without an end is refused, and its connection is closed.
 fn is_bounded<H: Net<Stream = TcpStream> + Clock>(rt: &H, alloc: Global, port: u16) -> bool {
     let Some(mut stream) = connect(rt, port) else {
         return false;
@@ -281,7 +281,7 @@ fn is_bounded<H: Net<Stream = TcpStream> + Clock>(rt: &H, alloc: Global, port: u
     is_sent && is_read && text.starts_with(b"HTTP/1.1 400 Bad Request\r\n")
 }
 
-// Returns whether clients that send half a request and wait hold up nobody, and lose their connections.
+// Returns true if clients that send half a request and wait delay no other client, and lose their connections.
 fn are_left<H: Net<Stream = TcpStream> + Clock>(rt: &H, alloc: Global, port: u16) -> bool {
     let mut silent = Vec::new(alloc);
     for _ in 0..10 {
@@ -307,7 +307,7 @@ fn are_left<H: Net<Stream = TcpStream> + Clock>(rt: &H, alloc: Global, port: u16
     is_answered && are_left
 }
 
-// Returns whether each of the requests is answered as it is to be.
+// Returns true if each of the requests is answered as it should be.
 fn are_answered<H: Net<Stream = TcpStream> + Clock>(rt: &H, alloc: Global) -> bool {
     let mut are_right = true;
     for (bytes, want) in &ANSWERS {
@@ -316,7 +316,7 @@ fn are_answered<H: Net<Stream = TcpStream> + Clock>(rt: &H, alloc: Global) -> bo
     are_right
 }
 
-// Returns whether all is answered as it is to be, also once the server is over. Sets this at the end.
+// Returns true if all is answered as it should be, also once the server is over. Sets this at the end.
 fn asks_all<H: Net<Stream = TcpStream> + Clock>(
     rt: &H,
     alloc: Global,
@@ -353,7 +353,7 @@ fn each_request_is_answered_and_nobody_waits(rt: HostRuntime) {
     assert!(rt; has_told && are_answered);
 }
 
-// What a log writes by its signals in five looks: before the second node 1 noticed nodes 0 and 2, and before the fourth the server was told to end, twice.
+// Returns the log of five looks at signals: before the second look node 1 noticed nodes 0 and 2; before the fourth the end was set, twice.
 fn log_of(alloc: Global, is_quiet: bool) -> Option<Vec<u8>> {
     let signals = Signals::new(alloc, NodeId::new(0), 3).ok()?;
     let mut log = ServerLog::new(alloc, b"gb_serve", NodeId::new(0), 3, is_quiet).ok()?;
@@ -375,7 +375,7 @@ fn log_of(alloc: Global, is_quiet: bool) -> Option<Vec<u8>> {
 static LOG: &[u8] =
     b"gb_serve: node 1 noticed node 0 as crashed\ngb_serve: node 1 noticed node 2 as crashed\ngb_serve: node 1 has as many connections as are allowed, and closes more\ngb_serve: node 1 lacked memory\ngb_serve: ends: an administrator asked for it\n";
 
-// Returns whether a log has written this.
+// Returns true if a log has written this text.
 fn has_written(alloc: Global, is_quiet: bool, text: &[u8]) -> bool {
     let Some(lines) = log_of(alloc, is_quiet) else {
         return false;

@@ -24,7 +24,7 @@ static STOPPED: [&str; 6] = [
     "--quiet",
 ];
 
-// A client is served, and then standard input tells the server to stop, which would serve for ever otherwise. A line that is no
+// A client is served, and then standard input has the line `stop`, without which the server would serve for ever. A line that is no
 // order is ignored.
 #[test]
 fn a_line_stops_a_server(rt: HostRuntime) {
@@ -139,7 +139,7 @@ fn without_a_thread(alloc: Global) -> Result<Signals, OutOfMemory> {
     Ok(signals)
 }
 
-// Returns true if a server with these signals tells that it serves.
+// Returns true if a server with these signals prints that it serves.
 fn tells<H: Wait + Clock>(rt: &H, alloc: Global, signals: &Signals) -> bool {
     let mut lines = Vec::new(alloc);
     let mut input: &[u8] = b"";

@@ -21,8 +21,8 @@ use std::sync::atomic::{AtomicU64, Ordering};
 use std::thread::Threads;
 use std::time::Clock;
 
-/// Two clients, each of which asks once at its own node, and the counters of their replies. The one with this number is held until
-/// the other is answered.
+/// Two clients, each of which asks once at its own node, and the counters of their replies. The client with the number `held` is held
+/// until the other one is answered.
 #[derive(Clone, Copy)]
 struct Both<'a> {
     held: usize,
@@ -65,7 +65,7 @@ fn pair<T: Drop>(alloc: Global, first: T, second: T) -> Option<Vec<T>>
     Some(list)
 }
 
-// Returns how both sessions ended.
+// Returns the ends of both sessions.
 fn ends_of<L: Tapes + Send + Sync, R: Threads + Wait + Clock + Sync>(
     rt: &R,
     alloc: Global,
@@ -94,7 +94,7 @@ fn ends_of<L: Tapes + Send + Sync, R: Threads + Wait + Clock + Sync>(
     sessions(rt, alloc, host, seats, streams, gates).ok()
 }
 
-// Holds both sessions at once. Returns the number of sessions that ended well.
+// Runs both sessions at once. Returns the number of sessions that ended well.
 fn hold_both<L: Tapes + Send + Sync, R: Threads + Wait + Clock + Sync>(
     rt: &R,
     alloc: Global,
@@ -111,7 +111,7 @@ fn hold_both<L: Tapes + Send + Sync, R: Threads + Wait + Clock + Sync>(
     count
 }
 
-// Holds a session with a client of node 1. Returns true if it ended as expected.
+// Runs a session with a client of node 1. Returns true if it ended as expected.
 fn converse<L: Tapes, R: Wait>(
     rt: &R,
     alloc: Global,
@@ -152,7 +152,7 @@ fn calls_of<L: Tapes>(seats: &[Seat<L>]) -> [usize; 2] {
     calls
 }
 
-// Opens a host with two seats, holds a talk, and closes the host. Returns the number of sessions that ended as expected, and the
+// Opens a host with two seats, runs a talk, and closes the host. Returns the number of sessions that ended as expected, and the
 // number of calls that each seat noted. `None` if the host, or its end, was refused.
 fn run<L: Tapes + Send + Sync, R: Threads + Wait + Clock + Sync>(
     rt: &R,
@@ -179,7 +179,7 @@ fn run<L: Tapes + Send + Sync, R: Threads + Wait + Clock + Sync>(
     }
 }
 
-// Does the same on a host of two nodes.
+// Opens and closes a host of two nodes, and runs a talk, like `run`.
 fn hold<R: Threads + Wait + Clock + Sync>(
     rt: &R,
     alloc: Global,

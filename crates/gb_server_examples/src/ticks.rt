@@ -53,7 +53,7 @@ fn serve_until<
     run.status
 }
 
-// Returns whether the figures at a port tell soon of more ticks than none, for which they have this line.
+// Returns true if the figures at a port soon have a line of ticks that is not `none`, the line of zero ticks.
 fn ticks_soon<H: Net<Stream = TcpStream> + Clock>(
     rt: &H,
     alloc: Global,
@@ -72,7 +72,7 @@ fn ticks_soon<H: Net<Stream = TcpStream> + Clock>(
     false
 }
 
-// Each node's ticks wait for the other one, and not for the minute that they may wait at most.
+// Each node's ticks wait for the other one, and not for the whole minute.
 #[test]
 fn ticks_begin_when_all_nodes_were_heard(rt: HostRuntime) {
     let alloc = rt.alloc();

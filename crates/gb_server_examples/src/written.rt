@@ -1,12 +1,12 @@
-// A client whose replies may leave only once what happened is kept.
+// A client whose replies may leave only once the events before them are kept.
 use crate::desk::{Asked, Desk, Nobody, Pen};
 use gb_loop::{Client, Turn, Way};
 use std::alloc::Global;
 use std::cell::Cell;
 use std::rt::HostRuntime;
 
-// Makes a turn of a client with a reply that waits, where all is kept the first `most` times that it is asked. Returns true if the turn
-// failed, and the number of bytes that were written.
+// Makes a turn of a client with a reply that waits, with a record that is kept the first `most` times that it is asked. Returns true if
+// the turn failed, and the number of bytes that were written.
 fn turn_of(alloc: Global, most: u32) -> (bool, usize) {
     let desk = Desk::new(alloc);
     let asked = Asked {

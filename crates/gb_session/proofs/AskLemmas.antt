@@ -1,4 +1,4 @@
--- What is asked: read from words, and found at the front of bytes.
+-- The asks that are read from words, and found at the front of bytes.
 use Rattle.gb_types.specs.Common.{◌≡◌, ◌↔◌, ℕ, ◌+◌, ◌-◌, ◌<◌, ◌≤◌, List, [], ◌∷◌, ◌++◌, Option, Some, None, refl, sym, ap, ◌∙◌, subst, inr, decimal, codes, length, take, drop, arith, IfSome, IfNone, append_assoc, append-nil, take-append-drop, none-some}
 use Rattle.std.specs.declared.{alloc.Global.Global, vec.Vec.Vec}
 use Rattle.gb_spelling.specs.Common.{IsLong, words_of}
@@ -7,11 +7,11 @@ use Rattle.gb_session.specs.Asks.{IsPlace, SpellsPlaces, SpellsAwait, IsAwaitTex
 use Rattle.gb_session.specs.Streams.{framed, said_length}
 use Rattle.gb_session.proofs.FrontLemmas.{AreBytes, front_is}
 
--- words whose first places are these spell no others: any places that they spell up to a last word begin with these
+-- these places are the only ones that the words begin with: any places that the words spell up to a last word begin with these
 abbrev pub AreOnly : List Place → List (List ℕ) → List (List ℕ) → Type 0
 AreOnly places words rest = (all : List Place) (last : List ℕ) → SpellsPlaces all words (last ∷ []) → (more : List Place) × (all ≡ places ++ more) × SpellsPlaces more rest (last ∷ [])
 
--- what a reader of one place answers
+-- the result of a reader of one place
 abbrev pub ReadsPlace : Option Place → List ℕ → List ℕ → List ℕ → List ℕ → List ℕ → Type 0
 ReadsPlace answer token tenant group from most = (place : Place) → (answer ≡ Some place) ↔ IsPlace place token tenant group from most
 
@@ -61,7 +61,7 @@ only_more old new words rest more place token tenant group from most answer only
           subst (λ w. SpellsPlaces left w (last ∷ [])) (same_words token tenant group from most token' tenant' group' from' most' more more' words_are).5 behind,
         )
 
--- where no place is read there are no places up to a last word
+-- where no place can be read, the words spell no places up to a last word
 pub no_place : (places : List Place) (words rest more : List (List ℕ)) (token tenant group from most : List ℕ) (answer : Option Place) → AreOnly places words rest
     → rest ≡ token ∷ tenant ∷ group ∷ from ∷ most ∷ more → ReadsPlace answer token tenant group from most → answer ≡ None → (awaited : Awaited) → SpellsAwait awaited words → ⊥
 no_place places words rest more token tenant group from most answer only is reads answered awaited spelt = go (only awaited.places.items (decimal awaited.wait) spelt.words_are)
@@ -74,7 +74,7 @@ no_place places words rest more token tenant group from most answer only is read
     go (p ∷ left, same, (token', tenant', group', from', most', more', is', here', behind)) =
         none-some p (sym answered ∙ (reads p).1 (place_here p token tenant group from most token' tenant' group' from' most' more more' (sym is ∙ is') here'))
 
--- a few words alone are left: these places are all, and the one word is the last
+-- where fewer words are left than a place has, these places are all, and the one word is the last
 pub all_places : (places : List Place) (words rest : List (List ℕ)) → AreOnly places words rest → length rest < 5 → (awaited : Awaited) → SpellsAwait awaited words
     → (awaited.places.items ≡ places) × (rest ≡ decimal awaited.wait ∷ [])
 all_places places words rest only few awaited spelt = go (only awaited.places.items (decimal awaited.wait) spelt.words_are)
@@ -147,7 +147,7 @@ SpellsAsks-more [] s r x here = ap (λ y. y ++ x) here
 SpellsAsks-more (q ∷ a) s r x (body, more, is, spelt, rest) =
     (body, more ++ x, ap (λ y. y ++ x) is ∙ append_assoc (framed body) more x, spelt, SpellsAsks-more a more r x rest)
 
--- one message
+-- a message at the front of a stream is one ask
 pub SpellsAsks-one : (bytes rest : List ℕ) (ask : Ask) (end : ℕ) → IsAskMessage bytes ask end → rest ≡ drop end bytes → SpellsAsks (ask ∷ []) bytes rest
 SpellsAsks-one bytes rest ask end message left =
     (take (said_length bytes) (drop 4 bytes), drop end bytes, sym (take-append-drop end bytes) ∙ ap (λ x. x ++ drop end bytes) message.front, message.spelt, sym left)

@@ -1,4 +1,4 @@
--- What one more message does to a session.
+-- The effect of one more message on a session.
 use Rattle.gb_types.specs.Common.{◌≡◌, ℕ, ◌<◌, Bool, List, [], ◌∷◌, ◌++◌, Option, length, refl, sym, ap, ◌∙◌, subst, inl, inr, arith, append_assoc, append-nil, length-append}
 use Rattle.gb_types.specs.declared.{reply.Reply.Reply, request.Request.Request}
 use Rattle.gb_session.specs.Answering.{Answering}
@@ -13,7 +13,7 @@ use Rattle.gb_session.specs.Takes.{AnswersFront, IsWithin, StopsSo, Takes, Break
 use Rattle.gb_session.specs.Nexts.{IsOutcome, IsNext, FailsNext, SettlesFront, behind}
 use Rattle.gb_session.proofs.SettleLemmas.{front_one}
 
--- what is replied settles an ask
+-- a reply settles an ask
 by_reply : (tells : Telling) (late : Bool) (ask : Ask) (requests : List Request) (replies : List Reply) (label : Option ℕ) (reply : Reply) → SettlesBy late ask requests replies label reply
     → Settles tells late ask requests replies (answer_text label reply)
 by_reply tells late (Now request) requests replies label reply here = (label, reply, here, refl)
@@ -24,7 +24,7 @@ pub outcome_settles : (tells : Telling) (late : Bool) (ask : Ask) (requests : Li
     → IsOutcome late ask requests replies outcome → outcome ≡ Replied label reply → Settles tells late ask requests replies (answer_text label reply)
 outcome_settles tells late ask requests replies outcome label reply here is = by_reply tells late ask requests replies label reply (subst (IsOutcome late ask requests replies) is here)
 
--- a text that may be told to an operation settles it, and no request was asked
+-- a text that an operation may get settles it, without a request
 pub operation_settles : (tells : Telling) (late : Bool) (ask : Ask) (requests : List Request) (replies : List Reply) (operation : Operation) (text : List ℕ)
     → (ask ≡ Operate operation) × (requests ≡ []) × (replies ≡ []) → tells operation text → Settles tells late ask requests replies text
 operation_settles tells late ask requests replies operation text (is, none, none') told = subst (λ a. Settles tells late a requests replies text) (sym is) (none, none', told)
@@ -34,7 +34,7 @@ pub nothing_asked : {S : Type 0} (answers : Answering S) (s t : S) (ask : Ask) (
 nothing_asked answers s t ask requests replies operation (is, none, none') ran =
     sym (subst (λ x. IsRun answers s [] x t) none' (subst (λ q. IsRun answers s q replies t) none ran))
 
--- the same of equal bytes
+-- the result of the message in front is the same for equal bytes
 pub next_same : {S : Type 0} (answers : Answering S) (late : Bool) (s t : S) (bytes bytes' : List ℕ) (left left' : ℕ) (before after : List ℕ) (next : Next)
     → bytes ≡ bytes' → left ≡ left' → IsNext answers late s t bytes left before after next → IsNext answers late s t bytes' left' before after next
 next_same answers late s t bytes bytes' left left' before after next same same' here =
@@ -45,7 +45,7 @@ pub fails_same : {S : Type 0} (answers : Answering S) (late : Bool) (s t : S) (b
 fails_same answers late s t bytes bytes' left left' before after same same' here =
     subst (λ b. FailsNext answers late s t b left' before after) same (subst (λ k. FailsNext answers late s t bytes k before after) same' here)
 
--- all but the last of two equal lists
+-- two equal lists without their last elements are equal
 snoc_first : {A : Type 0} (xs ys : List A) (x y : A) → xs ++ x ∷ [] ≡ ys ++ y ∷ [] → xs ≡ ys
 snoc_first [] [] x y is = refl
 snoc_first [] (z ∷ ys) x y is = absurd (omega (arith, ap length is, length-append ys (y ∷ [])))
@@ -73,7 +73,7 @@ pub written_one : (before now after : List ℕ) (texts : List (List ℕ)) (text 
 written_one before now after texts text is next =
     next ∙ ap (λ x. x ++ framed text) is ∙ append_assoc before (framed_all texts) (framed text) ∙ ap (λ z. before ++ z) (sym (framed_one texts text))
 
--- one more message is answered
+-- the messages at the front after one more message is answered
 pub front_next : {S : Type 0} (answers : Answering S) (late : Bool) (s t u : S) (bytes : List ℕ) (session session' : SessionValue) (texts : List (List ℕ)) (n : ℕ) (end : ℕ) (text : List ℕ)
     → AnswersFront answers late s t bytes session.kept texts n session.left → SettlesFront answers late t u session.kept end text → 0 < session.left → session' ≡ behind session (Answered end)
     → AnswersFront answers late s u bytes session'.kept (texts ++ text ∷ []) n session'.left
@@ -81,7 +81,7 @@ front_next answers late s t u bytes session session' texts n end text front sett
     front_one answers late s t u bytes session.kept session'.kept texts n session.left session'.left end text front settles (ap (λ v. v.kept) is)
     (omega (arith, some, ap (λ v. v.left) is))
 
--- a session that ends
+-- a session stops as it ends
 pub stops_ended : {S : Type 0} (answers : Answering S) (late : Bool) (s t : S) (rest : List ℕ) (left room : ℕ) (told now after : List ℕ) (end : SessionEnd) → now ≡ told
     → IsNext answers late s t rest left now after (Ended end) → StopsSo answers late s t rest left room told after (steps.Ended end)
 stops_ended answers late s t rest left room told now after Malformed is here = (here.0, here.1, here.2, here.3 ∙ ap (λ x. x ++ malformed_message) is)
@@ -102,7 +102,7 @@ takes_ended answers late s t u bytes session session' before now after texts n r
       stops = stops_ended answers late t u session.kept session.left room (before ++ framed_all texts) now after end is next;
     })
 
--- where memory failed behind messages that are answered
+-- a session breaks off where memory failed behind messages that are answered
 pub breaks_off : {S : Type 0} (answers : Answering S) (late : Bool) (s t u : S) (bytes : List ℕ) (session session' : SessionValue) (before now after : List ℕ) (texts : List (List ℕ)) (n room : ℕ)
     → AnswersFront answers late s t bytes session.kept texts n session.left → IsWithin room before texts → now ≡ before ++ framed_all texts
     → FailsNext answers late t u session.kept session.left now after → session' ≡ session
@@ -126,6 +126,6 @@ pub fails_settled : {S : Type 0} (answers : Answering S) (late : Bool) (s t : S)
     → 0 < left → after ≡ before → SettlesFront answers late s t bytes end text → FailsNext answers late s t bytes left before after
 fails_settled answers late s t bytes left before after end text some same settles = (some, same, inr (end, text, settles))
 
--- there was no memory for the text that is told to an operation
+-- there was no memory for the text of the reply to an operation
 pub fails_nothing : {S : Type 0} (answers : Answering S) (late : Bool) (s t : S) (bytes : List ℕ) (left : ℕ) (before after : List ℕ) → 0 < left → after ≡ before → t ≡ s → FailsNext answers late s t bytes left before after
 fails_nothing answers late s t bytes left before after some same is = (some, same, inl is)

@@ -20,7 +20,7 @@ one_empty : (reply : Reply) → is_empty_log reply ≡ true → All (λ r. is_em
 one_empty reply empty zero d low = empty
 one_empty reply empty (suc k) d low = absurd (omega arith)
 
--- nothing at one place more
+-- one more place has nothing
 pub none_one : (places more : List Place) (place : Place) (requests : List Request) (replies : List Reply) (reply : Reply) → FindsNone places requests replies → more ≡ places ++ place ∷ []
     → is_empty_log reply ≡ true → FindsNone more (requests ++ fetch_of place ∷ []) (replies ++ reply ∷ [])
 none_one places more place requests replies reply none are empty = (
@@ -28,7 +28,7 @@ none_one places more place requests replies reply none are empty = (
   All-append (λ r. is_empty_log r ≡ true) replies (reply ∷ []) none.1 (one_empty reply empty),
 )
 
--- something at the next place
+-- the next place has something
 pub found_here : (all places behind : List Place) (at : ℕ) (place : Place) (requests : List Request) (replies : List Reply) (reply : Reply) → FindsNone places requests replies
     → all ≡ places ++ place ∷ behind → at ≡ length places → is_empty_log reply ≡ false → Finds all at reply (requests ++ fetch_of place ∷ []) (replies ++ reply ∷ [])
 found_here all places behind at place requests replies reply none are at_is something = record {
@@ -44,7 +44,7 @@ found_here all places behind at place requests replies reply none are at_is some
   is_something = something;
 }
 
--- one place more of those that are fetched from
+-- the places that are fetched from, with one more
 pub place_more : (places : List Place) (at : ℕ) (d : Place) → at < length places → take (at + 1) places ≡ take at places ++ get_or places at d ∷ []
 place_more places at d low = rw add-one (take-suc places at d low)
 
@@ -55,7 +55,7 @@ place_here places at d low = sym (take-append-drop at places) ∙ ap (λ r. take
 pub settled_now : (late : Bool) (ask : Ask) (request : Request) (reply : Reply) → ask ≡ Now request → SettlesBy late ask (request ∷ []) (reply ∷ []) None reply
 settled_now late ask request reply is = subst (λ a. SettlesBy late a (request ∷ []) (reply ∷ []) None reply) (sym is) (refl, refl, refl)
 
--- what is settled early is settled late too
+-- an ask that is settled early is settled late too
 pub SettlesBy-late : (late : Bool) (ask : Ask) (requests : List Request) (replies : List Reply) (label : Option ℕ) (reply : Reply) → SettlesBy late ask requests replies label reply → SettlesBy true ask requests replies label reply
 SettlesBy-late late (Now request) requests replies label reply here = here
 SettlesBy-late late (Await awaited) requests replies label reply (inl here) = inl here
@@ -113,7 +113,7 @@ SettlesAll-join tells late (ask ∷ a) b q r x y t u (first, more, first', more'
   SettlesAll-join tells late a b more r more' y texts' u rest next,
 )
 
--- nothing was answered yet
+-- a session before it has answered a message
 pub front_none : {S : Type 0} (answers : Answering S) (late : Bool) (s : S) (bytes : List ℕ) (n : ℕ) → AnswersFront answers late s s bytes bytes [] n n
 front_none answers late s bytes n = record {
   requests = [];
@@ -124,7 +124,7 @@ front_none answers late s bytes n = record {
   counted = omega arith;
 }
 
--- one more message was asked
+-- the messages at the front after one more message was asked
 pub front_one : {S : Type 0} (answers : Answering S) (late : Bool) (s t u : S) (bytes rest rest' : List ℕ) (texts : List (List ℕ)) (n m m' : ℕ) (end : ℕ) (text : List ℕ)
     → AnswersFront answers late s t bytes rest texts n m → SettlesFront answers late t u rest end text → rest' ≡ drop end rest → m ≡ m' + 1
     → AnswersFront answers late s u bytes rest' (texts ++ text ∷ []) n m'

@@ -1,4 +1,4 @@
--- Pieces joined to a whole session.
+-- Pieces of a stream joined to a whole session.
 use Rattle.gb_types.specs.Common.{◌≡◌, ◌⊎◌, inl, inr, ℕ, ◌-◌, ◌<◌, drop, arith, Bool, true, List, [], ◌∷◌, ◌++◌, map, refl, sym, ap, ◌∙◌, subst, append_assoc, append-nil, All-append, IfOk, OnErr, Result, Ok, Err}
 use Rattle.gb_types.specs.declared.{reply.Reply.Reply, request.Request.Request}
 use Rattle.gb_session.specs.Answering.{Answering}
@@ -86,7 +86,7 @@ in_time_of tells late (ask ∷ asks) requests replies texts (first, more, first'
   in_time_of tells late asks more more' texts' rest,
 )
 
--- what a piece answers, and then some fetches in vain
+-- the messages that a piece answers, and then some fetches that find nothing
 served_front : {S : Type 0} (answers : Answering S) (late : Bool) (s t u v : S) (stream kept piece rest written : List ℕ) (texts : List (List ℕ)) (n m : ℕ) (requests : List Request) (replies : List Reply)
     → ServedSoFar answers s t stream kept written → AnswersFront answers late t u (kept ++ piece) rest texts n m → IsRun answers u requests replies v → AreInVain requests replies
     → ServedSoFar answers s v (stream ++ piece) rest (written ++ framed_all texts)
@@ -142,7 +142,7 @@ served_more answers late t u kept piece rest before after n m room (Ended Limit)
 served_more answers late t u kept piece rest before after n m room (Ended Finished) takes s stream written served = absurd takes.stops
 served_more answers late t u kept piece rest before after n m room (Ended Cut) takes s stream written served = absurd takes.stops
 
--- what is taken behind a piece that was put
+-- the messages that are taken after a piece was appended
 pub took : {S E : Type 0} (answers : Answering S) (late : Bool) (s t : S) (session session' : SessionValue) (piece rest before after : List ℕ) (m room : ℕ) (result : Result Step E)
     → session' ≡ record { kept = session.kept ++ piece; left = session.left } → IfOk result (Takes answers late s t session'.kept rest before after session'.left m room)
     → IfOk result (Takes answers late s t (session.kept ++ piece) rest before after session.left m room)
@@ -154,7 +154,7 @@ pub whole : {S E : Type 0} (answers : Answering S) (late : Bool) (t u : S) (kept
 whole answers late t u kept piece rest before after n m room (Ok step) takes = served_more answers late t u kept piece rest before after n m room step takes
 whole answers late t u kept piece rest before after n m room (Err why) takes = tt
 
--- where memory failed for a piece that was put
+-- memory failed after a piece was appended
 pub broke : {S E : Type 0} (answers : Answering S) (late : Bool) (s t : S) (session session' new : SessionValue) (piece before after : List ℕ) (room : ℕ) (result : Result Step E)
     → session' ≡ record { kept = session.kept ++ piece; left = session.left } → OnErr result (BreaksOff answers late s t session'.kept new.kept before after session'.left new.left room)
     → OnErr result (FailsPiece answers late s t session piece new before after room)
@@ -162,7 +162,7 @@ broke answers late s t session session' new piece before after room (Ok step) sa
 broke answers late s t session session' new piece before after room (Err why) same breaks =
     inr (subst (λ (v : SessionValue). BreaksOff answers late s t v.kept new.kept before after v.left new.left room) same breaks)
 
--- what is taken where it lies, and where memory failed there
+-- the messages that are taken without a copy, and a failure of memory there
 pub took_here : {S E : Type 0} (answers : Answering S) (late : Bool) (s t : S) (old new : SessionValue) (piece rest before after : List ℕ) (n m room : ℕ) (result : Result Step E)
     → old.kept ≡ [] → n ≡ old.left → new ≡ record { kept = rest; left = m } → IfOk result (Takes answers late s t piece rest before after n m room)
     → IfOk result (Takes answers late s t (old.kept ++ piece) new.kept before after old.left new.left room)
@@ -183,7 +183,7 @@ broke_here answers late s t old new piece rest before after n m room (Err why) n
 pub nothing_put : {S : Type 0} (answers : Answering S) (late : Bool) (s : S) (old new : SessionValue) (piece before : List ℕ) (room : ℕ) → new ≡ old → FailsPiece answers late s s old piece new before before room
 nothing_put answers late s old new piece before room same = inl (same, refl, refl)
 
--- nothing was served yet
+-- a session before it has served anything
 nothing_served : {S : Type 0} (answers : Answering S) (s : S) (bytes : List ℕ) → ServedSoFar answers s s bytes bytes []
 nothing_served answers s bytes = record { asks = []; requests = []; replies = []; texts = []; spells = refl; settles = (none_in_vain, refl); runs = refl; written_is = refl }
 
@@ -196,7 +196,7 @@ in_turn : {S : Type 0} (answers : Answering S) (s t : S) (bytes rest written las
     → AsksInTurn answers s t bytes sent
 in_turn answers s t bytes rest written last after sent unsent served told is parts = record { rest = rest; written = written; served = served; last = last; last_is = told; unsent = unsent; sent_is = sym is ∙ parts }
 
--- what a session took, and a beginning of what it told
+-- the messages that a session took, and a beginning of its replies
 pub takes_in_turn : {S : Type 0} (answers : Answering S) (late : Bool) (s t : S) (bytes rest after sent unsent : List ℕ) (n m room : ℕ) (step : Step)
     → Takes answers late s t bytes rest [] after n m room step → after ≡ sent ++ unsent → AsksInTurn answers s t bytes sent
 takes_in_turn answers late s t bytes rest after sent unsent n m room Hungry takes parts =
@@ -222,13 +222,13 @@ broken_in_turn answers late s mid t bytes rest texts n m front some (inr (end, t
     in_turn answers s t bytes (drop end rest) (framed_all all) [] (framed_all all ++ []) [] (framed_all all ++ [])
     (served_all answers late s t t bytes (drop end rest) all n (m - 1) [] [] (front_one answers late s mid t bytes rest (drop end rest) texts n m (m - 1) end text front settles refl (omega (arith, some))) refl none_in_vain) (inl refl) refl refl
 
--- what a session asked where memory failed
+-- the messages that a session asked before memory failed
 pub fails_in_turn : {S : Type 0} (answers : Answering S) (late : Bool) (s t : S) (old new : SessionValue) (piece before after : List ℕ) (room : ℕ)
     → FailsPiece answers late s t old piece new before after room → AsksInTurn answers s t (old.kept ++ piece) []
 fails_in_turn answers late s t old new piece before after room (inl (same, is, kept)) =
     in_turn answers s t (old.kept ++ piece) (old.kept ++ piece) [] [] [] [] [] (subst (λ v. ServedSoFar answers s v (old.kept ++ piece) (old.kept ++ piece) []) (sym is) (nothing_served answers s (old.kept ++ piece))) (inl refl) refl refl
 fails_in_turn answers late s t old new piece before after room (inr breaks) = broken_in_turn answers late s breaks.mid t (old.kept ++ piece) new.kept breaks.texts old.left new.left breaks.front breaks.some breaks.last
 
--- what was asked in turn was asked
+-- asks in turn are asks
 pub in_turn_asked : {S : Type 0} {answers : Answering S} {s t : S} {bytes sent : List ℕ} → AsksInTurn answers s t bytes sent → HasAsked answers s t
 in_turn_asked {S} {answers} {s} {t} {bytes} {sent} asks = (asks.served.requests, asks.served.replies, asks.served.runs)

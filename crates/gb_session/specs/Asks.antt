@@ -1,4 +1,4 @@
--- What a client asks, and how it is spelt.
+-- The asks of a client, and how they are spelt.
 use Rattle.std.specs.Prelude.{◌≡◌, ℕ, ◌+◌, ◌<◌, ◌≤◌, ◌⊎◌, List, [], ◌∷◌, ◌++◌, length, take, drop, Some, decimal, codes}
 use Rattle.gb_spelling.specs.Common.{IsShort, IsLong, group_word, IsGroup, token_of, words_of}
 use Rattle.gb_session.specs.declared.{ask.Ask.Ask, ask.Awaited.Awaited, ask.Place.Place, ask.TheConstants.PLACES, ask.TheConstants.WAIT, grammar.TheConstants.BODY, ask.Ask.TheVariants.Now, ask.Ask.TheVariants.Await, ask.Ask.TheVariants.Operate}
@@ -18,14 +18,14 @@ pub record IsPlace (place : Place) (token tenant group from most : List ℕ) : T
   pub from_in : IsLong place.from
   pub most_in : IsLong place.most
 
--- words spell these places, one after the other, and other words stand behind them
+-- words spell these places, one after the other, and these other words follow
 abbrev pub SpellsPlaces : List Place → List (List ℕ) → List (List ℕ) → Type 0
 SpellsPlaces [] words rest = words ≡ rest
 SpellsPlaces (place ∷ places) words rest =
     (token tenant group from most : List ℕ) × (more : List (List ℕ)) × (words ≡ token ∷ tenant ∷ group ∷ from ∷ most ∷ more)
     × IsPlace place token tenant group from most × SpellsPlaces places more rest
 
--- the words of 1 to 16 places, and behind them how long is waited
+-- the words of 1 to 16 places, followed by the longest wait
 pub record SpellsAwait (awaited : Awaited) (words : List (List ℕ)) : Type 0 where
   pub words_are : SpellsPlaces awaited.places.items words (decimal awaited.wait ∷ [])
   pub some : 1 ≤ length awaited.places.items
@@ -45,7 +45,7 @@ IsAskText body (Now request) = IsRequestText body request
 IsAskText body (Await awaited) = IsAwaitText body awaited
 IsAskText body (Operate operation) = IsOperationText body operation
 
--- the messages at the front of a stream ask this, and the rest is behind them
+-- the messages at the front of a stream ask this, and this rest follows them
 abbrev pub SpellsAsks : List Ask → List ℕ → List ℕ → Type 0
 SpellsAsks [] stream rest = stream ≡ rest
 SpellsAsks (ask ∷ asks) stream rest =

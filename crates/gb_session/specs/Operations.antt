@@ -1,9 +1,9 @@
--- What an administrator asks, and how it is spelt.
+-- The operations that an administrator asks for, and how they are spelt.
 use Rattle.std.specs.Prelude.{◌≡◌, ℕ, ◌≤◌, List, [], ◌∷◌, length, Some, decimal, codes}
 use Rattle.gb_spelling.specs.Common.{IsLong, token_of, words_of}
 use Rattle.gb_session.specs.declared.{grammar.TheConstants.BODY, operation.Operating.Operating, operation.Operation.Operation, operation.Operating.TheVariants.Status, operation.Operating.TheVariants.List as Listing, operation.Operating.TheVariants.Stop}
 
--- the first word of an operation, and the words behind its token: `FROM MAX` behind `list`, none behind the others
+-- the first word of an operation, and the words behind its token: `FROM MAX` for `list`, none for the others
 abbrev pub IsOperating : Operating → List ℕ → List (List ℕ) → Type 0
 IsOperating Status head words = (head ≡ codes "status") × (words ≡ [])
 IsOperating (Listing from most) head words = (head ≡ codes "list") × (words ≡ decimal from ∷ decimal most ∷ []) × IsLong from × IsLong most

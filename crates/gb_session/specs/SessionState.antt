@@ -1,9 +1,9 @@
--- What a session's fields say, and what holds of them.
+-- The meaning of a session's fields, and their invariant.
 use Rattle.std.specs.Prelude.{◌≤◌, drop, vec_len}
 use Rattle.gb_session.specs.SessionValue.{SessionValue}
 use Rattle.gb_session.specs.declared.session.Session.TheInside.{Inside}
 
--- the bytes that are not answered yet
+-- the bytes that are not answered yet, and the number of messages that may still be answered
 abbrev pub session_value : Inside → SessionValue
 session_value f = record { kept = drop f.at f.bytes.items; left = f.left }
 

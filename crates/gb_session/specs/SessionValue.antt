@@ -1,4 +1,4 @@
--- What a session is to those who use it.
+-- The state of a session, as contracts see it.
 use Rattle.std.specs.Prelude.{ℕ, List}
 
 -- a session: the bytes that are not answered yet, and the number of messages that may still be answered

@@ -16,11 +16,11 @@ abbrev pub is_empty_log : Reply → Bool
 is_empty_log (Log []) = true
 is_empty_log other = false
 
--- each place was fetched from, in turn, and there was nothing at any of them
+-- each place was fetched from, in turn, and each reply was an empty log
 abbrev pub FindsNone : List Place → List Request → List Reply → Type 0
 FindsNone places requests replies = (requests ≡ map fetch_of places) × All (λ reply. is_empty_log reply ≡ true) replies
 
--- each place before this one was fetched from in turn, and nothing was there; the reply from this one is no empty log
+-- each place before this one was fetched from in turn, and had nothing; the reply from this one is no empty log
 pub record Finds (places : List Place) (at : ℕ) (found : Reply) (requests : List Request) (replies : List Reply) : Type 0 where
   pub before : List Place
   pub place : Place
@@ -43,7 +43,7 @@ answer_text None reply = reply_spelling reply
 answer_text (Some at) reply = codes "at " ++ decimal at ++ codes " " ++ reply_spelling reply
 
 -- An ask is settled by these requests and their replies, with this reply. A request settles itself. Fetches that wait are settled
--- by the first that finds something; if it is late and none does, by an empty log. An operation has no such reply.
+-- by the first that finds something; if they are late and none does, by an empty log. An operation has no such reply.
 abbrev pub SettlesBy : Bool → Ask → List Request → List Reply → Option ℕ → Reply → Type 0
 SettlesBy is_late (Now request) requests replies label reply = (requests ≡ request ∷ []) × (replies ≡ reply ∷ []) × (label ≡ None)
 SettlesBy is_late (Await awaited) requests replies label reply =
@@ -51,11 +51,11 @@ SettlesBy is_late (Await awaited) requests replies label reply =
     ⊎ ((is_late ≡ true) × FindsNone awaited.places.items requests replies × (label ≡ None) × (reply ≡ Log []))
 SettlesBy is_late (Operate operation) requests replies label reply = ⊥
 
--- The texts that an operation may get.
+-- the texts that each operation may get as its reply
 abbrev pub Telling : Type 1
 Telling = Operation → List ℕ → Type 0
 
--- An ask is settled by these requests and replies, and this is the text of its reply. An operation asks no request.
+-- an ask is settled by these requests and replies, and this is the text of its reply; an operation asks no request
 abbrev pub Settles : Telling → Bool → Ask → List Request → List Reply → List ℕ → Type 0
 Settles tells is_late (Operate operation) requests replies text = (requests ≡ []) × (replies ≡ []) × tells operation text
 Settles tells is_late ask requests replies text =
@@ -76,6 +76,6 @@ pub record HasSettled (tells : Telling) (is_late : Bool) (requests : List Reques
   pub spells : SpellsAsks asks stream rest
   pub settles : SettlesAll tells is_late asks requests replies texts
 
--- texts as they stand in a stream, each with its length
+-- texts, each with its length, as they are written to a stream
 abbrev pub framed_all : List (List ℕ) → List ℕ
 framed_all texts = flat_map framed texts

@@ -1,4 +1,4 @@
--- What a session makes of a piece of its stream.
+-- The result of a piece of a session's stream.
 use Rattle.std.specs.Prelude.{◌≡◌, ℕ, ◌+◌, ◌<◌, ◌≤◌, ◌⊎◌, Bool, false, List, [], ◌∷◌, ◌++◌, length}
 use Rattle.gb_types.specs.declared.{reply.Reply.Reply, request.Request.Request}
 use Rattle.gb_session.specs.Answering.{Answering}
@@ -11,8 +11,8 @@ use Rattle.gb_session.specs.SessionValue.{SessionValue}
 use Rattle.gb_session.specs.Settled.{FindsNone, HasSettled, framed_all}
 use Rattle.gb_session.specs.Streams.{IsBegun}
 
--- Some messages at the front of these bytes are asked in turn and settled, these are the texts of their replies, and the rest stands
--- behind them; n messages could be answered before, and m can now.
+-- Some messages at the front of these bytes are asked in turn and settled, these are the texts of their replies, and this rest
+-- follows them. n messages could be answered before, and m can be answered now.
 pub record AnswersFront {S : Type 0} (answers : Answering S) (is_late : Bool) (s t : S) (bytes rest : List ℕ) (texts : List (List ℕ)) (n m : ℕ) : Type 0 where
   pub requests : List Request
   pub replies : List Reply
@@ -31,8 +31,8 @@ TriesInVain answers s t rest awaited =
     (end : ℕ) × IsAskMessage rest (Await awaited) end × (requests : List Request) × (replies : List Reply) × IsRun answers s requests replies t
     × FindsNone awaited.places.items requests replies
 
--- How it stops behind the messages that are answered: less than a message is left, or there are `room` bytes of replies, or the
--- next message waits, or it asks nothing, which was told, or no more may be answered.
+-- How a session stops behind the messages that are answered: less than a message is left, or there are `room` bytes of replies, or the
+-- next message waits, or it asks nothing and the reply says so, or no more may be answered.
 abbrev pub StopsSo : {S : Type 0} → Answering S → Bool → S → S → List ℕ → ℕ → ℕ → List ℕ → List ℕ → Step → Type 0
 StopsSo answers is_late s t rest left room told after Hungry = (0 < left) × IsBegun rest × (t ≡ s) × (after ≡ told)
 StopsSo answers is_late s t rest left room told after Full = (room ≤ length after) × (t ≡ s) × (after ≡ told)
@@ -41,8 +41,8 @@ StopsSo answers is_late s t rest left room told after (Ended Malformed) = (0 < l
 StopsSo answers is_late s t rest left room told after (Ended Limit) = (left ≡ 0) × (t ≡ s) × (after ≡ told)
 StopsSo answers is_late s t rest left room told after (Ended other) = ⊥
 
--- What is made of the bytes: messages at the front are answered in turn, their replies, each with its length, are written while there
--- is room, and it stops as the step says.
+-- The result of some bytes: messages at the front are answered in turn, their replies, each with its length, are written while there
+-- is room, and the session stops as the step says.
 pub record Takes {S : Type 0} (answers : Answering S) (is_late : Bool) (s t : S) (bytes rest before after : List ℕ) (n m room : ℕ) (step : Step) : Type 0 where
   pub mid : S
   pub texts : List (List ℕ)
@@ -50,7 +50,7 @@ pub record Takes {S : Type 0} (answers : Answering S) (is_late : Bool) (s t : S)
   pub within : IsWithin room before texts
   pub stops : StopsSo answers is_late mid t rest m room (before ++ framed_all texts) after step
 
--- There was no memory. The messages in front of what is kept are answered in turn, and their replies written while there was room; the
+-- There was no memory. The messages before the kept bytes are answered in turn, and their replies written while there was room. The
 -- next message was not asked, or it was asked and its reply is not written. No other message was asked.
 pub record BreaksOff {S : Type 0} (answers : Answering S) (is_late : Bool) (s t : S) (bytes rest before after : List ℕ) (n m room : ℕ) : Type 0 where
   pub mid : S

@@ -1,4 +1,4 @@
--- What a session makes of its whole stream, however that is cut into pieces.
+-- The result of the whole stream of a session, however it is cut into pieces.
 use Rattle.std.specs.Prelude.{◌≡◌, ◌⊎◌, ℕ, true, List, [], ◌∷◌, ◌++◌}
 use Rattle.gb_types.specs.declared.{reply.Reply.Reply, request.Request.Request}
 use Rattle.gb_session.specs.Answering.{Answering}
@@ -8,7 +8,7 @@ use Rattle.gb_session.specs.Asks.{SpellsAsks, AsksNothing}
 use Rattle.gb_session.specs.Runs.{IsRun, malformed_message}
 use Rattle.gb_session.specs.Settled.{FindsNone, Telling, Settles, framed_all}
 
--- these requests fetched from some places, and each reply was an empty log; no client was told of it
+-- these requests fetched from some places, and each reply was an empty log, which no client received
 abbrev pub AreInVain : List Request → List Reply → Type 0
 AreInVain requests replies = (places : List Place) × FindsNone places requests replies
 
@@ -20,7 +20,7 @@ SettlesInTime tells (ask ∷ asks) requests replies texts =
     × (text : List ℕ) × (texts' : List (List ℕ)) × (requests ≡ vain ++ (first ++ more)) × (replies ≡ vain' ++ (first' ++ more')) × (texts ≡ text ∷ texts')
     × AreInVain vain vain' × Settles tells true ask first first' text × SettlesInTime tells asks more more' texts'
 
--- The session has answered what the messages of the stream so far ask, up to these bytes, and this is what was written.
+-- The session has answered the messages of the stream so far, up to these kept bytes, and has written these bytes.
 pub record ServedSoFar {S : Type 0} (answers : Answering S) (s t : S) (stream kept written : List ℕ) : Type 0 where
   pub asks : List Ask
   pub requests : List Request
@@ -31,7 +31,7 @@ pub record ServedSoFar {S : Type 0} (answers : Answering S) (s t : S) (stream ke
   pub runs : IsRun answers s requests replies t
   pub written_is : written ≡ framed_all texts
 
--- what is told last
+-- the last reply before a session ends
 abbrev pub last_of : Step → List ℕ
 last_of Hungry = []
 last_of Full = []
@@ -39,18 +39,18 @@ last_of (Parked awaited) = []
 last_of (Ended Malformed) = malformed_message
 last_of (Ended other) = []
 
--- one more piece: whatever the session had served so far, it has now served the stream with the piece, and wrote what is new
+-- after one more piece: the session has now served whatever it had served before and the piece, and has written the new replies
 abbrev pub ServesMore : {S : Type 0} → Answering S → S → S → List ℕ → List ℕ → List ℕ → List ℕ → List ℕ → Step → Type 0
 ServesMore {S} answers t u kept piece kept' before after step =
     (s : S) (stream written : List ℕ) → ServedSoFar answers s t stream kept written
     → (new : List ℕ) × (after ≡ before ++ (new ++ last_of step)) × ServedSoFar answers s u (stream ++ piece) kept' (written ++ new)
 
--- what is told behind the replies: nothing, or, of a message that asks nothing, that it is Malformed
+-- the last reply: none, or, for a message that asks nothing, that it is malformed
 abbrev pub IsToldLast : List ℕ → List ℕ → Type 0
 IsToldLast rest last = (last ≡ []) ⊎ (AsksNothing rest × (last ≡ malformed_message))
 
--- Exactly what messages at the front of some bytes ask was asked, in turn; a beginning of what was told, in its order,
--- was sent: these bytes.
+-- Exactly some messages at the front of some bytes were asked, in turn. These bytes, a beginning of the replies in their order,
+-- were sent.
 pub record AsksInTurn {S : Type 0} (answers : Answering S) (s t : S) (bytes sent : List ℕ) : Type 0 where
   pub rest : List ℕ
   pub written : List ℕ

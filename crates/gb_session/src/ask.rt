@@ -1,4 +1,4 @@
-//! What a client asks: a request, fetches that wait until there is something to fetch, or an operation.
+//! The asks of a client: a request, fetches that wait until there is something to fetch, or an operation.
 ghost use Rattle.std.specs.Prelude.{◌≡◌, ◌↔◌, ◌≤◌, length, codes, IsTrue, Some, IfOk, IfSome, IfNone, map};
 ghost use Rattle.gb_session.specs.declared.{ask.Ask.Ask as TheAsk, ask.Awaited.Awaited as TheAwaited, ask.Place.Place as ThePlace};
 ghost use Rattle.gb_session.specs.Asks.{IsPlace, IsAskText, IsAwaitText, SpellsAwait};
@@ -21,7 +21,7 @@ pub const WAIT: u32 = 60_000;
 
 const _: () = prove!(WAIT == 60_000);
 
-/// What one fetch asks: a token, a group, the index of the first entry of its log that is wanted, and the most entries.
+/// One fetch: a token, a group, the index of the first wanted entry of its log, and the most entries.
 #[derive(Clone, Copy)]
 pub struct Place {
     pub token: [u8; 32],
@@ -30,7 +30,7 @@ pub struct Place {
     pub most: u32,
 }
 
-/// Places that are fetched from in turn, 1 to `PLACES` of them. The reply may wait while none of them has an entry.
+/// The places that an `await` fetches from in turn, 1 to `PLACES` of them. The reply may wait while none of them has an entry.
 #[derive(Drop)]
 pub struct Awaited {
     pub places: Vec<Place>,
@@ -38,17 +38,17 @@ pub struct Awaited {
     pub wait: u32,
 }
 
-/// What a client asks.
+/// The content of a client's message.
 #[derive(Drop)]
 pub enum Ask {
     /// A request that is answered at once.
     Now(Request),
     Await(Awaited),
-    /// What an administrator asks of the server.
+    /// An operation that an administrator asks of the server.
     Operate(Operation),
 }
 
-// TOKEN T G FROM MAX
+// Returns the place that the words `TOKEN T G FROM MAX` spell. `None` if they spell none.
 fn read_place(token: &[u8], tenant: &[u8], group: &[u8], from: &[u8], most: &[u8]) -> Option<Place>
     ensures { (place : ThePlace) → (result ≡ Some place) ↔ IsPlace place token.now tenant.now group.now from.now most.now }
 {
@@ -71,7 +71,7 @@ fn is_allowed(places: &[Place], wait: u32) -> bool
     !places.is_empty() && places.len() <= PLACES && wait <= WAIT
 }
 
-// Reads the words behind `await`: those of each place, then MS. Returns None if they are anything else.
+// Reads the words behind `await`: those of each place, then MS. Returns `None` if they are anything else.
 fn read_await(alloc: Global, words: &[&[u8]]) -> Result<Option<Awaited>, OutOfMemory>
     ensures some { IfOk result (λ found. IfSome found (λ awaited. SpellsAwait awaited (map (λ word. word.now) words.now))) }
     ensures none { IfOk result (λ found. IfNone found ((awaited : TheAwaited)
@@ -105,7 +105,7 @@ fn is_await(word: &[u8]) -> bool
     word == b"await".as_slice()
 }
 
-// Reads the body of an `await`. Returns None if the body is anything else.
+// Reads the body of an `await`. Returns `None` if the body is anything else.
 fn read_await_text(alloc: Global, body: &[u8]) -> Result<Option<Awaited>, OutOfMemory>
     ensures some { IfOk result (λ found. IfSome found (IsAwaitText body.now)) }
     ensures none { IfOk result (λ found. IfNone found ((awaited : TheAwaited) → IsAwaitText body.now awaited → ⊥)) }

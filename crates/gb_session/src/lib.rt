@@ -1,8 +1,7 @@
-//! Sessions: requests and replies over any stream. A message is a length and a body, which is text.
-//! `session::Session` is a session as a value: bytes in any cut go in, replies come out, and what a message asks
-//! (`ask::Ask`) is answered by the caller's `answers::Answers`. `serve::serve` is that value with a reader and a writer
-//! round it. `feed::Feed` finds the requests of a stream in pieces of any size, and `grammar::parse_request` reads
-//! one. This crate knows no nodes, sockets or threads. Read `session::Session` first.
+//! Sessions: requests and replies over any stream. A message is a length and a body, which is text. `session::Session` is a session as
+//! a value: it takes bytes in any cut and returns replies. The caller's `answers::Answers` answers what a message asks (`ask::Ask`).
+//! `serve::serve` runs that value with a reader and a writer. `feed::Feed` finds the requests of a stream in pieces of any size, and
+//! `grammar::parse_request` reads one. This crate knows no nodes, sockets or threads. Read `session::Session` first.
 #![tactic(auto)]
 
 pub mod answers;

@@ -1,4 +1,4 @@
-//! What an administrator asks in a session, and how it is read.
+//! The operations that an administrator asks for in a session, and how they are read.
 ghost use Rattle.std.specs.Prelude.{◌≡◌, ◌↔◌, [], ◌∷◌, IsTrue, IfOk, IfSome, IfNone, map};
 ghost use Rattle.gb_session.specs.declared.{operation.Operating.Operating as TheOperating, operation.Operation.Operation as TheOperation};
 ghost use Rattle.gb_session.specs.Operations.{IsOperating, IsOperationText};
@@ -10,18 +10,18 @@ use gb_spelling::words::split_words;
 use gb_types::OutOfMemory;
 use std::alloc::Global;
 
-/// What an operation asks.
+/// The kind of an operation.
 #[derive(Clone, Copy)]
 pub enum Operating {
     /// The server's figures.
     Status,
-    /// The groups of the node in the order of making: the place of the first one that is wanted, and the most groups.
+    /// The groups of the node in the order of making: the index of the first one that is wanted, and the most groups.
     List(u32, u32),
-    /// That the server ends in order.
+    /// The orderly end of the server.
     Stop,
 }
 
-/// What an administrator asks, and the token that is shown for it.
+/// An operation that an administrator asks for, with its token.
 #[derive(Clone, Copy)]
 pub struct Operation {
     pub token: [u8; 32],
@@ -62,7 +62,7 @@ fn read_list(head: &[u8], from: &[u8], most: &[u8]) -> Option<Operating>
     Some(Operating::List(from, most))
 }
 
-// Reads an operation by its first word and the words behind its token. Returns None if they are anything else.
+// Reads an operation by its first word and the words behind its token. Returns `None` if they are anything else.
 fn read_operating(head: &[u8], words: &[&[u8]]) -> Option<Operating>
     ensures some { IfSome result (λ what. IsOperating what head.now (map (λ word. word.now) words.now)) }
     ensures none { IfNone result ((what : TheOperating) → IsOperating what head.now (map (λ word. word.now) words.now) → ⊥) }
@@ -74,7 +74,7 @@ fn read_operating(head: &[u8], words: &[&[u8]]) -> Option<Operating>
     }
 }
 
-// Reads the body of an operation. Returns None if the body is anything else.
+// Reads the body of an operation. Returns `None` if the body is anything else.
 pub(crate) fn read_operation(alloc: Global, body: &[u8]) -> Result<Option<Operation>, OutOfMemory>
     ensures some { IfOk result (λ found. IfSome found (IsOperationText body.now)) }
     ensures none { IfOk result (λ found. IfNone found ((operation : TheOperation) → IsOperationText body.now operation → ⊥)) }

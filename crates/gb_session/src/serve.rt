@@ -1,4 +1,4 @@
-//! A session: what the messages of a stream ask is answered, one after the other.
+//! A session that answers the messages of a stream, one after the other.
 ghost use Rattle.std.specs.Prelude.{◌≡◌, ◌<◌, ◌≤◌, ◌++◌, take, length, vec_len, IfOk, IfErr, OnOk, OnErr};
 ghost use Rattle.std.specs.Io.KnownBytes.{Appends, Keeps, Consumes, IsAtEnd};
 ghost use Rattle.gb_session.specs.Progress.{WritesPart, StandsSo, CutsOff};
@@ -27,20 +27,20 @@ pub const PIECE: usize = 65_536;
 
 const _: () = prove!(PIECE == 65_536);
 
-/// How a session ended.
+/// The end of a session.
 #[derive(Clone, Copy, PartialEq, Eq)]
 pub enum SessionEnd {
     /// The input ended between two messages.
     Finished,
     /// The input ended inside a message.
     Cut,
-    /// A message was Malformed. The client was told, and nothing was read after it.
+    /// A message was malformed. The client was notified, and nothing was read after it.
     Malformed,
     /// `REQUESTS` messages were answered, or `READS` reads were made and one more was needed.
     Limit,
 }
 
-/// Why a session was not held to its end. It is over: the client may have part of a reply.
+/// The reason why a session broke off before its end. It is over: the client may have part of a reply.
 #[derive(Clone, Copy, Debug, PartialEq, Eq, Error)]
 pub enum SessionFault {
     /// Number 1: a read failed, or was interrupted `READS` times in a row.
@@ -70,7 +70,7 @@ impl From<AllocError> for SessionFault {
     }
 }
 
-// Returns the space for a read, filled with zeros.
+// Returns the space for a read, filled with zeros. `Err` if there is no memory.
 fn make_space(alloc: Global) -> Result<Vec<u8>, OutOfMemory>
     ensures { IfOk result (λ space. vec_len space ≡ PIECE) }
 {
@@ -91,7 +91,7 @@ fn read_piece<'a, R: Read>(reader: &mut R, space: &'a mut [u8]) -> Result<&'a [u
     Ok(&space[..count])
 }
 
-// Makes one read, again if it is interrupted. Returns the number of bytes that were read.
+// Makes one read, and repeats it while it is interrupted. Returns the number of bytes that were read.
 fn read_once<R: Read>(reader: &mut R, space: &mut [u8]) -> Result<usize, SessionFault>
     requires { 0 < length space.old }
     ensures within { IfOk result (λ count. count ≤ length space.new) }
@@ -112,7 +112,7 @@ fn read_once<R: Read>(reader: &mut R, space: &mut [u8]) -> Result<usize, Session
     Err(SessionFault::Read)
 }
 
-// Makes one write, again if it is interrupted. Returns the number of bytes that were written.
+// Makes one write, and repeats it while it is interrupted. Returns the number of bytes that were written.
 fn write_once<W: Write>(writer: &mut W, bytes: &[u8]) -> Result<usize, SessionFault>
     ensures within { IfOk result (λ count. (0 < count) × (count ≤ length bytes.now)) }
     ensures bytes { IfOk result (λ count. Appends (W.contents writer.old) (W.contents writer.new) (take count bytes.now)) }
@@ -146,8 +146,8 @@ fn write_whole<W: Write>(writer: &mut W, bytes: &[u8]) -> Result<(), SessionFaul
     Ok(())
 }
 
-// Takes a piece of the stream, and answers the messages that are whole now, each as one that does not wait: its reply is written
-// before the next is asked.
+// Takes a piece of the stream, and answers the messages that are whole now, each as one that does not wait. It writes each reply
+// before it asks the next message.
 fn answer_piece<A: Answers, W: Write>(
     answers: &mut A,
     writer: &mut W,
@@ -173,7 +173,7 @@ fn answer_piece<A: Answers, W: Write>(
     }
 }
 
-// Serves a session from its beginning, with the space for the reads.
+// Serves a session from its beginning, with `space` for the reads. Returns how it ended.
 fn serve_pieces<A: Answers, R: Read, W: Write>(
     alloc: Global,
     answers: &mut A,
@@ -203,10 +203,10 @@ fn serve_pieces<A: Answers, R: Read, W: Write>(
     Ok(SessionEnd::Limit)
 }
 
-/// Holds a client's session: answers what the messages of `reader` ask, and writes each reply with its length to `writer` before the
-/// next is asked, until the input ends, a message is malformed or a limit is reached. Fetches that wait are answered at once. All
-/// messages of a read are answered before the next read. Returns how the session ended. `Err` with `Read`, `Write` or `OutOfMemory` if
-/// a read, a write or a request for memory failed; then the client may have a part of a reply.
+/// Serves a client's session. It answers the messages of `reader` in turn, and writes each reply with its length to `writer` before it
+/// asks the next. It goes on until the input ends, a message is malformed or a limit is reached. Fetches that wait are answered at once.
+/// All messages of a read are answered before the next read. Returns how the session ended. `Err` with `Read`, `Write` or `OutOfMemory`
+/// if a read, a write or a request for memory failed; then the client may have a part of a reply.
 pub fn serve<A: Answers, R: Read, W: Write>(
     alloc: Global,
     answers: &mut A,

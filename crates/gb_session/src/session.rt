@@ -1,4 +1,4 @@
-//! A client's session as a value: bytes in, replies out, and nothing that waits.
+//! A client's session as a value: it takes bytes and returns replies. Nothing in it waits.
 ghost use Rattle.std.specs.Prelude.{◌≡◌, ◌≤◌, ◌<◌, ◌+◌, ◌++◌, [], List, ℕ, length, take, drop, true, vec_len, vec_capacity, IfOk, IfSome, IfNone, OnErr, OnOk, Option};
 ghost use Rattle.std.specs.Io.{StartsWith};
 ghost use Rattle.gb_types.specs.declared.{reply.Reply.Reply as TheReply, request.Request.Request as TheRequest};
@@ -39,21 +39,21 @@ pub enum AskFront {
     Message(Ask, usize),
 }
 
-/// What became of an ask.
+/// The result of an ask.
 #[derive(Drop)]
 pub enum Outcome {
-    /// The reply, and the index of its place if more than one place was named.
+    /// The reply. If more than one place was named, the index of its place.
     Replied(Option<usize>, Reply),
     /// There is nothing to fetch yet.
     Waits(Awaited),
-    /// It is an operation: no request was asked.
+    /// The ask is an operation: no request was asked.
     Operates(Operation),
 }
 
-/// What became of the message in front.
+/// The result of the message in front.
 #[derive(Drop)]
 pub enum Next {
-    /// It is answered. Its size in bytes, with the four of its length.
+    /// It is answered, and has this size in bytes, with the four of its length.
     Answered(usize),
     /// Less than a whole message is there.
     Hungry,
@@ -63,20 +63,20 @@ pub enum Next {
     Ended(SessionEnd),
 }
 
-/// Why `take` stopped.
+/// The reason why `take` stopped.
 #[derive(Drop)]
 pub enum Step {
     /// No whole message is left: call again with more bytes.
     Hungry,
     /// The output has `room` bytes or more: empty it, then call again.
     Full,
-    /// The next message is fetches that wait: there is nothing to fetch yet.
+    /// The next message is fetches that wait, and there is nothing to fetch yet.
     Parked(Awaited),
-    /// It is over.
+    /// The session is over.
     Ended(SessionEnd),
 }
 
-// How far a piece of a client's stream is answered where it lies.
+// The progress in a piece of a client's stream, which is answered without a copy of it.
 #[derive(Drop)]
 struct Progress {
     // The number of bytes at the front that are answered.
@@ -107,7 +107,7 @@ impl Model for Session {
     ghost invariant = { IsHeld };
 }
 
-/// Returns what stands at the front of some bytes of a client's stream: `Begun` for less than a whole message, `Malformed` for a length
+/// Returns the message at the front of some bytes of a client's stream: `Begun` for less than a whole message, `Malformed` for a length
 /// above the limit or a message that asks nothing, else `Message` with what it asks and the message's size in bytes. `Err` if there is
 /// no memory.
 pub fn read_ask_front(alloc: Global, bytes: &[u8]) -> Result<AskFront, OutOfMemory>
@@ -140,7 +140,7 @@ fn is_empty_log(reply: &Reply) -> bool
     }
 }
 
-// Fetches from a place.
+// Fetches from a place, and returns the reply.
 fn fetch<A: Answers>(answers: &mut A, place: &Place) -> Reply
     ensures { A.answers.replies answers.old (fetch_of place.now) result answers.new }
 {
@@ -151,7 +151,7 @@ fn fetch<A: Answers>(answers: &mut A, place: &Place) -> Reply
     answers.answer(Request::of_group(place.token, place.address, command))
 }
 
-// Fetches from the places in turn until a reply is not an empty log. Returns the index of that place and the reply.
+// Fetches from the places in turn until a reply is not an empty log. Returns the index of that place and the reply, or `None`.
 fn find<A: Answers>(answers: &mut A, places: &[Place]) -> Option<(usize, Reply)>
     ensures some { IfSome result (λ found. (requests : List TheRequest) × (replies : List TheReply)
         × IsRun A.answers answers.old requests replies answers.new × Finds places.now found.0 found.1 requests replies) }
@@ -169,14 +169,14 @@ fn find<A: Answers>(answers: &mut A, places: &[Place]) -> Option<(usize, Reply)>
     None
 }
 
-// Returns `at` if more than one place was named, else None.
+// Returns `at` if more than one place was named, else `None`.
 fn label_of(places: &[Place], at: usize) -> Option<usize>
     ensures { result ≡ label_of places.now at }
 {
     if places.len() == 1 { None } else { Some(at) }
 }
 
-// Asks the requests of an ask. If `is_late`, an `await` that finds nothing is answered with an empty log.
+// Asks the requests of an ask, and returns the result. If `is_late`, an `await` that finds nothing is answered with an empty log.
 fn settle<A: Answers>(alloc: Global, answers: &mut A, ask: Ask, is_late: bool) -> Outcome
     ensures { (requests : List TheRequest) × (replies : List TheReply) × IsRun A.answers answers.old requests replies answers.new
         × IsOutcome is_late ask requests replies result }
@@ -192,7 +192,7 @@ fn settle<A: Answers>(alloc: Global, answers: &mut A, ask: Ask, is_late: bool) -
     }
 }
 
-// Appends the text of a reply, behind `at K ` if the label is K. Without memory a part of the text may stand behind the earlier bytes.
+// Appends the text of a reply, behind `at K ` if the label is K. `Err` if there is no memory; then a part of the text may be appended.
 fn put_text(out: &mut Vec<u8>, label: Option<usize>, reply: &Reply) -> Result<(), OutOfMemory>
     ensures ok { OnOk result (out.new.items ≡ out.old.items ++ answer_text label reply.now) }
     ensures err { OnErr result (StartsWith out.new.items out.old.items) }
@@ -205,8 +205,8 @@ fn put_text(out: &mut Vec<u8>, label: Option<usize>, reply: &Reply) -> Result<()
     put_reply(out, reply)
 }
 
-// Writes the length of the text behind index `start + 4` into the four bytes from `start` on. A text of more than `REPLY` bytes is
-// refused, and nothing has changed.
+// Writes the length of the text behind index `start + 4` into the four bytes from `start` on. `Err` if the text has more than `REPLY`
+// bytes; then nothing has changed.
 fn write_length(out: &mut Vec<u8>, start: usize) -> Result<(), OutOfMemory>
     requires { start + 4 ≤ vec_len out.old }
     ensures ok { OnOk result (out.new.items ≡ take start out.old.items ++ framed (drop (start + 4) out.old.items)) }
@@ -221,7 +221,7 @@ fn write_length(out: &mut Vec<u8>, start: usize) -> Result<(), OutOfMemory>
     Ok(())
 }
 
-// Appends a reply with its length. Without memory a part of it may stand behind the earlier bytes.
+// Appends a reply with its length. `Err` if there is no memory; then a part of it may be appended.
 fn put_framed(out: &mut Vec<u8>, label: Option<usize>, reply: &Reply) -> Result<(), OutOfMemory>
     ensures ok { OnOk result (out.new.items ≡ out.old.items ++ framed (answer_text label reply.now)) }
     ensures err { OnErr result (StartsWith out.new.items out.old.items) }
@@ -232,7 +232,7 @@ fn put_framed(out: &mut Vec<u8>, label: Option<usize>, reply: &Reply) -> Result<
     write_length(out, start)
 }
 
-// Appends a reply with its length. Without memory nothing has changed.
+// Appends a reply with its length. `Err` if there is no memory; then nothing has changed.
 fn put_answer(out: &mut Vec<u8>, label: Option<usize>, reply: &Reply) -> Result<(), OutOfMemory>
     ensures ok { OnOk result (out.new.items ≡ out.old.items ++ framed (answer_text label reply.now)) }
     ensures err { OnErr result (out.new.items ≡ out.old.items) }
@@ -245,7 +245,7 @@ fn put_answer(out: &mut Vec<u8>, label: Option<usize>, reply: &Reply) -> Result<
     put
 }
 
-// Appends a reply to an operation, with its length. Without memory a part of it may stand behind the earlier bytes.
+// Appends a reply to an operation, with its length. `Err` if there is no memory; then a part of it may be appended.
 fn put_operated<A: Answers>(
     answers: &A,
     operation: Operation,
@@ -260,7 +260,7 @@ fn put_operated<A: Answers>(
     write_length(out, start)
 }
 
-// Appends a reply to an operation, with its length. Without memory nothing has changed.
+// Appends a reply to an operation, with its length. `Err` if there is no memory; then nothing has changed.
 fn put_told<A: Answers>(
     answers: &A,
     operation: Operation,
@@ -277,7 +277,7 @@ fn put_told<A: Answers>(
     put
 }
 
-// Answers the message at the front of the bytes and appends its reply. Returns the Limit if `left` is 0.
+// Answers the message at the front of the bytes and appends its reply. Returns `Ended` with `Limit` if `left` is 0.
 fn answer_front<A: Answers>(
     alloc: Global,
     answers: &mut A,
@@ -312,7 +312,7 @@ fn answer_front<A: Answers>(
     }
 }
 
-// Answers the message in front of the bytes that are not answered yet, as `answer_front` does, and steps over it if it is answered.
+// Answers the message in front of the bytes that are not answered yet, as `answer_front` does, and moves behind it if it is answered.
 fn answer_one<A: Answers>(
     answers: &mut A,
     bytes: &[u8],
@@ -343,7 +343,7 @@ fn answer_one<A: Answers>(
     }
 }
 
-// Answers the whole messages of the bytes that are not answered yet, in turn, while there is room, and steps over them.
+// Answers the whole messages of the bytes that are not answered yet, in turn, while there is room, and moves behind them.
 fn answer_each<A: Answers>(
     answers: &mut A,
     bytes: &[u8],
@@ -373,7 +373,7 @@ fn answer_each<A: Answers>(
 }
 
 impl Session {
-    /// Returns a client's session that has taken no bytes. It answers at most `left` messages. Takes no memory yet.
+    /// Returns a client's session that has taken no bytes. It may answer at most `left` messages. Takes no memory yet.
     pub fn new(alloc: Global, left: u64) -> Session
         ensures { result ≡ record { kept = []; left = left } }
     {
@@ -385,7 +385,7 @@ impl Session {
         }
     }
 
-    // Drops the bytes that are answered. If there is no memory, nothing has changed.
+    // Removes the bytes that are answered. `Err` if there is no memory; then nothing has changed.
     fn compact(&mut self) -> Result<(), OutOfMemory>
         ensures same { self.new ≡ self.old }
     {
@@ -397,8 +397,8 @@ impl Session {
         Ok(())
     }
 
-    /// Keeps the next bytes of the client's stream in this session, and answers nothing. `Err` if there is no memory; then nothing has
-    /// changed.
+    /// Appends the next bytes of the client's stream to those that this session keeps, and answers nothing. `Err` if there is no memory;
+    /// then nothing has changed.
     pub fn put(&mut self, piece: &[u8]) -> Result<(), OutOfMemory>
         ensures ok { OnOk result (self.new ≡ record { kept = self.old.kept ++ piece.now; left = self.old.left }) }
         ensures err { OnErr result (self.new ≡ self.old) }
@@ -437,7 +437,7 @@ impl Session {
         Ok(next)
     }
 
-    // Steps over the message in front if it is answered.
+    // Moves behind the message in front if it is answered.
     fn step_over(&mut self, next: &Next)
         requires { IsThere self.old next.now }
         ensures { self.new ≡ behind self.old next.now }
@@ -459,7 +459,7 @@ impl Session {
         }
     }
 
-    // Answers the messages that are whole, in turn, while there is room.
+    // Answers the messages that are whole, in turn, while there is room. Returns why it stopped.
     fn answer_whole<A: Answers>(
         &mut self,
         answers: &mut A,
@@ -492,7 +492,7 @@ impl Session {
         self.at == self.bytes.len()
     }
 
-    // Keeps the bytes that are not answered yet, in memory that is there, and nothing else.
+    // Keeps the bytes that are not answered yet, and nothing else, in this memory.
     fn keep(&mut self, memory: Vec<u8>, bytes: &[u8], progress: Progress)
         requires empty { memory.items ≡ [] }
         requires room { length bytes.now ≤ vec_capacity memory }
@@ -507,8 +507,8 @@ impl Session {
         self.release();
     }
 
-    // Answers the messages of a piece where they lie, in turn, while there is room, and keeps the bytes behind them. The memory for
-    // these is taken first.
+    // Answers the messages of a piece, without a copy of it, in turn, while there is room, and keeps the bytes behind them. It takes the
+    // memory for these first.
     fn take_here<A: Answers>(
         &mut self,
         answers: &mut A,
@@ -533,7 +533,7 @@ impl Session {
         step
     }
 
-    // Keeps a piece behind the bytes that are kept, then answers the whole messages in turn, while there is room.
+    // Appends a piece to the bytes that are kept, then answers the whole messages in turn, while there is room.
     fn take_behind<A: Answers>(
         &mut self,
         answers: &mut A,
@@ -551,7 +551,7 @@ impl Session {
         self.answer_whole(answers, is_late, out, room)
     }
 
-    // Takes a piece: where it lies if nothing is kept, else behind what is kept.
+    // Takes a piece: without a copy if no bytes are kept, else behind the bytes that are kept.
     fn take_either<A: Answers>(
         &mut self,
         answers: &mut A,
@@ -575,7 +575,7 @@ impl Session {
     /// replies to `out`. If `is_late`, fetches that wait and find nothing are answered with an empty log. Returns why it stopped:
     /// `Full` as soon as `out` has `room` bytes or more, `Hungry` without another whole message, `Parked` at fetches that find nothing,
     /// or `Ended`. `Err` if there is no memory, and the session is over: either the piece is not kept and nothing was asked, or
-    /// messages in front were answered and stepped over. The next message may then have been asked; it has no reply in `out` and stays
+    /// messages in front were answered and removed. The next message may then have been asked; it has no reply in `out` and stays
     /// in front, so another call would ask it again.
     pub fn take<A: Answers>(
         &mut self,

@@ -1,5 +1,5 @@
-//! Sessions of clients, as tests: what the bodies of requests and operations spell, whole sessions over streams that come in pieces or fail,
-//! fetches that wait, thousands of requests at once, and the longest replies. This crate has tests only.
+//! Sessions of clients, as tests: the bodies of requests and operations, whole sessions over streams that come in pieces or fail, fetches
+//! that wait, thousands of requests at once, and the longest replies. This crate has tests only.
 #![tactic(auto)]
 
 #[cfg(test)]

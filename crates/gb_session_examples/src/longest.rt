@@ -10,7 +10,7 @@ use std::test::Fail;
 
 const PAYLOAD: &[u8] = &[0xab; 4_096];
 
-// Returns as many entries as a log may have, each as long as it may be.
+// Returns the greatest number of entries of a log, each of the greatest length.
 fn entries(alloc: Global) -> Result<Entries, OutOfMemory> {
     let mut entries = Entries::new(alloc);
     for _ in 0..16 {
@@ -23,7 +23,7 @@ fn entries(alloc: Global) -> Result<Entries, OutOfMemory> {
     Ok(entries)
 }
 
-/// Answers each request with the longest log.
+/// A node that answers each request with the longest log.
 #[derive(Drop)]
 struct Longest {
     alloc: Global,
@@ -48,7 +48,7 @@ impl Answers for Longest {
 const ASKED: &[u8] =
     b"\x00\x00\x00\x49open 0000000000000000000000000000000000000000000000000000000000000000 7 1\x00\x00\x00\x49open 0000000000000000000000000000000000000000000000000000000000000000 7 1";
 
-// Appends the message of the longest log: 131,238 bytes behind their number.
+// Appends the message of the longest log, which has 131,238 bytes behind their number.
 fn put_message(text: &mut Vec<u8>) -> Result<(), OutOfMemory> {
     text.extend_from_slice(b"\x00\x02\x00\xa6log 16")?;
     for _ in 0..16 {

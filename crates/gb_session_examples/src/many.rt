@@ -13,7 +13,7 @@ use std::test::Fail;
 /// The number of requests in the piece.
 const REQUESTS: u64 = 4_096;
 
-/// Answers as a node without tenants does, and counts what it is asked.
+/// A node without tenants. It counts the requests that it answers.
 #[derive(Drop)]
 struct Counts {
     asked: u64,
@@ -32,13 +32,13 @@ impl Answers for Counts {
     }
 }
 
-// One request with a token of zeros, with its length in front, and its reply.
+// One request with a token of zeros, with its length in front of it; and its reply.
 const ASKED: &[u8] =
     b"\x00\x00\x00\x49open 0000000000000000000000000000000000000000000000000000000000000000 7 1";
 
 const REPLIED: &[u8] = b"\x00\x00\x00\x10refused 1 Denied";
 
-// Returns the bytes repeated.
+// Returns the bytes, repeated this number of times.
 fn repeated(alloc: Global, bytes: &[u8], count: u64) -> Result<Vec<u8>, OutOfMemory> {
     let mut all = Vec::new(alloc);
     for _ in 0..count {
@@ -59,7 +59,7 @@ fn are_answered(alloc: Global) -> Result<bool, OutOfMemory> {
     Ok(is_over && answers.asked == REQUESTS && out.as_slice() == wanted.as_slice())
 }
 
-// Returns whether a feed gives all requests of one piece.
+// Returns whether a feed returns all requests of one piece.
 fn are_given(alloc: Global, count: u64) -> Result<bool, OutOfMemory> {
     let piece = repeated(alloc, ASKED, count)?;
     let mut feed = Feed::new(alloc)?;

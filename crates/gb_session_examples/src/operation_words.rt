@@ -1,4 +1,4 @@
-//! What the bodies of operations spell.
+//! The bodies of operations, and what they spell.
 use gb_session::ask::read_ask;
 use gb_session::grammar::parse_request;
 use gb_session::{Ask, Operating};
@@ -12,7 +12,7 @@ const TOKEN: [u8; 32] = [
     0xab, 0xcd, 0xef, 0xab, 0xcd, 0xef, 0x01, 0x23, 0x45, 0x67, 0x89, 0xab, 0xcd, 0xef, 0xab, 0xcd,
 ];
 
-/// How an operation is told in a table.
+/// An operation in a table.
 #[derive(Clone, Copy, PartialEq, Eq)]
 enum Told {
     Status,
@@ -20,7 +20,7 @@ enum Told {
     Stop,
 }
 
-/// The bodies at the limits of their words, and what each asks.
+/// Bodies at the limits of their words, and the operation that each spells.
 const BODIES: &[(&[u8], Told)] = &[
     (
         b"status 0123456789abcdefABCDEF0123456789abcdefABCDEF0123456789abcdefABCD",
@@ -44,7 +44,7 @@ const BODIES: &[(&[u8], Told)] = &[
     ),
 ];
 
-/// Bodies that ask nothing.
+/// Bodies that spell nothing.
 const WRONG: &[&[u8]] = &[
     b"status",
     b"status ",
@@ -75,7 +75,7 @@ const WRONG: &[&[u8]] = &[
     b"stops 0123456789abcdefABCDEF0123456789abcdefABCDEF0123456789abcdefABCD",
 ];
 
-/// Returns true if the body asks this operation with the token of the bodies, and is no request.
+/// Returns whether the body spells this operation with the token of the bodies, and no request.
 fn is_read(alloc: Global, body: &[u8], told: Told) -> Result<bool, OutOfMemory> {
     let operation = match read_ask(alloc, body)? {
         Some(Ask::Operate(operation)) => operation,
@@ -90,7 +90,7 @@ fn is_read(alloc: Global, body: &[u8], told: Told) -> Result<bool, OutOfMemory> 
     Ok(found == told && operation.token == TOKEN && is_no_request)
 }
 
-/// Returns true if the body asks nothing.
+/// Returns whether the body spells nothing.
 fn is_nothing(alloc: Global, body: &[u8]) -> Result<bool, OutOfMemory> {
     let found = read_ask(alloc, body)?;
     Ok(found.is_none())

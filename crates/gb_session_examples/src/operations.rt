@@ -1,4 +1,4 @@
-//! Operations in a session: answered in turn between requests, by the texts of who answers.
+//! Operations in a session. They are answered in turn, between requests, with texts of the answerer.
 ghost use Rattle.std.specs.Prelude.{◌<◌};
 
 use gb_session::{Answers, Operating, Operation, Session, SessionEnd, Step};
@@ -8,7 +8,7 @@ use gb_types::{OutOfMemory, Reply, Request};
 use std::alloc::Global;
 use std::test::Fail;
 
-/// Counts the requests that it is asked, and tells the count to an operation. It has memory for operations, or none.
+/// A node that counts the requests that it answers, and answers an operation with the count. It has memory for operations, or none.
 #[derive(Drop)]
 struct Operator {
     asked: u64,
@@ -60,15 +60,15 @@ const LIST: &[u8] =
 const STOP: &[u8] =
     b"\x00\x00\x00\x45stop 0000000000000000000000000000000000000000000000000000000000000000";
 
-/// `stop` with a word too many.
+/// The operation `stop` with one word too many.
 const BAD_STOP: &[u8] =
     b"\x00\x00\x00\x47stop 0000000000000000000000000000000000000000000000000000000000000000 1";
 
-/// The replies to a request, an operation, a request, two operations, a request and what is no message.
+/// The replies to a request, an operation, a request, two operations, a request, and bytes that are no message.
 const WRITTEN: &[u8] =
     b"\x00\x00\x00\x02ok\x00\x00\x00\x0estatus asked=1\x00\x00\x00\x02ok\x00\x00\x00\x0bgroups 3 64\x00\x00\x00\x02ok\x00\x00\x00\x02ok\x00\x00\x00\x14refused 14 Malformed";
 
-/// The messages whose replies are `WRITTEN`.
+/// Returns the messages whose replies are `WRITTEN`.
 fn stream(alloc: Global) -> Result<Vec<u8>, OutOfMemory> {
     let mut bytes = Vec::new(alloc);
     for message in [OPEN, STATUS, OPEN, LIST, STOP, OPEN, BAD_STOP] {
@@ -77,8 +77,8 @@ fn stream(alloc: Global) -> Result<Vec<u8>, OutOfMemory> {
     Ok(bytes)
 }
 
-/// Takes the stream by pieces of at most `size` bytes. Returns true if each message was answered in turn, the last is Malformed, and
-/// three requests were asked.
+/// Takes the stream in pieces of at most `size` bytes. Returns true if each message was answered in turn, the last as malformed, and three
+/// requests were answered by the node. Returns false otherwise.
 fn is_in_turn(alloc: Global, size: usize) -> Result<bool, OutOfMemory>
     requires { 0 < size }
 {
@@ -114,7 +114,7 @@ fn operations_are_answered_in_turn(rt: HostRuntime) -> Result<(), Fail> {
     Ok(())
 }
 
-/// Returns true if an operation counts as a message: a session that may answer one message ends behind it.
+/// Returns whether an operation counts as a message: a session that may answer one message ends behind it.
 fn is_counted(alloc: Global) -> Result<bool, OutOfMemory> {
     let mut answers = Operator {
         asked: 0,
@@ -135,8 +135,7 @@ fn an_operation_is_one_of_the_messages_that_may_be_answered(rt: HostRuntime) -> 
     Ok(())
 }
 
-/// Returns true if a session is over where there is no memory for an operation: the request before it is answered, and the one behind
-/// it is not asked.
+/// Returns whether a session ends if there is no memory for an operation: the request before it is answered, and the one behind it is not.
 fn is_over(alloc: Global) -> Result<bool, OutOfMemory> {
     let mut answers = Operator {
         asked: 0,

@@ -1,4 +1,4 @@
-//! Tokens, and what the bodies of requests spell.
+//! Tokens, and the bodies of requests and what they spell.
 use gb_session::grammar::parse_request;
 use gb_spelling::token_word::read_token;
 use gb_types::{
@@ -8,10 +8,10 @@ use gb_types::{
 use std::alloc::Global;
 use std::test::Fail;
 
-/// 64 digits of both cases.
+/// 64 digits in both cases.
 const DIGITS: [u8; 64] = *b"0123456789abcdefABCDEF0123456789abcdefABCDEF0123456789abcdefABCD";
 
-/// The bytes that they spell.
+/// The bytes that these digits spell.
 const BYTES: [u8; 32] = [
     0x01, 0x23, 0x45, 0x67, 0x89, 0xab, 0xcd, 0xef, 0xab, 0xcd, 0xef, 0x01, 0x23, 0x45, 0x67, 0x89,
     0xab, 0xcd, 0xef, 0xab, 0xcd, 0xef, 0x01, 0x23, 0x45, 0x67, 0x89, 0xab, 0xcd, 0xef, 0xab, 0xcd,
@@ -70,7 +70,7 @@ const WORDS: &[(&[u8], Option<[u8; 32]>)] = &[
 
 const NO_DIGITS: &[u8] = &[b'/', b':', b'@', b'G', b'`', b'g', b' ', 0, 0x80, 0xff];
 
-/// Whether 64 digits spell no token with this byte in place of one.
+/// Returns whether 64 digits spell no token if this byte replaces one of them.
 fn is_no_digit(byte: u8) -> bool {
     for place in [0usize, 31, 63] {
         let mut word = DIGITS;
@@ -97,12 +97,13 @@ fn a_token_is_64_digits_of_both_cases(rt: HostRuntime) {
     }
 }
 
-/// Whether the request is of group 1 of tenant 7, with the token of the others.
+/// Returns whether the request is one for group 1 of tenant 7, with the token of the others.
 fn is_of_group(token: &[u8; 32], address: Addr) -> bool {
     *token == BYTES && address == GROUP
 }
 
-/// Which open it is, and whether its token is that of the others: 10 of the last generation, 1 of any other group.
+/// Returns the number of an open, and whether its token is that of the others. The number is 10 for the last generation, and 1 for any
+/// other group.
 fn which_open(token: &[u8; 32], address: Addr) -> (u8, bool) {
     if address == LATER {
         return (10, *token == BYTES);
@@ -110,7 +111,7 @@ fn which_open(token: &[u8; 32], address: Addr) -> (u8, bool) {
     (1, is_of_group(token, address))
 }
 
-/// Which command it is, by the numbers of `which`, and whether all its parts are right.
+/// Returns the number of a command, as in `which`, and whether all its parts are right.
 fn which_command(token: &[u8; 32], address: Addr, command: &GroupCommand) -> (u8, bool) {
     match command {
         GroupCommand::Make(spec) => (7, *token == BYTES && is_spec(address, spec)),
@@ -134,8 +135,8 @@ fn which_command(token: &[u8; 32], address: Addr, command: &GroupCommand) -> (u8
     }
 }
 
-/// Which of these requests it is, where all its parts are the ones that its words spell: 1 open, 2 shut, 3 drop, 4 say,
-/// 5 fetch, 6 tenant, 7 make, 8 say under 0, 9 say under 4,294,967,295, 10 open of the last generation; 0 for any other.
+/// Returns the number of a request, if all its parts are those that its words spell: 1 open, 2 shut, 3 drop, 4 say, 5 fetch, 6 tenant, 7
+/// make, 8 say with the number 0, 9 say with the number 4,294,967,295, 10 open of the last generation. Returns 0 for any other request.
 fn which(request: &Request) -> u8 {
     let token = &request.token;
     let (number, is_spelled) = match &request.what {
@@ -145,7 +146,7 @@ fn which(request: &Request) -> u8 {
     if is_spelled { number } else { 0 }
 }
 
-/// Whether the row is that of the words.
+/// Returns whether the row is the one that the words spell.
 fn is_row(row: &TenantRow) -> bool {
     let wanted = TenantRow {
         tenant: 7,
@@ -158,7 +159,7 @@ fn is_row(row: &TenantRow) -> bool {
     *row == wanted
 }
 
-/// Whether these are the address and the spec of the words.
+/// Returns whether these are the address and the spec that the words spell.
 fn is_spec(address: Addr, spec: &Spec) -> bool {
     for number in 0..32u8 {
         let is_member = spec.members.contains(NodeId::new(number));
@@ -172,7 +173,7 @@ fn is_spec(address: Addr, spec: &Spec) -> bool {
     is_named && is_limited && module == Module::Lazy && order == Order::Fifo
 }
 
-/// Each body, and which request it spells.
+/// Bodies, and the number of the request that each spells.
 const HEADS: &[(&[u8], u8)] = &[
     (OPEN, 1),
     (OPEN_LATER, 10),
@@ -186,7 +187,7 @@ const HEADS: &[(&[u8], u8)] = &[
     (MAKE, 7),
 ];
 
-/// Whether the body spells this request.
+/// Returns whether the body spells the request with this number.
 fn is_head(alloc: Global, body: &[u8], number: u8) -> Result<bool, Refusal> {
     let request = parse_request(alloc, body)?;
     Ok(which(&request) == number)
@@ -201,7 +202,7 @@ fn each_head_spells_its_request(rt: HostRuntime) -> Result<(), Fail> {
     Ok(())
 }
 
-/// A say in the group 1 of this tenant, with this number of digits of payload.
+/// Returns the body of a say in group 1 of this tenant, with this number of digits of payload.
 fn say(alloc: Global, tenant: &[u8], digits: usize) -> Result<Vec<u8>, OutOfMemory> {
     let mut body = Vec::new(alloc);
     for part in [b"say ".as_slice(), &DIGITS, b" ", tenant, b" 1 "] {
@@ -213,12 +214,12 @@ fn say(alloc: Global, tenant: &[u8], digits: usize) -> Result<Vec<u8>, OutOfMemo
     Ok(body)
 }
 
-/// Whether the bytes spell no request.
+/// Returns whether the bytes spell no request.
 fn is_malformed(alloc: Global, body: &[u8]) -> bool {
     matches!(parse_request(alloc, body), Err(Refusal::Malformed))
 }
 
-/// Returns true if there are this many bytes, and they spell a say of this length.
+/// Returns whether the body has this number of bytes, and spells a say of a payload of this length.
 fn is_say(alloc: Global, body: &[u8], len: usize, said: usize) -> bool {
     let Ok(request) = parse_request(alloc, body) else {
         return false;
@@ -231,13 +232,13 @@ fn is_say(alloc: Global, body: &[u8], len: usize, said: usize) -> bool {
     }
 }
 
-/// Whether the longest body spells a say.
+/// Returns whether the longest body spells a say.
 fn longest_is_say(alloc: Global) -> Result<bool, OutOfMemory> {
     let body = say(alloc, b"10", 16_310)?;
     Ok(is_say(alloc, &body, 16_384, 8_155))
 }
 
-/// Whether a body of one byte more is malformed.
+/// Returns whether a body with one more byte is malformed.
 fn longer_is_malformed(alloc: Global) -> Result<bool, OutOfMemory> {
     let body = say(alloc, b"7", 16_312)?;
     Ok(body.len() == 16_385 && is_malformed(alloc, &body))

@@ -1,4 +1,4 @@
-//! Whole sessions, over readers and writers in memory that give and take bytes in pieces, and that fail.
+//! Whole sessions, over readers and writers in memory that return and take bytes in pieces, and that fail.
 ghost use Rattle.std.specs.Prelude.{◌≡◌};
 ghost use Rattle.gb_types.specs.declared.refusal.Refusal.TheVariants as refusals;
 ghost use Rattle.gb_types.specs.declared.reply.Reply.TheVariants.{Refused};
@@ -12,7 +12,7 @@ use std::io::{ErrorKind, Read, Write};
 use std::test::Fail;
 use std::{cmp, io};
 
-/// Answers as a node without tenants does.
+/// A node without tenants, which denies each request.
 #[derive(Drop)]
 struct Denies;
 
@@ -30,8 +30,7 @@ impl Answers for Denies {
     }
 }
 
-/// Returns bytes by pieces of at most this size, and fails where `fails` is set and they are at their end. Each other
-/// read is interrupted.
+/// Returns bytes in pieces of at most this size. Each other read is interrupted. If `fails` is set, a read at the end fails.
 #[derive(Drop)]
 struct Pieces<'a> {
     bytes: &'a [u8],
@@ -57,7 +56,7 @@ impl Read for Pieces<'_> {
     }
 }
 
-/// Takes this number of bytes, and then fails.
+/// Takes this number of bytes, and then each write fails.
 #[derive(Drop)]
 struct Space {
     taken: Vec<u8>,
@@ -80,7 +79,7 @@ impl Write for Space {
     }
 }
 
-/// What is read, what is written, and how the session ends.
+/// The bytes that are read, those that are written, and how the session ends.
 type Case = (&'static [u8], &'static [u8], SessionEnd);
 
 const NOTHING: Case = (b"", b"", SessionEnd::Finished);
@@ -135,7 +134,7 @@ fn with_space(alloc: Global, left: usize) -> Space {
     }
 }
 
-/// Holds a session, by pieces of this number of bytes.
+/// Runs a session in pieces of this number of bytes. Returns whether it writes the bytes of the case, and ends as the case says.
 fn is_held(alloc: Global, case: &Case, piece: usize) -> Result<bool, SessionFault> {
     let (read, written, end) = *case;
     let mut out = with_space(alloc, 1_000);
@@ -148,7 +147,7 @@ fn is_held(alloc: Global, case: &Case, piece: usize) -> Result<bool, SessionFaul
     Ok(found == end && out.taken.as_slice() == written)
 }
 
-/// Holds a session, by pieces of several sizes.
+/// Runs a session in pieces of several sizes. Returns whether each run is as the case says.
 fn is_held_in_pieces(alloc: Global, case: &Case) -> Result<bool, SessionFault> {
     for piece in [1, 2, 3, 7, 100] {
         if !is_held(alloc, case, piece)? {
@@ -178,7 +177,7 @@ fn sessions_in_any_pieces(rt: HostRuntime) -> Result<(), Fail> {
     Ok(())
 }
 
-/// Whether a failed read ends the session, behind the reply.
+/// Returns whether a failed read ends the session, behind the reply.
 fn ends_at_a_read(alloc: Global) -> bool {
     let (read, written, _) = ONE_REQUEST;
     let mut out = with_space(alloc, 1_000);
@@ -186,7 +185,7 @@ fn ends_at_a_read(alloc: Global) -> bool {
     end == Err(SessionFault::Read) && out.taken.as_slice() == written
 }
 
-/// Whether a failed write ends the session.
+/// Returns whether a failed write ends the session.
 fn ends_at_a_write(alloc: Global) -> bool {
     let (read, _, _) = ONE_REQUEST;
     let mut out = with_space(alloc, 10);
@@ -200,7 +199,7 @@ fn a_failed_read_or_write_ends_the_session(rt: HostRuntime) {
     assert!(rt; ends_at_a_write(rt.alloc()));
 }
 
-/// Answers as a node without tenants does, and counts how often it is asked.
+/// A node without tenants. It counts the requests that it answers.
 #[derive(Drop)]
 struct Counts {
     asked: u64,
@@ -231,8 +230,8 @@ const THREE: &[u8] =
 const THREE_DENIED: &[u8] =
     b"\x00\x00\x00\x10refused 1 Denied\x00\x00\x00\x10refused 1 Denied\x00\x00\x00\x10refused 1 Denied";
 
-/// Runs a session over one read of three requests, with a writer that has room for `space` bytes. Returns true if the session
-/// asked `asked` requests, filled that room with the start of `THREE_DENIED`, and ended with the fault `Write`.
+/// Runs a session over one read of three requests, with a writer that has room for `space` bytes. Returns true if the node answered `asked`
+/// requests, the writer was filled with a prefix of `THREE_DENIED`, and the session ended with the fault `Write`. Returns false otherwise.
 fn ends_behind(alloc: Global, space: usize, asked: u64) -> bool {
     let mut answers = Counts { asked: 0 };
     let mut out = with_space(alloc, space);
@@ -247,7 +246,7 @@ fn ends_behind(alloc: Global, space: usize, asked: u64) -> bool {
         && out.taken.as_slice() == &THREE_DENIED[..cmp::min(space, 60)]
 }
 
-// Nothing is asked after the first write that fails: the first, the second or the third.
+// No request is answered after the first write that fails, which is the first, the second or the third.
 #[test]
 fn requests_behind_a_failed_write_are_not_asked(rt: HostRuntime) {
     assert!(rt; ends_behind(rt.alloc(), 0, 1));
@@ -256,11 +255,11 @@ fn requests_behind_a_failed_write_are_not_asked(rt: HostRuntime) {
     assert!(rt; ends_behind(rt.alloc(), 47, 3));
 }
 
-/// A request, as it stands in a stream.
+/// A request, as it is in a stream.
 const OPEN: [u8; 77] =
     *b"\x00\x00\x00\x49open 0000000000000000000000000000000000000000000000000000000000000000 7 1";
 
-/// The reply to it, as it stands in a stream.
+/// The reply to it, as it is in a stream.
 const DENIED: [u8; 20] = *b"\x00\x00\x00\x10refused 1 Denied";
 
 /// A message that spells no request.
@@ -270,10 +269,10 @@ const HEY: &[u8] = b"\x00\x00\x00\x03hey";
 const OPEN_AND_HEY: &[u8] =
     b"\x00\x00\x00\x49open 0000000000000000000000000000000000000000000000000000000000000000 7 1\x00\x00\x00\x03hey";
 
-/// What is told of a message that spells no request.
+/// The reply to a message that spells no request.
 const TOLD: &[u8] = b"\x00\x00\x00\x14refused 14 Malformed";
 
-/// Returns the request this number of times, one a read, and then the last bytes in one read. Counts the reads.
+/// Returns the request this number of times, one in each read, and then the last bytes in one read. Counts the reads.
 #[derive(Drop)]
 struct Requests<'a> {
     left: u64,
@@ -297,7 +296,7 @@ impl Read for Requests<'_> {
     }
 }
 
-/// Returns the first bytes of the request, again and again, one a read. Counts the reads.
+/// Returns the first bytes of the request, again and again, one in each read. Counts the reads.
 #[derive(Drop)]
 struct Bytes {
     left: u64,
@@ -317,7 +316,7 @@ impl Read for Bytes {
     }
 }
 
-/// Is interrupted this number of times, and then at its end.
+/// Each of this number of reads is interrupted. Then it is at its end.
 #[derive(Drop)]
 struct Interrupts {
     left: u64,
@@ -333,7 +332,7 @@ impl Read for Interrupts {
     }
 }
 
-/// Counts the bytes that are those of this number of replies, and keeps the others.
+/// Counts the bytes that are those of this number of replies, and keeps all other bytes.
 #[derive(Drop)]
 struct Replies {
     left: u64,
@@ -360,7 +359,7 @@ impl Write for Replies {
     }
 }
 
-/// Expects this number of replies.
+/// Returns a writer that expects this number of replies.
 fn with_replies(alloc: Global, replies: u32) -> Replies {
     Replies {
         left: u64::from(replies) * 20,
@@ -369,12 +368,12 @@ fn with_replies(alloc: Global, replies: u32) -> Replies {
     }
 }
 
-/// Returns true if this number of replies was written, and these bytes.
+/// Returns whether this number of replies was written, and these other bytes.
 fn has_written(out: &Replies, others: &[u8]) -> bool {
     out.left == 0 && out.others.as_slice() == others
 }
 
-/// The last bytes that are read, the replies, the other bytes that are written, the reads, and how the session ends.
+/// The last bytes that are read, the number of replies, the other bytes that are written, the number of reads, and how the session ends.
 type Asked = (&'static [u8], u32, &'static [u8], u64, SessionEnd);
 
 const ASKED: &[Asked] = &[
@@ -383,7 +382,7 @@ const ASKED: &[Asked] = &[
     (OPEN_AND_HEY, 1_000_000, b"", 1_000_000, SessionEnd::Limit),
 ];
 
-/// Holds a session of 999,999 requests and the last bytes.
+/// Runs a session of 999,999 requests and the last bytes. Returns whether it is as the case says.
 fn is_answered(alloc: Global, case: &Asked) -> Result<bool, SessionFault> {
     let (last, replies, others, reads, end) = *case;
     let mut reader = Requests {
@@ -396,7 +395,7 @@ fn is_answered(alloc: Global, case: &Asked) -> Result<bool, SessionFault> {
     Ok(found == end && reader.reads == reads && has_written(&out, others))
 }
 
-// The last of 1,000,000 requests is answered, and nothing behind it, also in the same read; no read is made then.
+// The last of 1,000,000 requests is answered. No message behind it is, not even in the same read, and no further read is made.
 #[test]
 fn a_session_answers_a_million_requests(rt: HostRuntime) -> Result<(), Fail> {
     for case in ASKED {
@@ -406,7 +405,7 @@ fn a_session_answers_a_million_requests(rt: HostRuntime) -> Result<(), Fail> {
     Ok(())
 }
 
-/// Holds a session of this number of bytes, one a read.
+/// Runs a session of this number of bytes, one in each read. Returns whether it makes this number of reads and ends in this way.
 fn is_cut(alloc: Global, left: u64, reads: u64, end: SessionEnd) -> Result<bool, SessionFault> {
     let mut reader = Bytes { left, reads: 0 };
     let mut out = with_replies(alloc, 51_948);
@@ -420,7 +419,7 @@ const CUTS: &[(u64, u64, SessionEnd)] = &[
     (4_000_000, 4_000_000, SessionEnd::Limit),
 ];
 
-// The 4,000,000th read may find the end; if it gives a byte, all before it is answered and no read is made.
+// The 4,000,000th read may find the end. If it returns a byte, all messages before it are answered, and no further read is made.
 #[test]
 fn a_session_makes_four_million_reads(rt: HostRuntime) -> Result<(), Fail> {
     for (bytes, reads, end) in CUTS {
@@ -430,7 +429,7 @@ fn a_session_makes_four_million_reads(rt: HostRuntime) -> Result<(), Fail> {
     Ok(())
 }
 
-/// Returns true if a session ends so after this number of interrupted reads, and writes nothing.
+/// Returns whether a session ends in this way after this number of interrupted reads, and writes nothing.
 fn is_made_again(alloc: Global, left: u64, end: Result<SessionEnd, SessionFault>) -> bool {
     let mut out = with_replies(alloc, 0);
     let found = serve(alloc, &mut Denies, &mut Interrupts { left }, &mut out);

@@ -1,4 +1,4 @@
-//! Sessions as values: bytes in any cut, fetches that wait, and the room for replies.
+//! Sessions as values: bytes cut into any pieces, fetches that wait, and the room for replies.
 ghost use Rattle.std.specs.Prelude.{◌≡◌};
 ghost use Rattle.gb_session.specs.SessionValue.{SessionValue};
 
@@ -10,7 +10,7 @@ use gb_types::{
 use std::alloc::Global;
 use std::test::Fail;
 
-/// A node where the groups from this number on have one entry, those below have none, and group 99 is unknown. Counts the fetches.
+/// A node where the groups from this number on have one entry, those below have none, and group 99 is unknown. It counts the fetches.
 #[derive(Drop)]
 struct Groups {
     alloc: Global,
@@ -19,7 +19,7 @@ struct Groups {
 }
 
 impl Groups {
-    /// The log of one entry, or none where there was no memory.
+    /// Returns a log of one entry, or an empty one if there is no memory.
     fn entry(&self) -> Entries {
         let mut entries = Entries::new(self.alloc);
         let entry = Entry {
@@ -89,7 +89,7 @@ const SECOND: &[u8] = b"\x00\x00\x00\x10at 1 log 1 2:1:-";
 
 const REFUSED: &[u8] = b"\x00\x00\x00\x16at 1 refused 2 NoGroup";
 
-/// How a step is told in a table.
+/// A step of a session in a table.
 #[derive(Clone, Copy, PartialEq, Eq)]
 enum Stop {
     Hungry,
@@ -111,8 +111,8 @@ fn stop_of(step: &Step) -> Stop {
     }
 }
 
-/// What is taken, whether it is late, the first group with an entry, where it stops, what is written, and how often a group was
-/// fetched from.
+/// The bytes that are taken, whether it is late, the first group with an entry, the step that is reached, the bytes that are written, and
+/// how often a group was fetched from.
 type Case = (&'static [u8], bool, u16, Stop, &'static [u8], u64);
 
 const CASES: &[Case] = &[
@@ -136,7 +136,7 @@ const CASES: &[Case] = &[
     (UNKNOWN, false, 2, Stop::Hungry, REFUSED, 2),
 ];
 
-/// Returns true if the session of a row stops and writes as the row says.
+/// Returns whether the session of a row reaches its step and writes its bytes.
 fn is_taken(alloc: Global, case: &Case) -> Result<bool, OutOfMemory> {
     let (bytes, is_late, some_from, stop, written, asked) = *case;
     let mut groups = Groups {
@@ -151,7 +151,7 @@ fn is_taken(alloc: Global, case: &Case) -> Result<bool, OutOfMemory> {
     Ok(same && out.as_slice() == written && groups.asked == asked)
 }
 
-/// The same, byte by byte.
+/// Returns the same for a session that takes one byte at a time.
 fn is_taken_in_bytes(alloc: Global, case: &Case) -> Result<bool, OutOfMemory> {
     let (bytes, is_late, some_from, stop, written, asked) = *case;
     let mut groups = Groups {
@@ -180,7 +180,8 @@ fn fetches_that_wait(rt: HostRuntime) -> Result<(), Fail> {
     Ok(())
 }
 
-/// What is parked tells its places and its time, stays in front, is tried again, and what stands behind it waits.
+/// Returns whether a fetch is parked as it must be: the step has its indices and its wait, the fetch stays in front and is tried again, and
+/// the message behind it waits.
 fn is_parked(alloc: Global) -> Result<bool, OutOfMemory> {
     let mut groups = Groups {
         alloc,
@@ -212,8 +213,9 @@ fn a_parked_fetch_is_tried_again(rt: HostRuntime) -> Result<(), Fail> {
     Ok(())
 }
 
-/// Runs a session that may answer two messages: two were put in before it starts, and a third comes with the first call. The room is
-/// 6, 6, 7 and then 1,000 bytes. Returns true if the first three calls end Full, the fourth at the Limit, and two requests were asked.
+/// Runs a session that may answer two messages: two were put in before it starts, and a third comes with the first call. The room is 6, 6,
+/// 7 and then 1,000 bytes. Returns true if the first three calls end with `Full`, the fourth with `Limit`, and two requests were answered.
+/// Returns false otherwise.
 fn is_full(alloc: Global) -> Result<bool, OutOfMemory> {
     let mut groups = Groups {
         alloc,
@@ -233,8 +235,8 @@ fn is_full(alloc: Global) -> Result<bool, OutOfMemory> {
     Ok(stops && fourth == Stop::Limit && ends && groups.asked == 2 && out.len() == 12)
 }
 
-// A reply is written only while fewer bytes than the room are there; behind the last message that may be answered nothing is
-// asked.
+// A reply is written only while the bytes that are there are fewer than the room. No request behind the last message that may be answered
+// is answered.
 #[test]
 fn a_session_stops_where_there_is_no_room(rt: HostRuntime) -> Result<(), Fail> {
     let held = is_full(rt.alloc())?;

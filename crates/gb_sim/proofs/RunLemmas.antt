@@ -1,4 +1,4 @@
--- What a schedule came to.
+-- The outcome of a schedule.
 use Rattle.std.proofs.Common.{ℕ, List, Option, Result, Ok, Err, IfOk, IfErr}
 use Rattle.std.specs.Option.{IfSome}
 use Rattle.gb_simulate.specs.Text.{IsWritten, IsWrittenUpTo}

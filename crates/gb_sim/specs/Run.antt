@@ -1,4 +1,4 @@
--- What a run of the program reads and writes, and the status with which it ends.
+-- The input and the output of a run of the program, and the status with which it ends.
 use Rattle.std.specs.Prelude.{◌≡◌, ◌≢◌, ℕ, List, Option, Result, Ok, Err, OnOk, codes}
 use Rattle.std.specs.{Option.IfSome, Io.KnownBytes.Appends, Io.KnownBytes.Keeps}
 use Rattle.gb_lines.specs.Lines.{ended}
@@ -6,18 +6,18 @@ use Rattle.gb_simulate.specs.{Complaint.complaint, Status.status, Text.IsWritten
 use Rattle.gb_simulate.specs.declared.{outcome.SimEnd.SimEnd, outcome.SimFault.SimFault, outcome.SimFault.TheVariants.Write, outcome.SimFault.TheVariants.OutOfMemory}
 use Rattle.gb_sim.specs.declared.run.Ended.{Ended}
 
--- the line that stands behind the answers where memory lacked
+-- the line behind the answers if memory ran out
 abbrev pub memory_line : List ℕ
 memory_line = ended (codes "out of memory")
 
--- a schedule that came to this is answered up to there, behind what was written before; the rest is unread
+-- a schedule that ended in this way is answered up to its end, behind the bytes that were written before; the rest of the input is unread
 abbrev pub IsAnswered : Result SimEnd SimFault → Option (List ℕ) → Option (List ℕ) → Option (List ℕ) → Option (List ℕ) → Type 0
 IsAnswered (Ok end) input unread before after = IfSome input (λ i. IfSome before (λ b. IsWritten end i b after))
 IsAnswered (Err why) input unread before after = IfSome input (λ i. IfSome before (λ b. IsWrittenUpTo why i b unread after))
 
--- A schedule was answered, and came to an outcome. Behind its answers stands that memory lacked, where it did, and nothing else; where that
--- cannot be written, the outcome is a failed write. What went wrong is told in its line, or a front of it where it cannot be written, or, without memory, not at
--- all. The status is the outcome's.
+-- A schedule was answered, and had an outcome. If memory ran out, the line that says so is behind its answers, and otherwise nothing is; if that line
+-- cannot be written, the outcome is a failed write. The line of the outcome is written to the errors, or a prefix of it if a write fails, or nothing
+-- if there is no memory for it. The status is that of the outcome.
 pub record HasRun (input unread before after errors_before errors_after : Option (List ℕ)) (ending : Ended) : Type 0 where
   pub outcome : Result SimEnd SimFault
   pub told : Result SimEnd SimFault

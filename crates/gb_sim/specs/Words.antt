@@ -1,21 +1,21 @@
--- What the words of gb_sim's command line ask for, and the texts with which they are answered.
+-- The meaning of the words of gb_sim's command line, and the texts that answer them.
 use Rattle.std.specs.Prelude.{ℕ, Bool, ◌||◌, List, [], Option, None, Some, codes, if◌then◌else◌}
 use Rattle.std.specs.Str.{bytes_eq}
 use Rattle.gb_sim.specs.declared.words.Asked.{Asked}
 use Rattle.gb_sim.specs.declared.words.Asked.TheVariants.{Schedule, Help, Version, Refused}
 
--- what one word asks for
+-- the meaning of one word alone
 abbrev pub asked_alone : List ℕ → Asked
 asked_alone word =
     if bytes_eq word (codes "--help") || bytes_eq word (codes "-h") then Help
     else (if bytes_eq word (codes "-V") then Version else Refused)
 
--- what the word behind the program's name asks for, and whether none stands behind that
+-- the meaning of the word behind the program's name, if it is the only one or not
 abbrev pub asked_by : Option (List ℕ) → Bool → Asked
 asked_by None is_alone = Schedule
 asked_by (Some word) is_alone = if is_alone then asked_alone word else Refused
 
--- the text with which words are answered; that for the version has its number behind it
+-- the text that answers words; that for the version is followed by its number
 abbrev pub text_of : Asked → List ℕ
 text_of Schedule = []
 text_of Help =

@@ -1,5 +1,5 @@
-//! Runs a schedule of a cluster: reads it on standard input, and writes one line for each event. What went
-//! wrong is told in one line on standard error too.
+//! Runs a schedule of a cluster: reads it on standard input, and writes one line for each event. If it ends early, one line on standard
+//! error says why.
 #![tactic(auto)]
 
 mod run;
@@ -23,8 +23,8 @@ fn asked_of(rt: &HostRuntime) -> Asked {
     }
 }
 
-/// Status 0: all lines were read, or help or the version was asked for; 1: a read or a write failed; 2: a bad line, or words that are
-/// refused; 3: no memory.
+/// Ends with status 0 if all lines were read, or if the help or the version was asked for; 1 if a read or a write failed; 2 for a bad line,
+/// or words that are refused; 3 if memory ran out.
 fn main(rt: HostRuntime) -> ExitCode {
     let asked = asked_of(&rt);
     if asked != Asked::Schedule {

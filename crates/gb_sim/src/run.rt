@@ -1,4 +1,4 @@
-//! What the program gb_sim does, over any reader and any writers: it runs a schedule of a cluster.
+//! Runs a schedule of a cluster over any reader and any writers, as the program gb_sim does.
 ghost use Rattle.gb_sim.specs.Run.{HasRun};
 
 use gb_simulate::SimFault;
@@ -13,16 +13,16 @@ use std::mem;
 /// How a run of the program ended.
 #[derive(Clone, Copy)]
 pub struct Ended {
-    /// The exit status. 0: all lines were read; 1: a read or a write failed; 2: a bad line; 3: no memory.
+    /// The exit status. 0: all lines were read; 1: a read or a write failed; 2: a bad line; 3: memory ran out.
     pub status: u8,
-    /// Whether what went wrong is told, whole.
+    /// Whether the line that says why the schedule ended early was written in full.
     pub told: Result<(), SimFault>,
 }
 
-/// Runs the schedule of a cluster that `reader` has, and writes its answers to `writer`, and behind them `out of memory` if memory
-/// lacked. What went wrong is written to `errors`, in one line. Returns the exit status, 0 if all lines were read, 1 if a read or a
-/// write failed, 2 for a bad line, 3 for lack of memory; and whether what went wrong could be told. The memory of the cluster is not
-/// given back: the program ends.
+/// Runs the schedule of a cluster that `reader` has, and writes its answers to `writer`. If memory ran out, writes `out of memory` behind
+/// them. If the schedule ended early, writes one line to `errors` that says why. Returns the exit status: 0 if all lines were read, 1 if a
+/// read or a write failed, 2 for a bad line, 3 if memory ran out; and whether the line was written to `errors` in full. The memory of the
+/// cluster is not freed, because the program ends.
 pub fn run_schedule<R: Read, W: Write, E: Write>(
     alloc: Global,
     reader: &mut R,
@@ -35,7 +35,7 @@ pub fn run_schedule<R: Read, W: Write, E: Write>(
     let outcome = simulate(alloc, reader, writer, &mut cluster);
     let outcome_told = tell_want_of_memory(outcome, writer);
     let told = complain(alloc, &outcome_told, errors);
-    // Piece by piece, or not at all: with all the memory of the program it goes back at once.
+    // The memory is freed as a whole when the program ends; to free it piece by piece would take time.
     mem::forget(cluster);
     let status = status_of(&outcome_told);
     Ended { status, told }

@@ -1,4 +1,4 @@
-//! What the words of gb_sim's command line ask for, and how they are answered where they ask for no schedule.
+//! The meaning of the words of gb_sim's command line, and the answers to words that ask for no schedule.
 ghost use Rattle.std.specs.Prelude.{◌≡◌, ◌≢◌, option_map, true};
 ghost use Rattle.std.specs.Io.KnownBytes.{Appends};
 ghost use Rattle.gb_sim.specs.Words.{asked_by, text_of};
@@ -8,21 +8,21 @@ use gb_version::VERSION;
 use std::alloc::Global;
 use std::io::Write;
 
-/// What the words of a command line ask for.
+/// The meaning of the words of a command line.
 #[derive(Clone, Copy, Debug, PartialEq, Eq)]
 pub enum Asked {
-    /// There are none: a schedule is run.
+    /// There are no words: a schedule is run.
     Schedule,
     /// The help.
     Help,
     /// The program's name and version.
     Version,
-    /// Nothing that the program knows.
+    /// The words ask for nothing that the program knows.
     Refused,
 }
 
-/// Returns what words ask for. `word` is the one behind the program's name, if there is one, and `is_alone` says that none stands
-/// behind it.
+/// Returns what the words of a command line ask for. `word` is the one behind the program's name, if there is one. `is_alone` says that it
+/// is the last.
 pub fn asked_by(word: Option<&[u8]>, is_alone: bool) -> Asked
     ensures { result ≡ asked_by (option_map (λ word. word.now) word.entry) is_alone }
 {
@@ -41,8 +41,8 @@ pub fn asked_by(word: Option<&[u8]>, is_alone: bool) -> Asked
     Asked::Refused
 }
 
-// Returns the text with which words are answered. That for the version has the number and a line feed behind it. It is empty if the
-// words ask for a schedule.
+// Returns the text that answers words. That for the version is followed by the number and a line feed. It is empty if the words ask for a
+// schedule.
 fn text_of(asked: Asked) -> &'static [u8]
     ensures { result.now ≡ text_of asked }
 {
@@ -59,13 +59,13 @@ Exit status: 0 when all lines were read, 1 when a read or a write failed, 2 for 
     }
 }
 
-// Writes the number of the program's version, with a line feed behind it.
+// Writes the number of the program's version, with a line feed behind it. Returns whether the write succeeded.
 fn put_version<W: Write>(writer: &mut W) -> bool {
     writer.write_all(VERSION.as_bytes()).is_ok() && writer.write_all(b"\n").is_ok()
 }
 
-/// Answers words that ask for no schedule. Writes the help or the version to `writer`, and to `errors` why other words are refused.
-/// Returns the exit status: 0, or 1 if the text could not be written to `writer`; and 2 if the words are refused.
+/// Answers words that ask for no schedule. Writes the help or the version to `writer`, or to `errors` the reason why other words are
+/// refused. Returns the exit status: 0, or 1 if the text could not be written to `writer`, or 2 if the words are refused.
 pub fn answer_words<W: Write, E: Write>(asked: Asked, writer: &mut W, errors: &mut E) -> u8
     ensures zero { result ≡ 0 → asked ≢ Asked.Refused }
     ensures help { asked ≡ Asked.Help → result ≡ 0 → Appends (W.contents writer.old) (W.contents writer.new) (text_of Asked.Help) }
@@ -86,7 +86,7 @@ pub fn answer_words<W: Write, E: Write>(asked: Asked, writer: &mut W, errors: &m
     0
 }
 
-// Words, and what they ask for.
+// Words, whether the first one is alone, and what they ask for.
 #[cfg(test)]
 static WORDS: [(&str, bool, Asked); 9] = [
     ("--help", true, Asked::Help),
@@ -109,7 +109,7 @@ fn words_ask_for_help_or_the_version(rt: HostRuntime) {
     }
 }
 
-// Whether words are answered with this status and these texts.
+// Returns whether words are answered with this status and these texts.
 #[cfg(test)]
 fn is_answered(alloc: Global, asked: Asked, status: u8, line: &[u8], error: &[u8]) -> bool {
     let mut lines = Vec::new(alloc);

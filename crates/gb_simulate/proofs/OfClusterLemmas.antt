@@ -1,4 +1,4 @@
--- What a cluster's calls say, in the words of schedules.
+-- The contracts of a cluster's calls, in the words of schedules.
 use Rattle.gb_types.specs.Common.{◌≡◌, ap, ◌∙◌, arith}
 use Rattle.std.proofs.lemmas.List.FromFn.{length-map-range_with_len}
 use Rattle.gb_node.specs.Common.{node_numbered, new_node}

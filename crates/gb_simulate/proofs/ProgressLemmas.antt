@@ -11,13 +11,13 @@ use Rattle.gb_simulate.specs.declared.{outcome.SimEnd.SimEnd, outcome.SimEnd.The
 use Rattle.gb_simulate.proofs.RunTextLemmas.{run_of}
 use Rattle.gb_types.proofs.ReadLemmas.{some_same}
 
--- nothing is read
+-- before the first line, nothing is answered
 reaches_start : (input : List ℕ) → Reaches input [] None 1 (lines_of input)
 unfolding AreAnswered
 reaches_start input =
     let answered : AreAnswered [] [] None = (refl, refl) in record { taken = []; lines = refl; answered = answered; run = run_of [] [] None answered; count = refl }
 
--- one line more
+-- one more line is answered
 reaches_on : (input text xs ys line answer : List ℕ) (w after : Option ClusterValue) (n : ℕ) → Reaches input text w n (lines_of xs) → lines_of xs ≡ line ∷ lines_of ys
     → n ≤ 1000000 → length line ≤ 65536 → GoesOn w line after answer → Reaches input (text ++ answer) after (n + 1) (lines_of ys)
 unfolding AreAnswered
@@ -31,17 +31,17 @@ reaches_on input text xs ys line answer w after n r first few short goes =
       count = omega (arith, r.count);
     }
 
--- the same, with other lines left, that are the same
+-- the same, for equal lists of lines that are unanswered
 reaches_same : (input text : List ℕ) (w : Option ClusterValue) (n : ℕ) (xs ys : List (List ℕ)) → xs ≡ ys → Reaches input text w n xs → Reaches input text w n ys
 reaches_same input text w n xs ys same r = subst (λ q. Reaches input text w n q) same r
 
--- the next line of a text that gives this one
+-- if the reader gave this line, it is the next one of the text that was unread before
 pub next_is : (P : List ℕ → Type 0) (line : List ℕ) (left left' : Option (List ℕ)) → WhereKnown (GivesLine line) left left' → P line → IsNext P left
 next_is P line None left' given p = tt
 next_is P line (Some text) None given p = absurd given
 next_is P line (Some text) (Some rest) given p = (line, lines_of rest, given.first, p)
 
--- ---- one line more, and what is handed over
+-- ---- one more line, and the write of gathered answers
 
 pub at_on : (i b : List ℕ) (n : ℕ) (w after : Option ClusterValue) (left left' now : Option (List ℕ)) (g g' : List ℕ) → IsAt i b n w left now g → TakesLine n w after left left' g g' → IsAt i b (n + 1) after left' now g'
 at_on i b n w after None left' now g g' at takes = absurd (cc (at.left_is))
@@ -58,7 +58,7 @@ at_on i b n w after (Some xs) (Some ys) now g g' at takes =
           (reaches_on i (at.written ++ g) xs ys takes.line takes.answer w after n (reaches_same i (at.written ++ g) w n (lines_of at.rest) (lines_of xs) (ap lines_of left_is) at.reaches) takes.given.first takes.few takes.short takes.goes);
     }
 
--- what is written, and a piece more
+-- the written bytes, with one more prefix
 grown : (b written front xs ys : List ℕ) → Some xs ≡ Some (b ++ written) → ys ≡ xs ++ front → ys ≡ b ++ (written ++ front)
 grown b written front xs ys was is = is ∙ ap (λ q. q ++ front) (some_same xs (b ++ written) was) ∙ append_assoc b written front
 
@@ -94,7 +94,7 @@ at_end i b n w (Some xs) unread now g g' (BadLine k why) at ends =
     let text_is : at.written ++ g' ≡ (at.written ++ g) ++ bad_line n = ap (λ q. at.written ++ q) ends.1 ∙ sym (append_assoc at.written g (bad_line n)) in
     rw ends.2 (at.written, at.now_is, (w, at.written ++ g, bad.0, bad.1, reaches_same i (at.written ++ g) w n (lines_of at.rest) (bad.0 ∷ bad.1) lines_are at.reaches, bad.3, text_is))
 
--- a fault of a read or of memory ends it here
+-- a fault of a read or of memory ends the schedule here
 at_fault : (i b : List ℕ) (n : ℕ) (w : Option ClusterValue) (left unread now : Option (List ℕ)) (g g' : List ℕ) (why : SimFault)
     → IsAt i b n w left now g → Stops (Err why) n w left unread g g' → IsOver (Err why) i b unread now g'
 at_fault i b n w None unread now g g' why at fails = absurd (cc (at.left_is))
@@ -112,7 +112,7 @@ at_fault i b n w (Some xs) unread now g g' Write at fails = absurd fails
 
 -- ---- a failed write
 
--- a front of two lists that goes beyond the first
+-- a prefix of two lists that is longer than the first
 take_beyond : (xs ys : List ℕ) (k : ℕ) → length xs ≤ k → take k (xs ++ ys) ≡ xs ++ take (k - length xs) ys
 take_beyond xs ys k far =
     let count : k ≡ length xs + (k - length xs) = omega arith in ap (λ q. take q (xs ++ ys)) count ∙ take-append-add xs ys (k - length xs)
@@ -124,7 +124,7 @@ some_behind : (xs ys : List ℕ) → ys ≢ [] → xs ++ ys ≢ []
 some_behind [] ys some none = some none
 some_behind (x ∷ xs) ys some none = absurd (cc (none))
 
--- a front of the answers of some lines ends within the answer of one of them
+-- a prefix of the answers of some lines ends within the answer of one of them
 front_of_answers : (i : List ℕ) (unread : Option (List ℕ)) (taken lines_left : List (List ℕ)) (text : List ℕ) (w : Option ClusterValue) (k : ℕ)
     → lines_of i ≡ reverse taken ++ lines_left → AreAnswered taken text w → text ≢ [] → IsLeftOff Write i (take k text) unread
 unfolding AreAnswered
@@ -152,7 +152,7 @@ front_reached : (i : List ℕ) (unread : Option (List ℕ)) (text : List ℕ) (w
     → Reaches i text w n lines_left → text ≢ [] → IsLeftOff Write i (take k text) unread
 front_reached i unread text w n lines_left k r some = front_of_answers i unread r.taken lines_left text w k r.lines r.answered some
 
--- so of a whole text
+-- the same for the whole text of a schedule
 front_of_text : (i : List ℕ) (unread : Option (List ℕ)) (text : List ℕ) (end : SimEnd) (k : ℕ) → IsText i text end → text ≢ [] → IsLeftOff Write i (take k text) unread
 front_of_text i unread text All k (w, n, r) some = front_reached i unread text w n [] k r some
 front_of_text i unread text (BadLine n why) k (w, answers, line, more, r, bad, is) some = elim (cases_lt k (length answers)) [
@@ -161,14 +161,14 @@ front_of_text i unread text (BadLine n why) k (w, answers, line, more, r, bad, i
   | inr beyond ↦ (w, n, line, more, answers, bad_line n, k - length answers, r, inr (why, bad, refl), ap (take k) is ∙ take_beyond answers (bad_line n) k beyond)
 ]
 
--- so of a text up to a fault
+-- the same for a text up to a fault
 front_of_rest : (i : List ℕ) (unread : Option (List ℕ)) (text : List ℕ) (why : SimFault) (k : ℕ) → why ≢ Write → IsLeftOff why i text unread → text ≢ [] → IsLeftOff Write i (take k text) unread
 front_of_rest i unread text Read k other (w, n, piece, rest, is, line, r) some = front_reached i unread text w n (lines_of (piece ++ rest)) k r some
 front_of_rest i unread text OutOfMemory k other (inl (same, none)) some = absurd (some none)
 front_of_rest i unread text OutOfMemory k other (inr (w, n, line, more, r)) some = front_reached i unread text w n (line ∷ more) k r some
 front_of_rest i unread text Write k other off some = absurd (other refl)
 
--- a front of what was gathered is written behind what is written
+-- a prefix of the gathered answers is written behind the bytes that are written
 cut_short : (i b written : List ℕ) (unread now now' : Option (List ℕ)) (g : List ℕ) → now ≡ Some (b ++ written) → IsCutShort now now' g
     → ((k : ℕ) → written ++ g ≢ [] → IsLeftOff Write i (take k (written ++ g)) unread) → IsWrittenUpTo Write i b unread now'
 cut_short i b written unread None now' g was cut off = absurd (cc was)
@@ -183,7 +183,7 @@ at_cut : (i b : List ℕ) (n : ℕ) (w : Option ClusterValue) (left unread now n
 at_cut i b n w left unread now now' g at cut =
     cut_short i b at.written unread now now' g at.now_is cut (λ k some. front_reached i unread (at.written ++ g) w n (lines_of at.rest) k at.reaches some)
 
--- so the schedule is over
+-- after a failed write the schedule is over
 pub fault_over : (r : Result SimEnd SimFault) (why : SimFault) (i b : List ℕ) (n : ℕ) (w : Option ClusterValue) (left unread now : Option (List ℕ)) (g g' : List ℕ) → IsErrAnd r (λ x. x ≡ why)
     → IsAt i b n w left now g → Stops (Err why) n w left unread g g' → IsOver r i b unread now g'
 fault_over (Ok end) why i b n w left unread now g g' is at stops = absurd is
@@ -194,9 +194,9 @@ pub cut_over : (r : Result SimEnd SimFault) (why : SimFault) (i b : List ℕ) (n
 cut_over (Ok end) why i b n w left unread now now' g g' is at cut = absurd is
 cut_over (Err x) why i b n w left unread now now' g g' is at cut = subst (λ q. IsOver (Err q) i b unread now' g') (sym (is ∙ cut.0)) (at_cut i b n w left unread now now' g at cut.1)
 
--- ---- the gathered answers are handed over at the end
+-- ---- the gathered answers are written at the end
 
--- a front of them is written, and then a write fails
+-- a prefix of them is written, and then a write fails
 pub over_cut : (outcome : Result SimEnd SimFault) (i b : List ℕ) (unread now now' : Option (List ℕ)) (g : List ℕ) → IsOver outcome i b unread now g → outcome ≢ Err Write → IsCutShort now now' g
     → IsWrittenUpTo Write i b unread now'
 over_cut (Ok end) i b unread now now' g (written, was, text) other cut = cut_short i b written unread now now' g was cut (λ k some. front_of_text i unread (written ++ g) end k text some)
@@ -224,11 +224,11 @@ over_handed (Err Write) i b unread now now' g over other handed = absurd (other 
 over_handed (Err Read) i b unread now now' g (written, was, off) other handed = (written ++ g, all_handed b written now now' g was handed, off)
 over_handed (Err OutOfMemory) i b unread now now' g (written, was, off) other handed = (written ++ g, all_handed b written now now' g was handed, off)
 
--- a failed write ended the schedule, so nothing more is written
+-- if a failed write ended the schedule, nothing more is written
 pub over_left : (outcome : Result SimEnd SimFault) (i b : List ℕ) (unread now : Option (List ℕ)) (g : List ℕ) → IsOver outcome i b unread now g → outcome ≡ Err Write → IsWrittenTo outcome i b unread now
 over_left outcome i b unread now g over is = rw is (rw is at over)
 
--- what is known of a schedule from its start on, where its text and what was written before are known
+-- the outcome of a schedule from its start on, if its text and the bytes that were written before are known
 pub text_so : (outcome : Result SimEnd SimFault) (input before unread now : Option (List ℕ)) → ((i b : List ℕ) → IsAt i b 1 None (prepend_known [] input) before [] → IsWrittenTo outcome i b unread now)
     → IfOk outcome (λ end. IfSome input (λ i. IfSome before (λ b. IsWritten end i b now)))
 text_so (Err why) input before unread now so = tt

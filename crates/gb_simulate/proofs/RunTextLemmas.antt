@@ -26,7 +26,7 @@ steps_started : (start : ClusterStart) → AreRunSteps (plan_of start) [] [] (st
 unfolding AreRunSteps started
 steps_started start = (refl, refl)
 
--- a line that asks for nothing
+-- a line that asks for nothing keeps the lines those of a run
 silent_on : (lines : List (List ℕ)) (text line : List ℕ) (w : Option ClusterValue) → IsSilent line → TellsRun lines text w → TellsRun (line ∷ lines) text w
 silent_on lines text line None silent run = (All-cons IsSilent line lines silent run.0, run.1)
 silent_on lines text line (Some v) silent (run, is) = (
@@ -48,7 +48,7 @@ silent_on lines text line (Some v) silent (run, is) = (
   },
 )
 
--- the line that starts the cluster
+-- with the line that starts the cluster, the lines are those of a run
 start_on : (lines : List (List ℕ)) (text line answer : List ℕ) (w : Option ClusterValue) (command : Command) (event : Option Event)
     → TellsRun lines text None → IsCommandLine None line command → Obeys None command event w answer → TellsRun (line ∷ lines) (text ++ answer) w
 start_on lines text line answer w (Cluster start) event run spelt (after_is, answer_is) =
@@ -73,7 +73,7 @@ start_on lines text line answer w (Cluster start) event run spelt (after_is, ans
     )
 start_on lines text line answer w other event run spelt obeys = absurd obeys
 
--- one step more
+-- the steps with one more step
 steps_on : (plan : Plan) (steps : List RunStep) (step : RunStep) (earlier run : List NodeStep) (before v : ClusterValue)
     → AreRunSteps plan steps earlier before → IsStep before step.event step.answer v → Happens before step.event step.answer earlier v run → AreRunSteps plan (step ∷ steps) run v
 unfolding AreRunSteps
@@ -83,7 +83,7 @@ step_is : (before v : ClusterValue) (event : Event) (answer : Answer) → Takes 
 unfolding Takes
 step_is before v event answer takes = takes
 
--- a line that the cluster obeys
+-- with a line that the cluster executes, the lines are those of a run
 step_on : (lines : List (List ℕ)) (text line answer : List ℕ) (v : ClusterValue) (w : Option ClusterValue) (command : Command) (event : Option Event)
     → TellsRun lines text (Some v) → IsCommandLine (Some (size v)) line command → event_of command ≡ event → Obeys (Some v) command event w answer
     → TellsRun (line ∷ lines) (text ++ answer) w
@@ -150,7 +150,7 @@ pub record AllLaws : Type 0 where
   pub ample : AmpleRunsFeedAll
   pub served : GroupsAreServed
 
--- what holds of the last thing that happened in every run holds at each moment
+-- a property of the newest entry of every run holds at each moment of a run
 each_moment : (Holds : List NodeStep → NodeStep → Type 0) (plan : Plan) → ((earlier : List NodeStep) (d : NodeStep) (v : ClusterValue) → ComesTo plan (d ∷ earlier) v → Holds earlier d)
     → (run : List NodeStep) (v : ClusterValue) → ComesTo plan run v → AtEachMoment Holds run
 each_moment Holds plan last run v comes later earlier d is =

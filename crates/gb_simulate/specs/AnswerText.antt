@@ -7,7 +7,7 @@ use Rattle.gb_answer_text.specs.AnswerText.{packet_spelling, ticked_spelling, ha
 use Rattle.gb_cluster.specs.declared.{answer.Answer.Answer, answer.Sending.Sending, answer.Sending.TheVariants.Packet as SentPacket, answer.Sending.TheVariants.Nothing, answer.Sending.TheVariants.Refused as SentRefused}
 use Rattle.gb_cluster.specs.declared.answer.Answer.TheVariants.{Reply as AnswerReply, Taken as AnswerTaken, Sent as AnswerSent, Ticked as AnswerTicked, Halted as AnswerHalted, NoPacket, NotNoise}
 
--- what was sent
+-- the text of the result of a send
 abbrev pub sending_spelling : Sending → List ℕ
 sending_spelling (SentPacket k) = codes "packet " ++ decimal k
 sending_spelling Nothing = codes "nothing"
@@ -23,6 +23,6 @@ answer_spelling (AnswerHalted halted) = halted_spelling halted
 answer_spelling NoPacket = codes "no packet"
 answer_spelling NotNoise = codes "not noise"
 
--- the line that says which line is bad
+-- the line that names the line of a schedule that is bad
 abbrev pub bad_line : ℕ → List ℕ
 bad_line n = ended (codes "bad line " ++ decimal n)

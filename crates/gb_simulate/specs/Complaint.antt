@@ -1,4 +1,4 @@
--- What is printed on how a schedule ended.
+-- The line that is printed if a schedule ended badly.
 use Rattle.std.specs.Prelude.{List, [], ◌++◌, ℕ, Result, Ok, Err, codes, decimal}
 use Rattle.gb_lines.specs.Lines.{ended}
 use Rattle.gb_simulate.specs.declared.{outcome.BadLine.BadLine as Reason, outcome.SimEnd.SimEnd, outcome.SimEnd.TheVariants.All, outcome.SimEnd.TheVariants.BadLine, outcome.SimFault.SimFault, outcome.SimFault.TheVariants.Read, outcome.SimFault.TheVariants.Write, outcome.SimFault.TheVariants.OutOfMemory}
@@ -17,7 +17,7 @@ fault_words Read = codes "a read failed"
 fault_words Write = codes "a write failed"
 fault_words OutOfMemory = codes "out of memory"
 
--- the line that says what went wrong; it is empty if all lines were read
+-- the line that names the reason; it is empty if all lines were read
 abbrev pub complaint : Result SimEnd SimFault → List ℕ
 complaint (Ok All) = []
 complaint (Ok (BadLine number why)) = ended (codes "bad line " ++ decimal number ++ codes ": " ++ reason_words why)

@@ -10,12 +10,12 @@ use Rattle.gb_simulate.specs.AnswerText.{answer_spelling}
 use Rattle.gb_simulate.specs.OfCluster.{plan_of}
 use Rattle.gb_simulate.specs.Schedule.{event_of}
 
--- an event in a cluster and its answer
+-- an event of a cluster and its answer
 pub record RunStep : Type 0 where
   pub event : Event
   pub answer : Answer
 
--- steps of a cluster, and what happened at its nodes by them, both with the newest first
+-- steps of a cluster, and the entries of its nodes that they lead to, both with the newest first
 unfoldable pub AreRunSteps : Plan → List RunStep → List NodeStep → ClusterValue → Type 0
 AreRunSteps plan [] run v = (run ≡ []) × (v ≡ new_cluster plan)
 AreRunSteps plan (step ∷ steps) run v =
@@ -28,8 +28,7 @@ pub record TellsStep (nodes : ℕ) (line answer : List ℕ) (step : RunStep) : T
   pub event_is : event_of command ≡ Some step.event
   pub answer_is : answer ≡ ended (answer_spelling step.answer)
 
--- Lines tell steps, both with the newest first: each line asks for nothing, or spells the next step; the text is the answers,
--- one after another.
+-- Lines spell steps, both with the newest first: each line asks for nothing, or spells the next step. The text is the answers, one after another.
 abbrev pub TellSteps : ℕ → List (List ℕ) → List ℕ → List RunStep → Type 0
 TellSteps nodes [] text steps = (text ≡ []) × (steps ≡ [])
 TellSteps nodes (line ∷ lines) text steps =
@@ -37,8 +36,8 @@ TellSteps nodes (line ∷ lines) text steps =
     ⊎ ((step : RunStep) × (earlier : List RunStep) × (answer : List ℕ) × (answers : List ℕ) × (steps ≡ step ∷ earlier) × (text ≡ answers ++ answer)
     × TellsStep nodes line answer step × TellSteps nodes lines answers earlier)
 
--- These lines, the newest first, are those of a run that leads to v. One line starts the cluster; those before it ask for nothing;
--- those behind it tell the steps. The text is the answers of all lines. The run is what happened at the nodes by the steps.
+-- These lines, the newest first, are those of a run that leads to v. One line starts the cluster, those before it ask for nothing, and those behind
+-- it spell the steps. The text is the answers of all lines. The run is the entries of the nodes that the steps lead to.
 pub record IsRunOf (lines : List (List ℕ)) (text : List ℕ) (run : List NodeStep) (v : ClusterValue) : Type 0 where
   pub start : ClusterStart
   pub behind : List (List ℕ)

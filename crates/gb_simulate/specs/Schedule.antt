@@ -1,4 +1,4 @@
--- What a schedule makes a cluster answer.
+-- The answers of a cluster to a schedule.
 use Rattle.std.specs.Prelude.{ℕ, ◌≡◌, ◌≢◌, ◌≤◌, ◌<◌, ◌⊎◌, List, [], drop, length, Option, Some, None, codes}
 use Rattle.gb_types.specs.declared.{limits.TheConstants.NODES, request.Action.TheVariants.Group, request.GroupCommand.TheVariants.Fetch as FetchCommand}
 use Rattle.gb_node.specs.declared.event.NodeEvent.TheVariants.{Request as AskEvent, Packet as CameEvent, Pack as PackEvent, Again as AgainEvent, Ack as AckEvent, Tick as TickEvent, Stop as StopEvent}
@@ -15,11 +15,11 @@ use Rattle.gb_simulate.specs.OfCluster.{started, size, Takes}
 use Rattle.gb_simulate.specs.declared.{outcome.BadLine.BadLine, obey.TheConstants.LINES}
 use Rattle.gb_simulate.specs.declared.outcome.BadLine.TheVariants.{TooLong, TooMany, NoCluster, NoCommand}
 
--- what was appended to the old text
+-- the bytes that were appended to the old text
 abbrev pub added : List ℕ → List ℕ → List ℕ
 added old new = drop (length old) new
 
--- the event that a command is, once there is a cluster; a fetch has the member's token
+-- the event of a command, in a cluster that was started; a fetch has the member's token
 abbrev pub event_of : Command → Option Event
 event_of (Cluster start) = None
 event_of (Request node request) = Some (At node (AskEvent request))
@@ -32,7 +32,7 @@ event_of (Step (Tick node)) = Some (At node TickEvent)
 event_of (Step (Stop node)) = Some (At node StopEvent)
 event_of (Step (Fetch node address from most)) = Some (At node (AskEvent (record { token = member_token address node; what = Group address (FetchCommand from most) })))
 
--- the number of nodes of the cluster, once there is one
+-- the number of nodes of the cluster, if there is one
 abbrev pub size_in : Option ClusterValue → Option ℕ
 size_in None = None
 size_in (Some v) = Some (size v)
@@ -41,7 +41,7 @@ size_in (Some v) = Some (size v)
 abbrev pub HasNodes : ClusterValue → Type 0
 HasNodes v = (1 ≤ size v) × (size v ≤ NODES)
 
--- a cluster takes an event, and its answer is this line
+-- a cluster takes an event, and the text is the line of its answer
 pub record Answers (v : ClusterValue) (event : Event) (after : Option ClusterValue) (text : List ℕ) : Type 0 where
   pub answer : Answer
   pub next : ClusterValue
@@ -49,7 +49,7 @@ pub record Answers (v : ClusterValue) (event : Event) (after : Option ClusterVal
   pub after_is : after ≡ Some next
   pub text_is : text ≡ ended (answer_spelling answer)
 
--- what a command does: it starts the cluster, or is an event of the cluster that was started
+-- the effect of a command: it starts the cluster, or is an event of the cluster that was started
 abbrev pub Obeys : Option ClusterValue → Command → Option Event → Option ClusterValue → List ℕ → Type 0
 Obeys None (Cluster start) event after text = (after ≡ Some (started start)) × (text ≡ ended (codes "ok"))
 Obeys (Some v) command (Some event) after text = Answers v event after text
@@ -63,8 +63,8 @@ GoesOn w line after text = (IsSilent line × (after ≡ w) × (text ≡ [])) ⊎
 abbrev pub IsNoLine : Option ClusterValue → List ℕ → Type 0
 IsNoLine w line = (IsSilent line → ⊥) × ((command : Command) → IsCommandLine (size_in w) line command → ⊥)
 
--- line n is bad, and this is why: it is too long; it is beyond the last line that a schedule may have; or it spells nothing,
--- before a cluster was started or after
+-- Line n is bad for this reason: it is too long; or it is beyond the last line that a schedule may have; or it spells nothing, before a cluster was
+-- started or after.
 abbrev pub IsBadLine : BadLine → ℕ → Option ClusterValue → List ℕ → Type 0
 IsBadLine TooLong n w line = LINE < length line
 IsBadLine TooMany n w line = (length line ≤ LINE) × (LINES < n)

@@ -8,14 +8,14 @@ use Rattle.gb_simulate.specs.Schedule.{GoesOn, IsBadLine}
 use Rattle.gb_simulate.specs.AnswerText.{bad_line}
 use Rattle.gb_simulate.specs.declared.{obey.TheConstants.LINES, outcome.BadLine.BadLine as Reason, outcome.SimEnd.SimEnd, outcome.SimEnd.TheVariants.All, outcome.SimEnd.TheVariants.BadLine, outcome.SimFault.SimFault, outcome.SimFault.TheVariants.Read, outcome.SimFault.TheVariants.Write, outcome.SimFault.TheVariants.OutOfMemory}
 
--- these lines, the newest first, are the first of a schedule; their answers are this text, and they lead to the cluster `w`
+-- these lines, the newest first, are the first of a schedule; the text is their answers, and they lead to the cluster `w`
 unfoldable pub AreAnswered : List (List ℕ) → List ℕ → Option ClusterValue → Type 0
 AreAnswered [] text w = (text ≡ []) × (w ≡ None)
 AreAnswered (line ∷ lines) text w =
     (before : Option ClusterValue) × (older : List ℕ) × (answer : List ℕ) × AreAnswered lines older before
     × (length lines < LINES) × (length line ≤ LINE) × GoesOn before line w answer × (text ≡ older ++ answer)
 
--- the lines before line n are answered by this text, which is that of a run; they lead to the cluster `w`, and these lines are left
+-- the text answers the lines before line n, and is that of a run; they lead to the cluster `w`, and `lines_left` are the lines from n on
 pub record Reaches (input text : List ℕ) (w : Option ClusterValue) (n : ℕ) (lines_left : List (List ℕ)) : Type 0 where
   pub taken : List (List ℕ)
   pub lines : lines_of input ≡ reverse taken ++ lines_left
@@ -23,7 +23,7 @@ pub record Reaches (input text : List ℕ) (w : Option ClusterValue) (n : ℕ) (
   pub run : TellsRun taken text w
   pub count : n ≡ length taken + 1
 
--- the whole text of a schedule: the answers of all lines, or of those before the first bad one, and then that line's number
+-- the whole text of a schedule: the answers of all lines, or those of the lines before the first bad one, followed by that line's number
 abbrev pub IsText : List ℕ → List ℕ → SimEnd → Type 0
 IsText input text All = (w : Option ClusterValue) × (n : ℕ) × Reaches input text w n []
 IsText input text (BadLine number why) =
@@ -35,9 +35,9 @@ abbrev pub IsAnswerOf : ℕ → Option ClusterValue → List ℕ → List ℕ �
 IsAnswerOf n w line answer =
     ((n ≤ LINES) × (after : Option ClusterValue) × GoesOn w line after answer) ⊎ ((why : Reason) × IsBadLine why n w line × (answer ≡ bad_line n))
 
--- What is written if a fault ends a schedule, and what the reader has left. Read: all lines that were read whole are
--- answered, and a piece of the next one may be read. OutOfMemory: nothing was read yet, or a line is left. Write: a front of
--- the next line's answer is written.
+-- The text that is written, and the bytes that the reader has not given, if a fault ends a schedule. Read: all lines that were read whole are
+-- answered, and a piece of the next one may be read. OutOfMemory: nothing was read yet, or a line is unanswered. Write: a prefix of the next line's
+-- answer is written.
 abbrev pub IsLeftOff : SimFault → List ℕ → List ℕ → Option (List ℕ) → Type 0
 IsLeftOff Read input text unread =
     (w : Option ClusterValue) × (n : ℕ) × (piece : List ℕ) × (rest : List ℕ)
@@ -48,10 +48,10 @@ IsLeftOff Write input text unread =
     (w : Option ClusterValue) × (n : ℕ) × (line : List ℕ) × (more : List (List ℕ)) × (answers : List ℕ) × (answer : List ℕ) × (count : ℕ)
     × Reaches input answers w n (line ∷ more) × IsAnswerOf n w line answer × (text ≡ answers ++ take count answer)
 
--- the text of the whole schedule is written behind what was there before
+-- the text of the whole schedule is written behind the bytes that were there before
 abbrev pub IsWritten : SimEnd → List ℕ → List ℕ → Option (List ℕ) → Type 0
 IsWritten end input before after = (text : List ℕ) × (after ≡ Some (before ++ text)) × IsText input text end
 
--- the text up to a fault is written behind what was there before
+-- the text up to a fault is written behind the bytes that were there before
 abbrev pub IsWrittenUpTo : SimFault → List ℕ → List ℕ → Option (List ℕ) → Option (List ℕ) → Type 0
 IsWrittenUpTo why input before unread after = (text : List ℕ) × (after ≡ Some (before ++ text)) × IsLeftOff why input text unread

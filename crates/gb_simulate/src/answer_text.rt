@@ -1,4 +1,4 @@
-//! How an answer of a cluster is written. If there is no memory, a part of it may have been appended.
+//! How an answer of a cluster is written. If memory runs out, a part of it may have been appended.
 ghost use Rattle.std.specs.Prelude.{◌≡◌, ◌++◌, codes, OnOk, OnErr};
 ghost use Rattle.std.specs.Io.{StartsWith};
 ghost use Rattle.gb_lines.specs.Lines.{ended};
@@ -11,7 +11,7 @@ use gb_spelling::reply_text::put_reply;
 use gb_types::OutOfMemory;
 use gb_types::memory::put_bytes;
 
-/// Appends the line `nothing` and its line feed in one step, since many lines are this one.
+/// Appends the line `nothing` and its line feed in one step, because many lines are this one.
 #[inline(always)]
 fn put_nothing(out: &mut Vec<u8>) -> Result<(), OutOfMemory>
     ensures ok { OnOk result (out.new.items ≡ out.old.items ++ ended (codes "nothing")) }
@@ -48,7 +48,7 @@ fn put_sending(out: &mut Vec<u8>, sending: Sending) -> Result<(), OutOfMemory>
     }
 }
 
-/// Appends the line of any answer. Not inlined, since it is called for few lines.
+/// Appends the line of any answer. Not inlined, because it is called for few lines.
 #[inline(never)]
 fn put_line(out: &mut Vec<u8>, answer: &Answer) -> Result<(), OutOfMemory>
     ensures ok { OnOk result (out.new.items ≡ out.old.items ++ ended (answer_spelling answer.now)) }
@@ -66,8 +66,8 @@ fn put_line(out: &mut Vec<u8>, answer: &Answer) -> Result<(), OutOfMemory>
     put_bytes(out, b"\n")
 }
 
-/// Appends to `out` the line of a cluster's answer to an event, with its line end. `Err` if there is no memory; then a part of it may
-/// be there. The two most frequent answers are tested for first.
+/// Appends to `out` the line of a cluster's answer to an event, with its line feed. The two most frequent answers are tested for first.
+/// Returns `Err` if memory runs out; then a part of the line may have been appended.
 #[inline(always)]
 pub fn put_answer(out: &mut Vec<u8>, answer: &Answer) -> Result<(), OutOfMemory>
     ensures ok { OnOk result (out.new.items ≡ out.old.items ++ ended (answer_spelling answer.now)) }
@@ -80,7 +80,7 @@ pub fn put_answer(out: &mut Vec<u8>, answer: &Answer) -> Result<(), OutOfMemory>
     }
 }
 
-/// Appends to `out` the line `ok`, which says that a cluster was started. `Err` if there is no memory; then `out` is as it was.
+/// Appends to `out` the line `ok`, which says that a cluster was started. Returns `Err` if memory runs out; then `out` is as it was.
 pub fn put_started(out: &mut Vec<u8>) -> Result<(), OutOfMemory>
     ensures ok { OnOk result (out.new.items ≡ out.old.items ++ ended (codes "ok")) }
     ensures err { OnErr result (out.new.items ≡ out.old.items) }
@@ -88,8 +88,8 @@ pub fn put_started(out: &mut Vec<u8>) -> Result<(), OutOfMemory>
     put_bytes(out, b"ok\n")
 }
 
-/// Appends to `out` the line `bad line NUMBER`, which says which line of a schedule is bad. `Err` if there is no memory; then a part of
-/// it may be there.
+/// Appends to `out` the line `bad line NUMBER`, which names the line of a schedule that is bad. Returns `Err` if memory runs out; then a
+/// part of the line may have been appended.
 pub fn put_bad_line(out: &mut Vec<u8>, number: u64) -> Result<(), OutOfMemory>
     ensures ok { OnOk result (out.new.items ≡ out.old.items ++ bad_line number) }
     ensures err { OnErr result (StartsWith out.new.items out.old.items) }

@@ -1,4 +1,4 @@
-//! What is printed on how a schedule ended.
+//! The line that is printed if a schedule ended badly.
 ghost use Rattle.std.specs.Prelude.{◌≡◌, ◌++◌, codes, decimal, ◌≢◌, IsOk, OnOk};
 ghost use Rattle.std.specs.Io.KnownBytes.{Appends, Keeps};
 ghost use Rattle.gb_lines.specs.Lines.{ended};
@@ -13,7 +13,7 @@ use gb_types::OutOfMemory;
 use std::alloc::Global;
 use std::io::Write;
 
-/// Returns the words for why a line is bad.
+/// Returns the words for the reason why a line is bad.
 fn reason(why: BadLine) -> &'static [u8]
     ensures { result.now ≡ reason_words why }
 {
@@ -25,7 +25,7 @@ fn reason(why: BadLine) -> &'static [u8]
     }
 }
 
-/// Returns the line of a fault.
+/// Returns the line that names a fault.
 fn fault_line(fault: SimFault) -> &'static [u8]
     ensures { result.now ≡ ended (fault_words fault) }
 {
@@ -36,7 +36,7 @@ fn fault_line(fault: SimFault) -> &'static [u8]
     }
 }
 
-/// Appends the line that says which line is bad, and why.
+/// Appends the line that names the bad line and the reason why it is bad.
 fn put_reason(text: &mut Vec<u8>, number: u64, why: BadLine) -> Result<(), OutOfMemory>
     ensures { OnOk result (text.new.items ≡ text.old.items ++ complaint (Ok (SimEnd.BadLine number why))) }
 {
@@ -48,9 +48,9 @@ fn put_reason(text: &mut Vec<u8>, number: u64, why: BadLine) -> Result<(), OutOf
     Ok(())
 }
 
-/// Writes to `writer` one line that says what went wrong in a schedule. Writes nothing if all lines were read. `Err` with `Write` if a
-/// write failed; then a part of the line may be written. `Err` with `OutOfMemory` if there is no memory; only the line of a bad line
-/// takes some.
+/// Writes to `writer` one line that says why a schedule ended early. Writes nothing if all lines were read. Returns `Err` with `Write` if a
+/// write failed; then a part of the line may be written. Returns `Err` with `OutOfMemory` if memory runs out; only the line about a bad
+/// line takes some.
 pub fn complain<W: Write>(
     alloc: Global,
     outcome: &Result<SimEnd, SimFault>,

@@ -1,4 +1,4 @@
-//! Laws of what schedules make a cluster answer.
+//! Laws of the answers of a cluster to a schedule.
 ghost use Rattle.gb_simulate.specs.TextLaws.{TextsAreOfRuns};
 
 use gb_cluster::laws::{
@@ -11,10 +11,9 @@ use gb_isolation::laws::{
     settled_groups_agree, ticks_answer_new_notices,
 };
 
-/// A law: what `simulate` writes is the text of a run. A cluster is started, its events are those that the lines spell, and its answers
-/// are the lines that are written. That run keeps every law of runs: those of its nodes, its packets and its links, of ticks and
-/// refusals, and of the isolation, alone and beside another run, the integrity, order, duties and agreement of its groups. It does
-/// nothing.
+/// A law, with nothing to run: the text that `simulate` writes is that of a run. A cluster is started, its events are those that the lines
+/// spell, and its answers are the lines that are written. That run keeps every law of runs: those of its nodes, its packets and its links,
+/// of ticks and refusals, and of the isolation, alone and beside another run, the integrity, order, duties and agreement of its groups.
 pub fn texts_are_of_runs()
     ensures { TextsAreOfRuns }
 {

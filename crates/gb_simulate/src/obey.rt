@@ -1,4 +1,4 @@
-//! What a line of a schedule does in the cluster, and its answer.
+//! The effect of a schedule's line in the cluster, and its answer.
 ghost use Rattle.std.specs.Prelude.{◌≡◌, ◌<◌, ◌++◌, codes, Some, Ok, true, false, IfOk, OnOk, OnErr};
 ghost use Rattle.std.specs.Io.{StartsWith};
 ghost use Rattle.gb_schedule.specs.Grammar.{IsInPlace, IsStart};
@@ -18,12 +18,12 @@ use gb_schedule::{ClusterStart, Command, Keys, Step};
 use gb_types::{GroupCommand, NodeId, OutOfMemory, Plan, Request};
 use std::alloc::Global;
 
-/// How many lines a schedule may have.
+/// The greatest number of lines of a schedule.
 pub const LINES: u64 = 1_000_000;
 
 const _: () = prove!(LINES == 1_000_000);
 
-/// What the cluster of a schedule is started with.
+/// Returns the plan with which the cluster of a schedule is started.
 fn plan_of(start: &ClusterStart) -> Plan
     ensures { result ≡ plan_of start.now }
 {
@@ -38,8 +38,8 @@ fn plan_of(start: &ClusterStart) -> Plan
     }
 }
 
-/// Starts a cluster, and appends the line of the answer. `Err` if there is no memory; then `text` is as it was. A cluster's nodes are
-/// made on the stack, so this stands apart from what every line runs through.
+/// Starts a cluster, and appends the line of the answer to `text`. Returns `Err` if memory runs out; then `text` is as it was. A cluster's
+/// nodes are made on the stack, so this is a function of its own, which the path of every other line does not include.
 #[inline(never)]
 pub fn begin(
     alloc: Global,
@@ -57,7 +57,7 @@ pub fn begin(
     Ok(cluster)
 }
 
-/// An event at a node of the cluster.
+/// Lets an event happen at a node of the cluster, and appends the line of the answer to `text`.
 fn answer_event(
     cluster: &mut Cluster,
     node: NodeId,
@@ -73,7 +73,7 @@ fn answer_event(
     put_answer(text, &answer)
 }
 
-/// The arrival of a packet in the cluster.
+/// Lets a packet arrive in the cluster, and appends the line of the answer to `text`.
 fn answer_arrival(cluster: &mut Cluster, packet: u64, text: &mut Vec<u8>) -> Result<(), OutOfMemory>
     ensures size { size cluster.new ≡ size cluster.old }
     ensures answers { OnOk result (Answers cluster.old (Events.Arrive packet) (Some cluster.new) (added text.old.items text.new.items)) }
@@ -82,7 +82,8 @@ fn answer_arrival(cluster: &mut Cluster, packet: u64, text: &mut Vec<u8>) -> Res
     put_answer(text, &cluster.arrive(packet))
 }
 
-/// A step that is in its place. Inlined: a schedule was measured to take less time so.
+/// Takes a step whose nodes the cluster has, and appends the line of the answer to `text`. Inlined, because a schedule was measured to take
+/// less time.
 #[inline(always)]
 fn obey_step(
     keys: &mut Keys,
@@ -117,7 +118,7 @@ fn obey_step(
     }
 }
 
-/// A command that is in its place, so it starts no cluster.
+/// Executes a command that fits the cluster, and so starts none, and appends the line of its answer to `text`.
 fn obey(
     alloc: Global,
     keys: &mut Keys,
@@ -143,9 +144,9 @@ fn obey(
     }
 }
 
-/// Does what a line of a schedule asks, in the cluster that was started, and appends the line of its answer to `text`. Returns true if
-/// the line is good. If it spells no command, nothing was done. `Err` if there is no memory; then the cluster may have taken the
-/// event, and a part of the answer may be in `text`.
+/// Executes a line of a schedule in the cluster that was started, and appends the line of its answer to `text`. Returns true if the line is
+/// good. Returns false if it spells no command; then nothing was done. Returns `Err` if memory runs out; then the cluster may have taken
+/// the event, and a part of the answer may be in `text`.
 pub fn answer_line(
     alloc: Global,
     keys: &mut Keys,

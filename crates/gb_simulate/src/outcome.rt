@@ -7,7 +7,7 @@ use gb_lines::LinesFault;
 use gb_types::OutOfMemory;
 use thiserror::Error;
 
-/// Why a line is bad. Of several reasons the first in this order is told.
+/// Why a line is bad. If several reasons apply, the first in this order is named.
 #[derive(Clone, Copy, PartialEq, Eq)]
 pub enum BadLine {
     /// The line has more bytes than a line may have.
@@ -25,7 +25,7 @@ pub enum BadLine {
 pub enum SimEnd {
     /// All lines were read.
     All,
-    /// The line with this number, from 1, is bad. What is behind it was not read.
+    /// The line with this number, from 1, is bad. The bytes behind it were not read.
     BadLine(u64, BadLine),
 }
 
@@ -59,8 +59,8 @@ impl From<LinesFault> for SimFault {
     }
 }
 
-/// Returns the exit status of gb_sim for how a schedule ended: 0 if all lines were read, 1 if a read or a write failed, 2 for a bad
-/// line, 3 for lack of memory.
+/// Returns the exit status of gb_sim for a schedule that ended in this way: 0 if all lines were read, 1 if a read or a write failed, 2 for
+/// a bad line, 3 if memory ran out.
 pub fn status_of(outcome: &Result<SimEnd, SimFault>) -> u8
     ensures { result ≡ status outcome.now }
 {

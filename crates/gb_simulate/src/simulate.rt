@@ -19,12 +19,12 @@ use gb_schedule::grammar::{is_silent, read_start};
 use std::alloc::Global;
 use std::io::{Read, Write};
 
-/// The bytes of answers that are gathered before they are written, if no read comes first.
+/// The number of bytes of gathered answers at which they are written, if no read comes first.
 const GATHERED: usize = 16_384;
 
 const _: () = prove!(GATHERED == 16_384);
 
-/// A schedule that is run.
+/// A schedule that is being run.
 #[derive(Drop)]
 struct Run {
     alloc: Global,
@@ -32,11 +32,11 @@ struct Run {
     /// The number of the next line, from 1.
     number: u64,
     keys: Keys,
-    /// The answers that are not yet written. A line's answer is there whole, or not at all.
+    /// The answers that are not yet written. The answer of a line is in it whole, or not at all.
     gathered: Vec<u8>,
 }
 
-/// Ends a schedule: line `number` is bad.
+/// Returns the end of a schedule whose line `number` is bad, and appends the line that says so to `gathered`.
 fn end_badly(number: u64, why: BadLine, gathered: &mut Vec<u8>) -> Result<Option<SimEnd>, SimFault>
     ensures ends { result ≢ Ok None }
     ensures stops { (w : Option ClusterValue) (left unread : Option (List ℕ)) → IsNext (IsBadLine why number w) left → Stops result number w left unread gathered.old.items gathered.new.items }
@@ -49,8 +49,8 @@ fn end_badly(number: u64, why: BadLine, gathered: &mut Vec<u8>) -> Result<Option
     Ok(Some(SimEnd::BadLine(number, why)))
 }
 
-/// Reads the next line. Returns how the schedule ends if it is at its end, or the line is too long or one too many. Inlined, as
-/// `answer_next` is: a schedule was measured to take less time so.
+/// Reads the next line. Returns how the schedule ends if there is no line, or if the line is too long or one too many. Inlined, as
+/// `answer_next` is, because a schedule was measured to take less time.
 #[inline(always)]
 fn next_line<R: Read>(run: &mut Run, reader: &mut R) -> Result<Option<SimEnd>, SimFault>
     ensures number { run.new.number ≡ run.old.number }
@@ -70,7 +70,8 @@ fn next_line<R: Read>(run: &mut Run, reader: &mut R) -> Result<Option<SimEnd>, S
     }
 }
 
-/// Answers the next line before the cluster is started: it asks for nothing or starts the cluster, or else the schedule ends.
+/// Answers the next line before the cluster is started. Returns `None` if the line asks for nothing or starts the cluster, and otherwise
+/// how the schedule ends.
 fn begin_next<R: Read>(
     run: &mut Run,
     reader: &mut R,
@@ -98,7 +99,7 @@ fn begin_next<R: Read>(
     }
 }
 
-/// Answers the next line, once the cluster is started, or finds the end of the schedule.
+/// Answers the next line once the cluster is started. Returns how the schedule ends if there is no line or if it is bad.
 #[inline(always)]
 fn answer_next<R: Read>(
     run: &mut Run,
@@ -126,7 +127,7 @@ fn answer_next<R: Read>(
     }
 }
 
-/// Writes the answers that were gathered, if there are any, and flushes them.
+/// Writes the gathered answers, if there are any, and flushes them.
 fn hand_over<W: Write>(writer: &mut W, gathered: &mut Vec<u8>) -> Result<(), SimFault>
     ensures ok { OnOk result (HandsOver (W.contents writer.old) (W.contents writer.new) gathered.old.items gathered.new.items) }
     ensures all { OnOk result (gathered.new.items ≡ []) }
@@ -140,8 +141,8 @@ fn hand_over<W: Write>(writer: &mut W, gathered: &mut Vec<u8>) -> Result<(), Sim
     Ok(())
 }
 
-/// Writes the answers that were gathered if they have `GATHERED` bytes or more, or if the next line needs a read. So no
-/// answer waits while the reader waits.
+/// Writes the gathered answers if they have `GATHERED` bytes or more, or if the next line needs a read. So no answer waits while the reader
+/// waits.
 fn hand_over_in_time<W: Write>(
     writer: &mut W,
     lines: &LineBuffer,
@@ -157,8 +158,8 @@ fn hand_over_in_time<W: Write>(
     Ok(())
 }
 
-/// Answers the lines of a schedule behind the one that started the cluster. At the end, or if a read fails or there is no memory, the
-/// gathered answers are not yet written.
+/// Answers the lines of a schedule behind the one that started the cluster, and returns how the schedule ends. If it ends without a failed
+/// write, the gathered answers are not yet written.
 fn answer_lines<R: Read, W: Write>(
     run: &mut Run,
     reader: &mut R,
@@ -177,7 +178,7 @@ fn answer_lines<R: Read, W: Write>(
     }
 }
 
-/// Answers the lines of a schedule: those up to the one that starts the cluster, and then the others.
+/// Answers the lines of a schedule: those up to the one that starts the cluster, and then the others. Returns how the schedule ends.
 fn answer_all<R: Read, W: Write>(
     run: &mut Run,
     reader: &mut R,
@@ -198,11 +199,11 @@ fn answer_all<R: Read, W: Write>(
     }
 }
 
-/// Runs the schedule of a cluster that `reader` holds, line by line, and writes its answers to `writer`: a line for each event, up to
-/// the end, the first bad line or a fault. Each answer is written whole, unless a write fails. Answers are gathered, and written and
-/// flushed before each read and at the end. `cluster` becomes the cluster that the schedule starts: one that was there before is
-/// dropped first, and the caller drops this one. Returns `All` if all lines were read, or `BadLine` with the line's number and why it
-/// is bad. `Err` with `Read`, `Write` or `OutOfMemory`.
+/// Runs the schedule of a cluster that `reader` holds, line by line, and writes its answers to `writer`: a line for each event, up to the
+/// end, the first bad line or a fault. Each answer is written whole, unless a write fails. Answers are gathered, and written and flushed
+/// before each read and at the end. `cluster` becomes the cluster that the schedule starts: one that was there before is dropped first, and
+/// the caller drops this one. Returns `All` if all lines were read, or `BadLine` with the line's number and the reason why it is bad.
+/// Returns `Err` with `Read`, `Write` or `OutOfMemory` for a fault.
 pub fn simulate<R: Read, W: Write>(
     alloc: Global,
     reader: &mut R,

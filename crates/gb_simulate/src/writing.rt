@@ -1,4 +1,4 @@
-//! Writes answers, and says how much of an answer a failed write left.
+//! Writes answers. The contracts say which part of an answer a failed write may have written.
 ghost use Rattle.std.specs.Prelude.{◌≡◌, ◌≢◌, ◌≤◌, ◌⊎◌, length, take, IfOk, OnOk, IfErr, codes};
 ghost use Rattle.std.specs.Io.KnownBytes.{Appends, Keeps};
 ghost use Rattle.gb_lines.specs.Lines.{ended};
@@ -34,8 +34,8 @@ fn flush<W: Write>(writer: &mut W) -> Result<(), SimFault>
     }
 }
 
-/// Writes a whole text to `writer` and flushes it. `Err` with `Write` if a write or the flush failed; then the writer has taken a front
-/// of the text, which may be empty or whole.
+/// Writes a whole text to `writer` and flushes it. Returns `Err` with `Write` if a write or the flush failed; then the writer has taken a
+/// prefix of the text, which may be empty or whole.
 pub fn write_text<W: Write>(writer: &mut W, text: &[u8]) -> Result<(), SimFault>
     ensures ok { OnOk result (Appends (W.contents writer.old) (W.contents writer.new) text.now) }
     ensures fault { IfErr result (λ why. (why ≡ SimFault.Write) × AppendsFront (W.contents writer.old) (W.contents writer.new) text.now) }
@@ -50,8 +50,8 @@ pub fn write_text<W: Write>(writer: &mut W, text: &[u8]) -> Result<(), SimFault>
     Err(SimFault::Write)
 }
 
-/// Writes the line `out of memory` to `writer` if a schedule ended for lack of memory, else nothing. Returns `outcome` again, or `Err`
-/// with `Write` if this write failed.
+/// Writes the line `out of memory` to `writer` if a schedule ended because memory ran out, and nothing otherwise. Returns `outcome`, or
+/// `Err` with `Write` if this write failed.
 pub fn tell_want_of_memory<W: Write>(
     outcome: Result<SimEnd, SimFault>,
     writer: &mut W,

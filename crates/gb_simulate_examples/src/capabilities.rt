@@ -1,4 +1,4 @@
-//! Keyed hashes and tokens beside published values and those of another implementation.
+//! Keyed hashes and tokens, compared with published values and those of another implementation.
 use gb_cap::hmac::hmac;
 use gb_cap::token::{admits, token};
 use gb_cap::{HmacKey, Key, Mac, Need};
@@ -11,7 +11,7 @@ fn bytes(digits: &str) -> Result<[u8; 32], Fail> {
     Ok(<[u8; 32] as FromHex>::from_hex(digits)?)
 }
 
-/// The key of tenant 7 in the examples.
+/// Returns the key of tenant 7 in the examples.
 fn key_of_seven() -> Key {
     let mut key = [0x33; 32];
     key[30] = 0;
@@ -19,7 +19,7 @@ fn key_of_seven() -> Key {
     key
 }
 
-/// Whether a keyed hash has these digits.
+/// Returns whether the keyed hash of a text has these digits.
 fn is_hash(rt: &impl Abort, key: &[u8], text: &[u8], digits: &str) -> Result<bool, Fail> {
     assert!(rt; key.len() <= 64);
     Ok(hmac(key, text) == bytes(digits)?)
@@ -54,7 +54,7 @@ const VALUES: &[(&[u8], &[u8], &str)] = &[
     ),
 ];
 
-/// The first four test cases of RFC 4231.
+/// The first four test cases of RFC 4231 have their published values.
 #[test]
 fn published_values(rt: HostRuntime) -> Result<(), Fail> {
     for (key, text, digits) in VALUES {
@@ -64,7 +64,7 @@ fn published_values(rt: HostRuntime) -> Result<(), Fail> {
     Ok(())
 }
 
-/// A key that is used again gives what `hmac` gives.
+/// A key that is used again returns the same as `hmac`.
 #[test]
 fn one_key_for_two_texts(rt: HostRuntime) {
     let key = HmacKey::new(&key_of_seven());
@@ -83,7 +83,7 @@ fn compare_token(rt: &impl Abort, key: &Key, need: Need, digits: &str) -> Result
     Ok(())
 }
 
-/// Compares the token of a member of tenant 7 with its digits. It is admitted, and the tenant's own is not.
+/// Compares the token of a member of tenant 7 with its digits. This token is admitted, and the tenant's own token is not.
 fn compare_member(rt: &impl Abort, node: NodeId, digits: &str) -> Result<(), Fail> {
     let key = key_of_seven();
     let need = Need::Member {
@@ -114,7 +114,7 @@ pub const MEMBER_2: &str = "0f10d656f23c1eeb9826a3c21cd1d0dbe9e472f3d99e83a9d891
 /// The nodes of members of tenant 7, and the digits of their tokens.
 const MEMBERS: &[(u8, &str)] = &[(0, MEMBER_0), (1, MEMBER_1), (2, MEMBER_2)];
 
-/// Tokens that another implementation made.
+/// Tokens are equal to those that another implementation made.
 #[test]
 fn tokens(rt: HostRuntime) -> Result<(), Fail> {
     compare_token(&rt, &[0x22; 32], Need::Admin, ADMIN)?;

@@ -1,4 +1,4 @@
-//! Schedules and what they make a cluster answer.
+//! Schedules, and the answers of a cluster to them.
 use crate::cases::Part::{Each, Once};
 use gb_simulate::{BadLine, SimEnd, SimFault};
 
@@ -8,19 +8,19 @@ pub type Outcome = Result<SimEnd, SimFault>;
 /// A schedule, the text that it makes, and how it ends.
 pub type Case = (&'static str, &'static str, SimEnd);
 
-/// Lines, and the text that they make: once, or once for each number from the first one up to below the last. `*` stands for a payload,
-/// `#` for the number, and `%` for that number of bytes of `UNTAGGED`.
+/// Lines, and the text that they make: once, or once for each number from the first one up to below the second. In both, `*` is replaced by
+/// a payload, `#` by the number, and `%` by that number of bytes of `UNTAGGED`.
 #[derive(Clone, Copy)]
 pub enum Part {
     Once(&'static str, &'static str),
     Each(&'static str, &'static str, u16, u16),
 }
 
-/// How many bytes a payload has, and a schedule in parts.
+/// The number of bytes of a payload, and a schedule in parts.
 pub type Built = (usize, &'static [Part]);
 
-/// A byte that is repeated this number of times as a schedule, the most that is read at once, the text that it makes, and how
-/// it ends.
+/// A byte and how often it is repeated to make a schedule, the greatest number of bytes that a read returns, the text that the schedule
+/// makes, and how it ends.
 pub type Repeated = (u8, usize, usize, &'static str, SimEnd);
 
 const NO_CLUSTER: SimEnd = SimEnd::BadLine(1, BadLine::NoCluster);
@@ -89,13 +89,13 @@ const FULL_FRAME: Part = Once(
     "ok\nok\nok\nok\nok\nok\nok\nsaid 1\nsaid 2\nsaid 3\nsaid 4\nsaid 5\nsaid 6\nsaid 7\nsaid 8\npacket 1\ngood first 7 0\npacket 2\ngood first 1 0\n",
 );
 
-// Each `*` is a payload of 1,024 bytes. The group after the last is the first one, also where another is made later.
+// Each `*` is a payload of 1,024 bytes. After the last group comes the first one again, also after another group is made.
 const CURSOR_GOES_ROUND: Part = Once(
     "cluster 2 3\ntenant 0 7 4 16 65536 16\ntenant 1 7 4 16 65536 16\nmake 0 7 0 beb 0,1 16 65536 16\nopen 0 7 0\nmake 0 7 1 beb 0,1 16 65536 16\nopen 0 7 1\nmake 1 7 0 beb 0,1 16 65536 16\nopen 1 7 0\nmake 1 7 1 beb 0,1 16 65536 16\nopen 1 7 1\nsay 0 7 0 61\nsay 0 7 1 61\npack 0 1\narrive 1\nmake 0 7 2 beb 0,1 16 65536 16\nopen 0 7 2\nmake 1 7 2 beb 0,1 16 65536 16\nopen 1 7 2\nsay 0 7 0 *\nsay 0 7 0 *\nsay 0 7 0 *\nsay 0 7 0 *\nsay 0 7 0 *\nsay 0 7 0 *\nsay 0 7 0 *\nsay 0 7 2 *\nsay 0 7 2 *\nsay 0 7 2 *\nsay 0 7 2 *\nsay 0 7 2 *\nsay 0 7 2 *\nsay 0 7 2 *\npack 0 1\narrive 2\nfetch 1 7 0 5 16\nfetch 1 7 0 6 16\nfetch 1 7 2 3 16\nfetch 1 7 2 4 16\n",
     "ok\nok\nok\nok\nok\nok\nok\nok\nok\nok\nok\nsaid 1\nsaid 1\npacket 1\ngood first 2 0\nok\nok\nok\nok\nsaid 2\nsaid 3\nsaid 4\nsaid 5\nsaid 6\nsaid 7\nsaid 8\nsaid 1\nsaid 2\nsaid 3\nsaid 4\nsaid 5\nsaid 6\nsaid 7\npacket 2\ngood first 7 0\nlog 0\nrefused 11 BadPlace\nlog 0\nrefused 11 BadPlace\n",
 );
 
-// Each refusal where the next one in the order holds as well. Each `*` is a payload of 1,025 bytes.
+// Each refusal, in a state in which the next one in the order applies as well. Each `*` is a payload of 1,025 bytes.
 const ORDER_OF_REFUSALS: Part = Once(
     "cluster 2 3\ntenant 0 0 4 8 64 4\ntenant 0 7 4 8 64 4\ntenant 0 7 0 8 64 4\ntenant 0 7 257 8 64 4\ntenant 0 7 4 0 64 4\ntenant 0 7 4 1025 64 4\ntenant 0 7 4 8 65537 4\ntenant 0 7 4 8 64 0\ntenant 0 7 4 8 64 1025\ntenant 0 7 256 8 64 4\ntenant 0 8 256 8 64 4\ntenant 0 9 256 8 64 4\ntenant 0 10 256 8 64 4\ntenant 0 11 253 8 64 4\ntenant 0 7 253 8 64 4\ntenant 0 11 252 8 64 4\ntenant 0 12 1 8 64 4\ntenant 0 12 257 8 64 4\nmake 0 99 300 beb 1 9 64 4\nmake 0 7 4 beb 1 9 64 4\nmake 0 7 1 beb 1 9 64 4\nmake 0 7 1 beb 0,2 9 64 4\nmake 0 7 1 beb 0 9 64 4\nmake 0 7 1 beb 0 0 64 4\nmake 0 7 1 beb 0 8 65 4\nmake 0 7 1 beb 0 8 64 5\nmake 0 7 1 beb 0 8 64 0\nmake 0 7 1 beb 0,1 2 3 1\nmake 0 7 1 beb 1 9 64 4\nfetch 0 7 2 9 99\nopen 0 7 2\nsay 0 7 2 *\nsay 0 7 1 *\nshut 0 7 1\nopen 0 7 1\nopen 0 7 1\nsay 0 7 1 *\nsay 0 7 1 6162\nsay 0 7 1 6162\nsay 0 7 1 61\ntick 0\ntick 0\ntick 0\nsay 0 7 1 61\nsay 0 7 1 61\nsay 0 7 1 *\nfetch 0 7 1 3 16\nfetch 0 7 1 2 17\nfetch 0 7 1 2 16\nfetch 0 7 1 0 0\nshut 0 7 1\nshut 0 7 1\nopen 0 7 1\nsay 0 7 1 *\ndrop 0 7 1\ndrop 0 7 1\nshut 0 7 1\nopen 0 7 1\nfetch 0 7 1 9 99\nsay 0 7 1 *\nmake 0 7 1 beb 1 9 64 4\nforge 0 7 1\nforge 0 7 2\nstop 0\nforge 0 7 1\nmake 0 99 300 beb 1 9 64 4\ntenant 0 7 0 8 64 4\ndrop 0 7 1\nfetch 0 7 1 9 99\npack 0 1\nagain 0 1 0\nack 0 1\npack 0 0\ntick 0\nstop 0\nnoise 0 -\narrive 0\narrive 1\n",
     "ok\nrefused 5 OverReserve\nok\nrefused 5 OverReserve\nrefused 5 OverReserve\nrefused 5 OverReserve\nrefused 5 OverReserve\nrefused 5 OverReserve\nrefused 5 OverReserve\nrefused 5 OverReserve\nrefused 13 TenantThere\nok\nok\nok\nrefused 12 NoRoom\nrefused 13 TenantThere\nok\nrefused 12 NoRoom\nrefused 5 OverReserve\nrefused 1 Denied\nrefused 2 NoGroup\nrefused 4 BadMembers\nrefused 4 BadMembers\nrefused 5 OverReserve\nrefused 5 OverReserve\nrefused 5 OverReserve\nrefused 5 OverReserve\nrefused 5 OverReserve\nok\nrefused 3 Spent\nrefused 2 NoGroup\nrefused 2 NoGroup\nrefused 2 NoGroup\nrefused 6 WrongPhase\nrefused 6 WrongPhase\nok\nrefused 6 WrongPhase\nrefused 7 TooLong\nsaid 1\nrefused 9 Bytes\nrefused 10 Window\nnoticed -\nnoticed -\nnoticed 1\nsaid 2\nrefused 8 Budget\nrefused 7 TooLong\nrefused 11 BadPlace\nrefused 11 BadPlace\nlog 0\nlog 0\nok\nrefused 6 WrongPhase\nrefused 6 WrongPhase\nrefused 6 WrongPhase\nok\nrefused 3 Spent\nrefused 3 Spent\nrefused 3 Spent\nrefused 3 Spent\nrefused 3 Spent\nrefused 3 Spent\nrefused 1 Denied\nrefused 1 Denied\nok\nrefused 15 Stopped\nrefused 15 Stopped\nrefused 15 Stopped\nrefused 15 Stopped\nrefused 15 Stopped\nrefused 15 Stopped\nrefused 15 Stopped\nrefused 15 Stopped\nrefused 15 Stopped\nrefused 15 Stopped\nrefused 15 Stopped\nrefused 15 Stopped\nno packet\nno packet\n",
@@ -113,19 +113,21 @@ const FULL_FRAME_OF_VERSION_3: Part = Once(
     "ok\nok\nok\nok\nok\nok\nok\nsaid 1\nsaid 2\nsaid 3\nsaid 4\nrefused 7 TooLong\npacket 1\ngood first 3 0\npacket 2\ngood first 1 0\n",
 );
 
-// Packets with room for 1,400 bytes of items; each `*` is a payload of 4,096 bytes, which is longer and travels by itself.
+// Packets with room for 1,400 bytes of items. Each `*` is a payload of 4,096 bytes, whose item is longer and is sent in a packet of its
+// own.
 const NARROW_FRAMES: Part = Once(
     "cluster2 2 3 2,2 1400\ntenant 0 7 4 8 65536 8\nmake 0 7 1 beb 0,1 8 65536 8\nopen 0 7 1\ntenant 1 7 4 8 65536 8\nmake 1 7 1 beb 0,1 8 65536 8\nopen 1 7 1\nsay 0 7 1 61\nsay 0 7 1 62\nsay 0 7 1 *\nsay 0 7 1 *\nsay 0 7 1 63\npack 0 1\narrive 1\npack 0 1\narrive 2\npack 0 1\narrive 3\npack 0 1\narrive 4\npack 0 1\n",
     "ok\nok\nok\nok\nok\nok\nok\nsaid 1\nsaid 2\nsaid 3\nsaid 4\nsaid 5\npacket 1\ngood first 2 0\npacket 2\ngood first 1 0\npacket 3\ngood first 1 0\npacket 4\ngood first 1 0\nnothing\n",
 );
 
-// Each `*` is a payload of 1,025 bytes: node 1 sends version 1, may not say it, and lets it fall where it comes.
+// Each `*` is a payload of 1,025 bytes. Node 1 sends version 1: it may not say such a payload, and lets it fall when it comes.
 const UNLIKE_VERSIONS: Part = Once(
     "cluster2 2 3 2,1\ntenant 0 7 4 8 65536 8\nmake 0 7 1 beb 0,1 8 65536 8\nopen 0 7 1\ntenant 1 7 4 8 65536 8\nmake 1 7 1 beb 0,1 8 65536 8\nopen 1 7 1\nsay 1 7 1 *\nsay 0 7 1 *\npack 0 1\narrive 1\nfetch 1 7 1 0 16\n",
     "ok\nok\nok\nok\nok\nok\nok\nrefused 7 TooLong\nsaid 1\npacket 1\ngood first 1 0\nlog 0\n",
 );
 
-// Packets of version 2 without a right tag: eight items of 1,024 bytes, each a `*`; four of 4,096 bytes, which are too many; from node 32.
+// Packets of version 2 without a right tag: eight items of 1,024 bytes, each a `*`; four of 4,096 bytes, which are too long together; and
+// one from node 32.
 const FAULTS_OF_VERSION_2: Part = Once(
     "cluster 2 3\nnoise 1 47420200010000000000000001000000000000000000000000000000010008000700010000010400*000700010000020400*000700010000030400*000700010000040400*000700010000050400*000700010000060400*000700010000070400*000700010000080400*0000000000000000\nnoise 1 47420200010000000000000001000000000000000000000000000000010004000700010000011000****000700010000021000****000700010000031000****000700010000041000****0000000000000000\nnoise 1 47420220010000000000000001000000000000000000000000000000010008000700010000010400*000700010000020400*000700010000030400*000700010000040400*000700010000050400*000700010000060400*000700010000070400*000700010000080400*0000000000000000\n",
     "ok\nfault 10 Tag\nfault 9 TooLong\nfault 4 Node\n",
@@ -137,11 +139,11 @@ const TWO_NODES: Part = Once(
     "ok\nok\nok\nok\nok\nok\nok\n",
 );
 
-// A packet with eight zero bytes in the place of its tag.
+// A packet with eight zero bytes instead of its tag.
 pub const UNTAGGED: &str =
     "47420100010000000000000001000000000000000000000000000000010001000700010000010001610000000000000000";
 
-// The same with a byte changed, in the order of the faults; in one line it has eight items of 1,024 bytes, each a `*`.
+// The same packet with one byte changed, in the order of the faults. In one line it has eight items of 1,024 bytes, each a `*`.
 const DAMAGED: Part = Once(
     "noise 1 00420100010000000000000001000000000000000000000000000000010001000700010000010001610000000000000000\nnoise 1 47420200010000000000000001000000000000000000000000000000010001000700010000010001610000000000000000\nnoise 1 47420100000000000000000001000000000000000000000000000000010001000700010000010001610000000000000000\nnoise 1 47420100010000000000000001000000000000000100000000000000010001000700010000010001610000000000000000\nnoise 1 47420100010000000000000000000000000000000000000000000000010001000700010000010001610000000000000000\nnoise 1 47420100010000000000000001000000000000000000000000000000000001000700010000010001610000000000000000\nnoise 1 47420100010000000000000001000000000000000000000000000000010000000700010000010001610000000000000000\nnoise 1 47420100010000000000000001000000000000000000000000000000010001000700010000010401610000000000000000\nnoise 1 4742010001000000000000000100000000000000000000000000000001000100070001000001000161000000000000000000\nnoise 1 47420100010000000000000001000000000000000000000000000000010008000700010000010400*000700010000020400*000700010000030400*000700010000040400*000700010000050400*000700010000060400*000700010000070400*000700010000080400*0000000000000000\nnoise 1 47420100010000000000000001000000000000000000000000000000010001000700010000010001610000000000000000\nnoise 1 47420300010000000000000001000000000000000000000000000000010001000700010000010001610000000000000000\nnoise 1 47420400010000000000000001000000000000000000000000000000010001000700010000010001610000000000000000\nfetch 1 7 1 0 16\n",
     "fault 2 Magic\nfault 10 Tag\nfault 4 Node\nfault 5 Mask\nfault 5 Mask\nfault 6 Count\nfault 6 Count\nfault 7 Length\nfault 8 Trailing\nfault 9 TooLong\nfault 10 Tag\nfault 7 Length\nfault 3 Version\nlog 0\n",
@@ -202,7 +204,7 @@ pub const LONG_PAYLOADS: &[Built] = &[
     (1_024, &[FAULTS_OF_VERSION_2]),
 ];
 
-// Each front of a packet is no packet; nor is one with a byte changed; nothing is delivered of it.
+// No prefix of a packet is a packet, and neither is a packet with one byte changed. Nothing of them is delivered.
 pub const DAMAGED_PACKETS: &[Built] = &[(
     1_024,
     &[
@@ -214,10 +216,10 @@ pub const DAMAGED_PACKETS: &[Built] = &[(
     ],
 )];
 
-// Each message is said and packed.
+// Each message is said, and then packed.
 const SAY_AND_PACK: Part = Each("say 0 7 1 61\npack 0 1\n", "said #\npacket #\n", 1, 65);
 
-// What waits to be sent in a full link's frames keeps no other tenant from saying.
+// Messages that wait behind a full link do not prevent another tenant from saying a message.
 pub const FULL_LINK: &[Built] = &[(
     0,
     &[
@@ -246,7 +248,7 @@ pub const ALL_MESSAGES: &[Built] = &[(
     ],
 )];
 
-// A payload of 1,024 bytes is said and comes, and one of 1,025 is refused; so all bytes of the group are said.
+// A payload of 1,024 bytes is said and arrives, and one of 1,025 bytes is refused. With the first, all bytes of the group are said.
 pub const LONGEST_PAYLOAD: &[Built] = &[(
     1_024,
     &[Once(
@@ -255,7 +257,7 @@ pub const LONGEST_PAYLOAD: &[Built] = &[(
     )],
 )];
 
-// 64 frames that are not acknowledged fill a link; an acknowledgement of the first makes room for one more.
+// 64 frames that are not acknowledged fill a link. An acknowledgement of the first makes room for one more.
 pub const WINDOW_OF_64_FRAMES: &[Built] = &[(
     0,
     &[
@@ -282,9 +284,9 @@ pub const MANY_PACKETS: &[Built] = &[(
     ],
 )];
 
-// The longest log that a fetch shows, 16 messages of the longest payload, all that their member may say: two such answers in one
-// piece are more than 200,000 bytes before the next read. The second stands behind answers of 16,380 bytes, so that as many bytes are
-// written at once as there may be.
+// The longest log that a fetch returns: 16 messages of the longest payload, which are all that their member may say. Two such answers in
+// one piece are more than 200,000 bytes before the next read. The second is behind answers of 16,380 bytes, so that the greatest number of
+// bytes is written at once.
 pub const LONGEST_LOG: &[Built] = &[(
     4_096,
     &[
@@ -311,16 +313,16 @@ const TWO_GROUPS: Part = Once(
     "ok\nok\nok\nok\nok\n",
 );
 
-// Two frames, of which the first is given again.
+// The lines that send two frames, and the first of them again.
 const FRAMES: &str =
     "pack 0 1\npack 0 1\nagain 0 1 1\narrive 3\narrive 1\narrive 2\nack 1 0\narrive 4\n";
 
-// What comes of them where the first has this number of messages.
+// The answers to these lines, if the first frame has this number of messages.
 const FRAMES_ARRIVE: &str =
     "packet 1\npacket 2\npacket 3\ngood first # 0\ngood seen 0 0\ngood first 1 0\npacket 4\ngood none 0 2\n";
 
-// A frame of as many messages of one byte as a packet of each version has room for, and of no byte in the last, which is given again, and
-// a frame of the one that is left. Both are acknowledged.
+// For each version, a frame of the greatest number of shortest messages: of one byte, or of no byte in the last case. It is sent again.
+// Then a frame of the one message that is left. Both are acknowledged.
 pub const SHORTEST_MESSAGES: &[Built] = &[
     (
         0,
@@ -365,8 +367,8 @@ pub const SHORTEST_MESSAGES: &[Built] = &[
     ),
 ];
 
-// Nodes with as many tenants and groups as they have places for: 256 tenants of four rooms each, in version 3 with four generations in
-// each room. The groups work, of version 3 those of the last tenant.
+// Nodes with as many tenants and groups as they have places for: 256 tenants of four rooms each, in version 3 with four generations in each
+// room. Some groups are used, in version 3 those of the last tenant.
 pub const MOST_GROUPS: &[Built] = &[
     (
         0,
@@ -449,7 +451,7 @@ pub const MOST_LINES: &[Repeated] = &[
     ),
 ];
 
-/// Lines, one a read, and how many bytes are flushed before.
+/// Lines, each the bytes of one read, and the number of bytes that are flushed before that read.
 pub const ASKED: &[(&str, usize)] = &[
     ("cluster 1 2\n", 0),
     ("# a comment\n", 3),
@@ -458,8 +460,8 @@ pub const ASKED: &[(&str, usize)] = &[
     ("tick 0\n", 23),
 ];
 
-/// How a schedule ends, the bytes that a writer takes, how the run ends then, what is written behind the answers, and how often a write
-/// fails.
+/// How a schedule ends, the number of bytes that a writer takes, how the run ends then, the bytes that are written behind the answers, and
+/// how often a write fails.
 pub type Want = (Outcome, usize, Outcome, &'static [u8], usize);
 
 const FAILED_READ: Outcome = Err(SimFault::Read);
@@ -477,7 +479,7 @@ pub const WANTS: &[Want] = &[
     (NO_MEMORY, 13, FAILED_WRITE, b"out of memory", 1),
 ];
 
-/// How a schedule ends, and the line that is told of it.
+/// How a schedule ends, and the line that is printed for it.
 pub const COMPLAINTS: &[(Outcome, &str)] = &[
     (Ok(SimEnd::All), ""),
     (

@@ -1,4 +1,4 @@
-//! Lines, and what they spell.
+//! Lines, and the commands that they spell, as words and numbers.
 ghost use Rattle.std.specs.{Prelude.◌≤◌, Option.ForSome};
 
 use gb_schedule::grammar::{is_silent, read_other_command, read_start, read_step};
@@ -19,7 +19,7 @@ fn add(text: &mut Vec<u8>, number: u64) -> Result<(), OutOfMemory> {
     put_number(text, number)
 }
 
-/// Words, and numbers behind them.
+/// Returns words with numbers behind them.
 fn shown(alloc: Global, words: &[u8], numbers: &[u64]) -> Result<Vec<u8>, OutOfMemory> {
     let mut text = Vec::from_slice(alloc, words)?;
     for number in numbers {
@@ -28,7 +28,7 @@ fn shown(alloc: Global, words: &[u8], numbers: &[u64]) -> Result<Vec<u8>, OutOfM
     Ok(text)
 }
 
-/// Words, numbers behind them, and then each byte as a number.
+/// Returns words with numbers behind them, and then each byte as a number.
 fn shown_bytes(
     alloc: Global,
     words: &[u8],
@@ -42,12 +42,12 @@ fn shown_bytes(
     Ok(text)
 }
 
-/// A request's node and address.
+/// Returns the numbers of a request's node, tenant and group.
 fn place(node: u64, address: Addr) -> [u64; 3] {
     [node, u64::from(address.tenant), u64::from(address.group)]
 }
 
-/// A tenant's row, without its key.
+/// Returns the words of a tenant's row, without its key.
 fn told_row(alloc: Global, node: u64, row: &TenantRow) -> Result<Vec<u8>, OutOfMemory> {
     let numbers = [
         node,
@@ -60,7 +60,7 @@ fn told_row(alloc: Global, node: u64, row: &TenantRow) -> Result<Vec<u8>, OutOfM
     shown(alloc, b"take in", &numbers)
 }
 
-/// A spec, without its members.
+/// Returns the words of a spec, without its members.
 fn told_limits(
     alloc: Global,
     node: u64,
@@ -85,7 +85,7 @@ fn told_limits(
     shown(alloc, words, &numbers)
 }
 
-/// A spec's members come last, by number.
+/// Returns the words of a spec. Its members come last, by number.
 fn told_spec(alloc: Global, node: u64, address: Addr, spec: &Spec) -> Result<Vec<u8>, OutOfMemory> {
     let mut text = told_limits(alloc, node, address, spec)?;
     for number in 0..32u8 {
@@ -96,7 +96,7 @@ fn told_spec(alloc: Global, node: u64, address: Addr, spec: &Spec) -> Result<Vec
     Ok(text)
 }
 
-/// What is read, from a place on.
+/// Returns the words of a fetch from an index on.
 fn told_fetch(
     alloc: Global,
     node: u64,
@@ -109,7 +109,7 @@ fn told_fetch(
     shown(alloc, b"fetch", &numbers)
 }
 
-/// What is said in a group.
+/// Returns the words of a message that is said in a group.
 fn told_message(
     alloc: Global,
     node: u64,
@@ -129,7 +129,7 @@ fn told_message(
     }
 }
 
-/// What a request at a node asks for.
+/// Returns the words of a request at a node.
 fn told_request(alloc: Global, node: u64, request: &Request) -> Result<Vec<u8>, OutOfMemory> {
     let (address, command) = match &request.what {
         Action::AddTenant(row) => return told_row(alloc, node, row),
@@ -145,29 +145,29 @@ fn told_request(alloc: Global, node: u64, request: &Request) -> Result<Vec<u8>, 
     }
 }
 
-/// Words, and a node behind them.
+/// Returns words with a node behind them.
 fn at(alloc: Global, words: &[u8], node: NodeId) -> Result<Vec<u8>, OutOfMemory> {
     shown(alloc, words, &[u64::from(node.number)])
 }
 
-/// Words, and two nodes behind them.
+/// Returns words with two nodes behind them.
 fn between(alloc: Global, words: &[u8], node: NodeId, to: NodeId) -> Result<Vec<u8>, OutOfMemory> {
     let numbers = [u64::from(node.number), u64::from(to.number)];
     shown(alloc, words, &numbers)
 }
 
-/// A frame that is given again.
+/// Returns the words of a frame that is sent again.
 fn told_again(alloc: Global, node: NodeId, to: NodeId, frame: u64) -> Result<Vec<u8>, OutOfMemory> {
     let numbers = [u64::from(node.number), u64::from(to.number), frame];
     shown(alloc, b"again", &numbers)
 }
 
-/// Bytes that are handed in at a node.
+/// Returns the words of bytes that arrive at a node.
 fn told_noise(alloc: Global, node: NodeId, bytes: &[u8]) -> Result<Vec<u8>, OutOfMemory> {
     shown_bytes(alloc, b"noise", &[u64::from(node.number)], bytes)
 }
 
-/// What a step asks for.
+/// Returns the words of a step.
 fn told_step(alloc: Global, step: Step) -> Result<Vec<u8>, OutOfMemory> {
     match step {
         Step::Pack { node, to } => between(alloc, b"pack", node, to),
@@ -185,8 +185,8 @@ fn told_step(alloc: Global, step: Step) -> Result<Vec<u8>, OutOfMemory> {
     }
 }
 
-/// How a cluster is started. The nodes that send the second and the third version come last, by number; 100 stands behind each that
-/// sends the third. Behind them stands the room of packets, where it is not the greatest.
+/// Returns the words of a cluster's start. The numbers of the nodes that send version 2 or 3 come last, each of version 3 with 100 behind
+/// it. Behind them comes the room of packets, if it is not the greatest.
 fn told_start(alloc: Global, start: &ClusterStart) -> Result<Vec<u8>, OutOfMemory> {
     let numbers = [u64::from(start.nodes), u64::from(start.silence)];
     let mut text = shown(alloc, b"cluster", &numbers)?;
@@ -204,7 +204,7 @@ fn told_start(alloc: Global, start: &ClusterStart) -> Result<Vec<u8>, OutOfMemor
     Ok(text)
 }
 
-/// What a command asks for.
+/// Returns the words of a command.
 fn told_command(alloc: Global, command: &Command) -> Result<Vec<u8>, OutOfMemory> {
     match command {
         Command::Cluster(start) => told_start(alloc, start),
@@ -214,7 +214,7 @@ fn told_command(alloc: Global, command: &Command) -> Result<Vec<u8>, OutOfMemory
     }
 }
 
-/// The command that a line spells in a cluster of `nodes` nodes.
+/// Returns the command that a line spells in a cluster of `nodes` nodes, or `None`.
 fn command_of(
     alloc: Global,
     keys: &mut Keys,
@@ -229,7 +229,7 @@ fn command_of(
     }
 }
 
-/// What a line asks for in a cluster of `nodes` nodes, or before one is started where that is `None`.
+/// Returns the words of the command that a line spells in a cluster of `nodes` nodes, or `bad`. For `None`, no cluster is started.
 fn told(
     alloc: Global,
     keys: &mut Keys,
@@ -248,7 +248,7 @@ fn told(
     }
 }
 
-/// Whether a line asks for what stands behind its `=`, or for nothing where it has none.
+/// Returns whether the words of a line are those behind its `=`, or whether it is bad if it has no `=`.
 fn is_told(
     alloc: Global,
     keys: &mut Keys,
@@ -262,7 +262,7 @@ fn is_told(
     Ok(found.as_slice() == wanted.as_bytes())
 }
 
-/// Each line, one under the other, asks for what stands behind its `=`, or for nothing where it has none. Gives their count.
+/// Checks that the words of each line are those behind its `=`, or that it is bad if it has no `=`. Returns the number of lines.
 fn compare_lines(
     rt: &impl Abort,
     alloc: Global,
@@ -281,7 +281,7 @@ fn compare_lines(
     Ok(count)
 }
 
-/// The same, with new keys.
+/// Checks the lines in the same way, with new keys.
 fn compare(
     rt: &impl Abort,
     alloc: Global,
@@ -339,7 +339,7 @@ fn bad_lines(rt: HostRuntime) -> Result<(), Fail> {
     Ok(())
 }
 
-/// The group that a command names.
+/// Returns the address of the group that a command names, or `None`.
 fn named(command: &Command) -> Option<Addr> {
     match command {
         Command::Request(_, request) => match &request.what {
@@ -363,7 +363,7 @@ fn told_group(alloc: Global, keys: &mut Keys, line: &[u8]) -> Result<Vec<u8>, Ou
     shown(alloc, b"", &[tenant, group, u64::from(address.generation)])
 }
 
-/// Whether a line names the group that stands behind its `=`, or is bad where it has none.
+/// Returns whether a line names the group behind its `=`, or is bad if it has no `=`.
 fn names_group(alloc: Global, keys: &mut Keys, each: &str) -> Result<bool, OutOfMemory> {
     let (line, wanted) = each.split_once('=').unwrap_or((each, "bad"));
     let found = told_group(alloc, keys, line.as_bytes())?;
@@ -373,7 +373,7 @@ fn names_group(alloc: Global, keys: &mut Keys, each: &str) -> Result<bool, OutOf
 const GENERATIONS: &str =
     "make 0 7 1.1 beb 0 8 64 4= 7 1 1\nmake 0 7 1 beb 0 8 64 4= 7 1 0\nopen 0 7 65535.4294967295= 7 65535 4294967295\nshut 0 7 0.10= 7 0 10\ndrop 0 7 1.2= 7 1 2\nsay 0 7 1.2 61= 7 1 2\nsay 2 65535 12.34 - 4294967295= 65535 12 34\nsay 0 7 1 61= 7 1 0\nfetch 0 7 1.2 0 16= 7 1 2\nfetch 0 7 1 0 16= 7 1 0\nfetch 2 65535 65535.4294967295 4294967295 0= 65535 65535 4294967295\nforge 0 7 1.2= 7 1 2\nopen 0 7 1.0\nopen 0 7 1.01\nopen 0 7 1.\nopen 0 7 .1\nopen 0 7 .\nopen 0 7 1..1\nopen 0 7 1.1.1\nopen 0 7 01.1\nopen 0 7 1.4294967296\nopen 0 7 65536.1\nopen 0 7.1 1\nopen 0.1 7 1\nopen 0 7 1,1\nsay 0 7 1.0 61\nsay 0 7 1. 61\nsay 0 7 1.2\nsay 0 7 1.2 \nsay 3 7 1.2 61\nsay 0 7.2 1 61\nsay 0 7 1.2 61 1.2\nfetch 0 7 1.0 0 16\nfetch 0 7 1.2 0\nfetch 0 7 1.2 0 16 1\nfetch 3 7 1.2 0 16\nfetch 0 7 1.2 0 4294967296\nfetch 0 7 1 0.1 16\nmake 0 7 1.0 beb 0 8 64 4\ntenant 0 7.1 1 1 1 1\npack 0 1.1";
 
-/// A group's word has its generation behind a dot, where it is not the first.
+/// The word of a group ends in a dot and its generation, if that is not the first.
 #[test]
 fn generations(rt: HostRuntime) -> Result<(), Fail> {
     let alloc = rt.alloc();

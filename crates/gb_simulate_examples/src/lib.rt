@@ -1,4 +1,4 @@
-//! Worked schedules, as tests: lines, words, tokens and commands, and whole schedules with their answers. There is nothing here but tests.
+//! Worked schedules, as tests: lines, words, tokens and commands, and whole schedules with their answers. This crate has tests only.
 #![tactic(auto)]
 
 #[cfg(test)]

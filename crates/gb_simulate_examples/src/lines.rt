@@ -1,4 +1,4 @@
-//! Readers over memory that give a text in pieces, and the lines that come of it.
+//! Readers over memory that return a text in pieces, and the lines that are read from it.
 use gb_lines::{LineBuffer, LinesFault, NextLine};
 use gb_types::OutOfMemory;
 use std::alloc::{AllocError, Global};
@@ -6,7 +6,7 @@ use std::io::{ErrorKind, Read};
 use std::test::Fail;
 use std::{cmp, io};
 
-/// Returns a text by pieces of at most this size. The reads from the first number of `failing` up to below the second fail.
+/// Returns a text in pieces of at most this size. The reads with numbers in `failing` fail: from its first up to below its second.
 #[derive(Drop)]
 pub struct Pieces<'a> {
     text: &'a [u8],
@@ -32,7 +32,7 @@ impl Read for Pieces<'_> {
     }
 }
 
-/// Returns a reader of the text, at which no read fails.
+/// Returns a reader of the text all of whose reads succeed.
 pub fn in_pieces(text: &[u8], piece: usize) -> Pieces<'_> {
     Pieces {
         text,
@@ -43,7 +43,7 @@ pub fn in_pieces(text: &[u8], piece: usize) -> Pieces<'_> {
     }
 }
 
-/// A line, and a stroke behind it.
+/// Appends a line, and `|` behind it.
 fn show_line(text: &mut String, line: &[u8]) -> Result<(), OutOfMemory> {
     for byte in line {
         text.push(char::from(*byte))?;
@@ -51,7 +51,7 @@ fn show_line(text: &mut String, line: &[u8]) -> Result<(), OutOfMemory> {
     Ok(text.push('|')?)
 }
 
-/// The next line, or how the lines end. Answers whether there was a line.
+/// Appends the next line, or how the lines end. Returns whether there was a line.
 fn show_next<R: Read>(
     text: &mut String,
     lines: &mut LineBuffer,
@@ -71,7 +71,7 @@ fn show_next<R: Read>(
     Ok(false)
 }
 
-/// The lines that come, each with a stroke behind it, and then how they end.
+/// Returns all lines, each with `|` behind it, and then how they end.
 fn shown<R: Read>(alloc: Global, reader: &mut R) -> Result<String, OutOfMemory> {
     let mut lines = LineBuffer::new(alloc)?;
     let mut text = String::new(alloc);
@@ -83,13 +83,13 @@ fn shown<R: Read>(alloc: Global, reader: &mut R) -> Result<String, OutOfMemory> 
     Ok(text)
 }
 
-/// Whether these lines are shown.
+/// Returns whether the lines and their end are these.
 fn shows<R: Read>(alloc: Global, reader: &mut R, lines: &str) -> Result<bool, OutOfMemory> {
     let given = shown(alloc, reader)?;
     Ok(given.as_str() == lines)
 }
 
-/// Whether what is shown ends with these lines.
+/// Returns whether the lines and their end have this end.
 fn shows_last<R: Read>(alloc: Global, reader: &mut R, ends: &str) -> Result<bool, OutOfMemory> {
     let given = shown(alloc, reader)?;
     Ok(given.as_str().ends_with(ends))
@@ -112,7 +112,7 @@ const TEXTS: &[(&str, &str)] = &[
 
 const PIECES: &[usize] = &[1, 2, 3, 7, 65_536];
 
-/// Whether these lines come of the text in any pieces.
+/// Returns whether these lines are read from the text, in pieces of any size.
 fn is_read(alloc: Global, text: &[u8], lines: &str) -> Result<bool, OutOfMemory> {
     for piece in PIECES {
         if !shows(alloc, &mut in_pieces(text, *piece), lines)? {
@@ -132,7 +132,7 @@ fn lines_in_any_pieces(rt: HostRuntime) -> Result<(), Fail> {
     Ok(())
 }
 
-/// Whether these lines come where the third read fails so.
+/// Returns whether these lines are read if the third read fails with this kind of error.
 fn shows_failing(alloc: Global, kind: ErrorKind, lines: &str) -> Result<bool, OutOfMemory> {
     let mut reader = in_pieces(b"a\nbcd\ne", 2);
     reader.failing = (2, 3);
@@ -151,10 +151,10 @@ fn a_failed_read_is_a_fault_and_an_interrupted_one_is_made_again(
     Ok(())
 }
 
-/// What the next line is told to be, and the line that then stands.
+/// What the next call returns, and the line that `line` returns then.
 type Next = (Result<NextLine, LinesFault>, &'static [u8]);
 
-/// Whether the next line is told so, and then this line stands.
+/// Returns whether the next call returns this, and `line` then this line.
 fn gives<R: Read>(lines: &mut LineBuffer, reader: &mut R, next: &Next) -> bool {
     let (told, line) = *next;
     lines.next(reader) == told && lines.line() == line
@@ -181,14 +181,14 @@ fn nothing_is_lost_at_a_failed_read(rt: HostRuntime) -> Result<(), Fail> {
     Ok(())
 }
 
-/// A line of this number of bytes, and a short one.
+/// Returns the bytes of a line of this length, and of a short one.
 fn long_line(alloc: Global, count: usize) -> Result<Vec<u8>, AllocError> {
     let mut text = vec![in alloc; b'#'; count]?;
     text.extend_from_slice(b"\nb")?;
     Ok(text)
 }
 
-/// Returns true if what is shown of a line of this number of bytes, and a short one, ends so in any pieces.
+/// Returns whether the lines that are read of a long line and a short one have this end, in pieces of any size.
 fn is_long_line_read(alloc: Global, count: usize, ends: &str) -> Result<bool, OutOfMemory> {
     let text = long_line(alloc, count)?;
     for piece in [7, 65_536, 131_072] {
@@ -208,7 +208,7 @@ fn the_longest_line(rt: HostRuntime) -> Result<(), Fail> {
     Ok(())
 }
 
-/// Returns true if what is shown of one line of this number of bytes ends so.
+/// Returns whether the lines that are read of one line of this number of bytes have this end.
 fn is_one_line_read(alloc: Global, count: usize, ends: &str) -> Result<bool, OutOfMemory> {
     let text = vec![in alloc; b'#'; count]?;
     shows_last(alloc, &mut in_pieces(&text, 1_000), ends)
@@ -223,7 +223,7 @@ fn the_longest_line_without_its_line_feed(rt: HostRuntime) -> Result<(), Fail> {
     Ok(())
 }
 
-/// Returns true if the next line is told so after this number of interrupted reads.
+/// Returns whether the next call returns this after this number of interrupted reads.
 fn gives_after(alloc: Global, left: u64, next: &Next) -> Result<bool, OutOfMemory> {
     let mut lines = LineBuffer::new(alloc)?;
     let mut reader = in_pieces(b"ab\n", 1);
@@ -232,7 +232,7 @@ fn gives_after(alloc: Global, left: u64, next: &Next) -> Result<bool, OutOfMemor
     Ok(gives(&mut lines, &mut reader, next))
 }
 
-/// A read that was interrupted counts; the line takes three reads more.
+/// A read that was interrupted counts. The line takes three more reads.
 #[test]
 fn as_many_reads_as_are_allowed(rt: HostRuntime) -> Result<(), Fail> {
     let given = gives_after(rt.alloc(), 63_999_997, &(Ok(NextLine::Given), b"ab"))?;

@@ -1,5 +1,4 @@
-//! Whole schedules and their answers, over readers and writers in memory that give and take a text in pieces, and
-//! that fail.
+//! Whole schedules and their answers, over readers and writers in memory that return and take a text in pieces, and that fail.
 use crate::cases::{
     ALL_MESSAGES, ASKED, AT_THEIR_EDGES, Built, COMPLAINTS, Case, DAMAGED_PACKETS, FULL_LINK,
     IN_ANY_PIECES, IN_LOWER_CASE, LONG_PAYLOADS, LONGEST_LINES, LONGEST_LOG, LONGEST_PAYLOAD,
@@ -19,9 +18,8 @@ use std::io::{ErrorKind, Read, Write};
 use std::process::Abort;
 use std::{cmp, io};
 
-/// Takes this number of bytes, by pieces of at most this size, and then fails so, or takes nothing. Where
-/// `interrupted` is set the next write is interrupted, and where `stuck` is set each flush fails. It counts the writes and flushes that
-/// failed.
+/// Takes `left` bytes, in pieces of at most `piece` bytes. Then each write fails with this kind of error, or takes nothing. If
+/// `interrupted` is set, the next write is interrupted. If `stuck` is set, each flush fails. It counts the writes and flushes that failed.
 #[derive(Drop)]
 struct Space {
     taken: Vec<u8>,
@@ -60,7 +58,7 @@ impl Write for Space {
     }
 }
 
-/// Gives a line a read, and fails where not as many bytes were flushed before it as stand beside it.
+/// Returns one line for each read. A read fails if the number of bytes that were flushed before it is not the one beside its line.
 #[derive(Drop)]
 struct Asking<'a> {
     lines: &'a [(&'a str, usize)],
@@ -83,7 +81,7 @@ impl Read for Asking<'_> {
     }
 }
 
-/// Counts the bytes that it took, and tells the count when it is flushed.
+/// Counts the bytes that it took, and stores the count when it is flushed.
 #[derive(Drop)]
 struct Flushed<'a> {
     taken: usize,
@@ -120,7 +118,7 @@ fn run<R: Read, W: Write>(alloc: Global, reader: &mut R, writer: &mut W) -> Outc
     simulate(alloc, reader, writer, &mut cluster)
 }
 
-/// Whether a schedule makes this text, and ends so.
+/// Returns whether a schedule makes this text, and ends in this way.
 fn makes(
     alloc: Global,
     reader: &mut Pieces<'_>,
@@ -132,7 +130,7 @@ fn makes(
     Ok(found == end && out.taken.as_slice() == answers)
 }
 
-/// Whether a schedule makes this text, and ends so, where it is read and written in pieces of this size.
+/// Returns whether a schedule makes this text, and ends in this way, if it is read and written in pieces of this size.
 fn makes_in_pieces(
     alloc: Global,
     schedule: &[u8],
@@ -146,7 +144,7 @@ fn makes_in_pieces(
     makes(alloc, &mut reader, &mut out, answers, end)
 }
 
-/// Runs a schedule, by pieces of this size.
+/// Runs a schedule in pieces of this size, and returns whether its text and its end are those of the case.
 fn is_run(alloc: Global, case: &Case, piece: usize) -> Result<bool, SimFault> {
     let (schedule, answers, end) = *case;
     makes_in_pieces(
@@ -158,7 +156,7 @@ fn is_run(alloc: Global, case: &Case, piece: usize) -> Result<bool, SimFault> {
     )
 }
 
-/// Fails where there is a fault, and where what is asked does not hold.
+/// Fails the test if there is a fault, or if the tested condition does not hold.
 fn judge(rt: &impl Abort, held: Result<bool, SimFault>) {
     match held {
         Ok(held) => assert!(rt; held),
@@ -166,7 +164,7 @@ fn judge(rt: &impl Abort, held: Result<bool, SimFault>) {
     }
 }
 
-/// Runs schedules, by pieces of this size.
+/// Runs schedules in pieces of this size, and compares their texts and ends.
 fn run_each(rt: &impl Abort, alloc: Global, cases: &[Case], piece: usize) {
     for case in cases {
         judge(rt, is_run(alloc, case, piece));
@@ -198,14 +196,14 @@ fn put_payload(out: &mut Vec<u8>, bytes: usize) -> Result<(), OutOfMemory> {
     Ok(())
 }
 
-/// The first bytes of `UNTAGGED`.
+/// Returns the digits of the first bytes of `UNTAGGED`.
 fn front(bytes: u16) -> &'static [u8] {
     let digits = UNTAGGED.as_bytes();
     let count = cmp::min(usize::from(bytes) * 2, digits.len());
     &digits[..count]
 }
 
-/// Appends what a byte of a text stands for.
+/// Appends a byte of a text, or what replaces it.
 fn spell_byte(out: &mut Vec<u8>, byte: u8, bytes: usize, number: u16) -> Result<(), OutOfMemory> {
     match byte {
         b'*' => put_payload(out, bytes),
@@ -215,7 +213,7 @@ fn spell_byte(out: &mut Vec<u8>, byte: u8, bytes: usize, number: u16) -> Result<
     }
 }
 
-/// Appends what a text stands for.
+/// Appends a text, with its signs replaced.
 fn spell_out(out: &mut Vec<u8>, text: &str, bytes: usize, number: u16) -> Result<(), OutOfMemory> {
     for byte in text.as_bytes() {
         spell_byte(out, *byte, bytes, number)?;
@@ -241,7 +239,7 @@ fn spell_part(
     Ok(())
 }
 
-/// Appends the parts of a schedule, and the text that they make, and runs it.
+/// Appends the parts of a schedule, and the text that they make, and runs it. Returns whether it makes this text.
 fn is_spelled_and_run(
     alloc: Global,
     built: &Built,
@@ -257,14 +255,14 @@ fn is_spelled_and_run(
     Ok(is_run && makes_in_pieces(alloc, schedule, at_once, answers, SimEnd::All)?)
 }
 
-/// Runs a schedule that is built of parts.
+/// Runs a schedule that is built of parts, and returns whether it makes its text.
 fn is_built_and_run(alloc: Global, built: &Built) -> Result<bool, SimFault> {
     let mut schedule = Vec::new(alloc);
     let mut answers = Vec::new(alloc);
     is_spelled_and_run(alloc, built, &mut schedule, &mut answers)
 }
 
-/// Runs schedules that are built of parts.
+/// Runs schedules that are built of parts, and compares their texts.
 fn build_each(rt: &impl Abort, alloc: Global, cases: &[Built]) {
     for built in cases {
         judge(rt, is_built_and_run(alloc, built));
@@ -321,19 +319,19 @@ fn a_window_of_64_frames(rt: HostRuntime) {
     build_each(&rt, rt.alloc(), WINDOW_OF_64_FRAMES);
 }
 
-/// Returns a byte this number of times.
+/// Returns a text that has a byte this number of times.
 fn repeated(alloc: Global, byte: u8, count: usize) -> Result<Vec<u8>, OutOfMemory> {
     Ok(vec![in alloc; byte; count]?)
 }
 
-/// Runs a schedule of one byte, repeated.
+/// Runs a schedule of one repeated byte, and returns whether its text and its end are those of the case.
 fn is_repeated_and_run(alloc: Global, case: &Repeated) -> Result<bool, SimFault> {
     let (byte, count, piece, answers, end) = *case;
     let schedule = repeated(alloc, byte, count)?;
     makes_in_pieces(alloc, &schedule, (piece, 1_000), answers.as_bytes(), end)
 }
 
-/// Runs schedules of one byte each, repeated.
+/// Runs schedules of one repeated byte each, and compares their texts and ends.
 fn repeat_each(rt: &impl Abort, alloc: Global, cases: &[Repeated]) {
     for case in cases {
         judge(rt, is_repeated_and_run(alloc, case));
@@ -350,7 +348,7 @@ fn the_line_after_the_last_that_is_allowed_is_bad(rt: HostRuntime) {
     repeat_each(&rt, rt.alloc(), MOST_LINES);
 }
 
-/// Whether a schedule has this outcome, and makes this text.
+/// Returns whether a schedule has this outcome, and makes this text.
 fn comes_to(
     alloc: Global,
     reader: &mut Pieces<'_>,
@@ -361,7 +359,7 @@ fn comes_to(
     run(alloc, reader, out) == outcome && out.taken.as_slice() == answers
 }
 
-/// Whether a failed read ends the run, behind the answers before it.
+/// Returns whether a failed read ends the run, and the answers before it are written.
 fn ends_at_a_read(alloc: Global) -> bool {
     let mut reader = in_pieces(b"cluster 1 2\narrive 1\narr", 4);
     reader.failing = (6, u64::MAX);
@@ -380,7 +378,7 @@ fn a_failed_read_keeps_the_answers_before_it(rt: HostRuntime) {
     assert!(rt; ends_at_a_read(rt.alloc()));
 }
 
-/// The bytes that a writer takes, how it fails then, whether each flush fails, and what is written.
+/// The number of bytes that a writer takes, how its writes fail then, whether each flush fails, and the bytes that are written.
 type FailedWrite = (usize, Option<ErrorKind>, bool, &'static [u8]);
 
 const FAILED_WRITES: &[FailedWrite] = &[
@@ -389,7 +387,7 @@ const FAILED_WRITES: &[FailedWrite] = &[
     (1_000, Some(ErrorKind::Other), true, b"ok\nno packet\n"),
 ];
 
-/// Whether a failed write ends the run, the first that fails.
+/// Returns whether a failed write ends the run, with no write after it.
 fn ends_at_a_write(alloc: Global, failed: &FailedWrite) -> bool {
     let (left, full, stuck, answers) = *failed;
     let mut reader = in_pieces(b"cluster 1 2\narrive 1\n", 100);
@@ -406,7 +404,7 @@ fn a_failed_write_ends_the_run(rt: HostRuntime) {
     }
 }
 
-/// Whether want of memory is told behind the answers, and nothing of another end.
+/// Returns whether the line `out of memory` is written behind the answers if memory ran out, and no line for another end.
 fn is_wanted(alloc: Global, want: &Want) -> bool {
     let (outcome, left, end, told, failures) = *want;
     let mut out = with_space(alloc, left, 5);
@@ -421,7 +419,7 @@ fn a_write_fault_is_told_where_a_write_failed(rt: HostRuntime) {
     }
 }
 
-/// Whether a write that was interrupted is made again.
+/// Returns whether a write that was interrupted is made again.
 fn is_written_again(alloc: Global) -> Result<bool, SimFault> {
     let mut reader = in_pieces(b"cluster 1 2\n", 100);
     let mut out = with_space(alloc, 1_000, 1);
@@ -434,7 +432,7 @@ fn an_interrupted_write_is_made_again(rt: HostRuntime) {
     judge(&rt, is_written_again(rt.alloc()));
 }
 
-/// Returns true if the lines are all read, and this number of bytes is flushed.
+/// Returns whether the lines are all read, and this number of bytes is flushed at the end.
 fn is_flushed_in_time(alloc: Global, count: usize) -> Result<bool, SimFault> {
     let flushed = Cell::new(0);
     let mut reader = Asking {
@@ -454,13 +452,13 @@ fn each_answer_is_written_before_the_next_read(rt: HostRuntime) {
     judge(&rt, is_flushed_in_time(rt.alloc(), 33));
 }
 
-/// Whether this line is told of an outcome.
+/// Returns whether this is the line that `complain` writes for an outcome.
 fn tells(alloc: Global, outcome: &Outcome, out: &mut Space, line: &str) -> Result<bool, SimFault> {
     complain(alloc, outcome, out)?;
     Ok(out.taken.as_slice() == line.as_bytes())
 }
 
-/// Whether this line is told of an outcome, by pieces of seven bytes.
+/// Returns whether this is the line that `complain` writes for an outcome, in pieces of seven bytes.
 fn is_complained_of(alloc: Global, outcome: &Outcome, line: &str) -> Result<bool, SimFault> {
     let mut out = with_space(alloc, 1_000, 7);
     tells(alloc, outcome, &mut out, line)

@@ -1,4 +1,4 @@
-//! The tokens that a schedule's lines come with.
+//! The tokens of the requests that a schedule's lines spell.
 use crate::capabilities::{ADMIN, MEMBER_0, MEMBER_1, MEMBER_2, TENANT};
 use gb_schedule::Keys;
 use gb_schedule::keys::tenant_key;
@@ -28,12 +28,12 @@ const MEMBERS: &[(u16, u8, &str)] = &[
     (7, 1, MEMBER_1),
 ];
 
-/// Whether a token has these digits.
+/// Returns whether a token has these digits.
 fn is_token(rt: &impl Abort, found: [u8; 32], digits: &str) -> bool {
     found == token(rt, digits)
 }
 
-/// Whether the member's token has these digits.
+/// Returns whether the member's token has these digits.
 fn is_member(rt: &impl Abort, keys: &mut Keys, tenant: u16, number: u8, digits: &str) -> bool {
     let node = NodeId::from_number(number).expect(rt, "a node");
     let address = Addr {

@@ -1,4 +1,4 @@
-//! Words and texts as they stand in requests, schedules and replies.
+//! Words and texts, as they are written in requests, schedules and replies.
 use gb_spelling::kind_word::{read_kind, word_of};
 use gb_spelling::laws;
 use gb_spelling::members_word::read_members;
@@ -30,7 +30,7 @@ fn numbers(alloc: Global, set: &NodeSet) -> Result<Vec<u8>, OutOfMemory> {
     Ok(set.nodes().map(|node| node.number).collect(alloc)?)
 }
 
-// The text is that of the reply.
+// Compares the text of a reply with this text.
 fn is_written(rt: &impl Abort, alloc: Global, reply: Reply, text: &str) -> Result<(), OutOfMemory> {
     let found = reply_text(alloc, &reply)?;
     assert!(rt; found.as_slice() == text.as_bytes());
@@ -39,7 +39,7 @@ fn is_written(rt: &impl Abort, alloc: Global, reply: Reply, text: &str) -> Resul
 
 const ENTRIES: &[(u8, u16, &[u8])] = &[(0, 1, b"a"), (15, 1024, b""), (2, 3, &[0, 10, 255])];
 
-/// The entries of the table.
+/// Returns the entries of the table.
 fn three_entries(rt: &impl Abort, alloc: Global) -> Result<Entries, OutOfMemory> {
     let mut entries = Entries::new(alloc);
     for (origin, seq, payload) in ENTRIES {
@@ -49,7 +49,7 @@ fn three_entries(rt: &impl Abort, alloc: Global) -> Result<Entries, OutOfMemory>
     Ok(entries)
 }
 
-/// The reply that has them.
+/// Compares the text of the reply that has these entries.
 fn log_is_written(rt: &impl Abort, alloc: Global) -> Result<(), OutOfMemory> {
     let entries = three_entries(rt, alloc)?;
     assert!(rt; entries.len() == 3);
@@ -58,7 +58,7 @@ fn log_is_written(rt: &impl Abort, alloc: Global) -> Result<(), OutOfMemory> {
     is_written(rt, alloc, Reply::Log(entries), text)
 }
 
-/// Replies without entries.
+/// Compares the texts of replies without entries.
 fn others_are_written(rt: &impl Abort, alloc: Global) -> Result<(), OutOfMemory> {
     is_written(rt, alloc, Reply::Done, "ok")?;
     is_written(rt, alloc, Reply::Said(1), "said 1")?;
@@ -130,7 +130,7 @@ fn numbers_are_read(rt: HostRuntime) {
     }
 }
 
-/// A word, and two numbers behind it.
+/// Returns a word with two numbers behind it.
 fn two_numbers(alloc: Global) -> Result<Vec<u8>, OutOfMemory> {
     let mut text = Vec::from_slice(alloc, b"said ")?;
     for number in [0, u64::MAX] {
@@ -146,7 +146,7 @@ fn numbers_are_written(rt: HostRuntime) -> Result<(), Fail> {
     Ok(())
 }
 
-/// The words of a module, in any order and first in, first out.
+/// The words of a module in any order, and in first-in first-out order.
 const KINDS: &[(&[u8], &[u8], Module)] = &[
     (b"beb", b"fbeb", Module::BestEffort),
     (b"lazy", b"flazy", Module::Lazy),
@@ -185,7 +185,7 @@ fn kinds(rt: HostRuntime) {
     }
 }
 
-// The word spells the members with these numbers.
+// Checks that the word spells the members with these numbers.
 fn spells(rt: &impl Abort, alloc: Global, word: &[u8], members: &[u8]) -> Result<(), OutOfMemory> {
     let set = read_members(word).expect(rt, "members");
     let found = numbers(alloc, &set)?;
@@ -231,7 +231,7 @@ fn members(rt: HostRuntime) -> Result<(), Fail> {
     Ok(())
 }
 
-// Whether the word spells these bytes, or nothing.
+// Returns whether the word spells these bytes, or no payload for `None`.
 fn carries(alloc: Global, word: &[u8], bytes: Option<&[u8]>) -> Result<bool, OutOfMemory> {
     match &read_payload(alloc, word)? {
         Some(found) => Ok(bytes == Some(found.as_slice())),
@@ -244,7 +244,7 @@ const PAYLOADS: &[(&[u8], Option<&[u8]>)] = &[
     (b"61", Some(b"a")),
     (b"6A", Some(&[0x6a])),
     (b"00fFFf", Some(&[0, 255, 255])),
-    // 16 bytes stand in the payload itself, 17 do not.
+    // A payload of 16 bytes is stored in its value, one of 17 bytes is not.
     (
         b"000102030405060708090a0b0c0d0e0f",
         Some(&[0, 1, 2, 3, 4, 5, 6, 7, 8, 9, 10, 11, 12, 13, 14, 15]),
@@ -253,7 +253,7 @@ const PAYLOADS: &[(&[u8], Option<&[u8]>)] = &[
         b"000102030405060708090a0b0c0d0e0f10",
         Some(&[0, 1, 2, 3, 4, 5, 6, 7, 8, 9, 10, 11, 12, 13, 14, 15, 16]),
     ),
-    // One digit in upper case.
+    // One digit is in upper case.
     (
         b"000102030405060708090A0b0c0d0e0f10",
         Some(&[0, 1, 2, 3, 4, 5, 6, 7, 8, 9, 10, 11, 12, 13, 14, 15, 16]),
@@ -273,7 +273,7 @@ const PAYLOADS: &[(&[u8], Option<&[u8]>)] = &[
     (b"0x61", None),
 ];
 
-/// The words of two payloads.
+/// Returns the words of two payloads.
 fn two_payloads(alloc: Global) -> Result<Vec<u8>, OutOfMemory> {
     let mut text = Vec::new(alloc);
     put_payload(&mut text, &[])?;
@@ -292,7 +292,7 @@ fn payloads(rt: HostRuntime) -> Result<(), Fail> {
     Ok(())
 }
 
-/// The nodes with these numbers.
+/// Returns the set of the nodes with these numbers.
 fn set(rt: &impl Abort, numbers: &[u8]) -> NodeSet {
     let mut found = NodeSet::new();
     for number in numbers {
@@ -301,7 +301,7 @@ fn set(rt: &impl Abort, numbers: &[u8]) -> NodeSet {
     found
 }
 
-/// Returns the number of the first node of the set from this place on, or 32.
+/// Returns the number of the first node of the set from the number `from` on, or 32 if there is none.
 fn next_number(set: &NodeSet, from: usize) -> u8 {
     match set.next_from(from) {
         Some(node) => node.number,

@@ -1,4 +1,4 @@
--- A message is acknowledged by a node: which nodes have each own message for good after it.
+-- Which nodes have each own message for good after a node acknowledged a message.
 use Rattle.gb_types.specs.Common.{◌≡◌, ◌≢◌, ℕ, ◌+◌, ◌-◌, ◌<◌, ◌≤◌, List, length, get_or, Bool, true, false, ◌&&◌, ◌||◌, ◌⊎◌, inl, inr, refl, sym, ◌∙◌, ap, arith, nat_eq, nat_le, slice_set, slice_index_or, if◌then◌else◌, nat_cmp, cases_Bool, cases_eq, nat_tests, get_or-set_same, get_or-set_other, length-set, and-false, or-false}
 use Rattle.std.specs.FinSet as set
 use Rattle.gb_types.specs.declared.{message.MsgId.MsgId, node.NodeId.NodeId}

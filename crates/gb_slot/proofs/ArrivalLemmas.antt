@@ -8,7 +8,7 @@ use Rattle.gb_layer.specs.declared.call.Call.TheVariants.{Came}
 use Rattle.gb_slot.specs.Arrivals.{Arrival, has_arrival, with_message, nodes_of, with_node}
 use Rattle.gb_slot.specs.Slot.{with_arrival}
 
--- a message that was not taken in from a node changes nothing
+-- adding a message that was taken in from no node changes no message's nodes
 pub nodes_with_message : (arrivals : List Arrival) (m x : MsgId) → nodes_of (with_message arrivals m) x ≡ nodes_of arrivals x
 nodes_with_message [] m x =
     elim (same m x) as (λ (b : Bool). (if b then set.empty {R = nat_cmp} else set.empty) ≡ set.empty) [
@@ -17,7 +17,7 @@ nodes_with_message [] m x =
     ]
 nodes_with_message (a ∷ arrivals) m x = ap (λ rest. if same a.m x then a.from else rest) (nodes_with_message arrivals m x)
 
--- a node more from which a message was taken in that is among them
+-- adding a node to a message adds it to the nodes of that message alone
 nodes_with_node : (arrivals : List Arrival) (q : NodeId) (m x : MsgId) (p : ℕ) → has_arrival arrivals m ≡ true → set.contains (nodes_of (with_node q m arrivals) x) p ≡ ((nat_eq q.number p && same m x) || set.contains (nodes_of arrivals x) p)
 nodes_with_node [] q m x p there = cc
 nodes_with_node (a ∷ arrivals) q m x p there = at (same a.m m) (same a.m x) refl refl there (nodes_with_node arrivals q m x p)
@@ -26,7 +26,7 @@ nodes_with_node (a ∷ arrivals) q m x p there = at (same a.m m) (same a.m x) re
     split true = contains-inserted a.from q.number p ∙ ap (λ b. b || set.contains a.from p) (sym (and-true (nat_eq q.number p)))
     split false = ap (λ b. b || set.contains (nodes_of arrivals x) p) (sym (and-false (nat_eq q.number p)))
 
-    -- what is not m and is x shows that m is not x
+    -- a message that equals x and not m shows that m is not x
     differs : same a.m m ≡ false → same a.m x ≡ true → same m x ≡ false
     differs other is =
         elim (same m x) as (λ b. same m x ≡ b → b ≡ false) [
@@ -47,7 +47,7 @@ nodes_with_node (a ∷ arrivals) q m x p there = at (same a.m m) (same a.m x) re
     at false false here is rest further =
         ap (λ (b : Bool). set.contains (if b then a.from else nodes_of (with_node q m arrivals) x) p) is ∙ further rest
 
--- after a message came from a node
+-- the nodes of each message after a message came from a node
 pub nodes_after_came : (arrivals : List Arrival) (q : NodeId) (m x : MsgId) (p : ℕ) → set.contains (nodes_of (with_arrival (Came q m) arrivals) x) p ≡ ((nat_eq q.number p && same m x) || set.contains (nodes_of arrivals x) p)
 nodes_after_came arrivals q m x p =
     elim (has_arrival arrivals m) as (λ b. has_arrival arrivals m ≡ b → set.contains (nodes_of (with_node q m (if b then arrivals else with_message arrivals m)) x) p ≡ ((nat_eq q.number p && same m x) || set.contains (nodes_of arrivals x) p)) [
@@ -57,7 +57,7 @@ nodes_after_came arrivals q m x p =
           ∙ ap (λ s. (nat_eq q.number p && same m x) || set.contains s p) (nodes_with_message arrivals m x)
     ] refl
 
--- a message that was not there yet, taken in from a node
+-- a message that was not there yet is added with the node from which it came
 pub with_node_new : (p : NodeId) (m : MsgId) (arrivals : List Arrival) → has_arrival arrivals m ≡ false → with_node p m (with_message arrivals m) ≡ arrivals ++ record { m = m; from = set.insert (set.empty {R = nat_cmp}) p.number } ∷ []
 with_node_new p m [] new = ap (λ (b : Bool). if b then record { m = m; from = set.insert (set.empty {R = nat_cmp}) p.number } ∷ [] else record { m = m; from = set.empty {R = nat_cmp} } ∷ []) (same_itself m)
 with_node_new p m (a ∷ arrivals) new =

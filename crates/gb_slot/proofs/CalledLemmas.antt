@@ -14,7 +14,7 @@ use Rattle.gb_slot.specs.Slot.{waiting, taken_for, came_before, slot_called}
 use Rattle.gb_slot.specs.SlotState.{SlotState}
 use Rattle.gb_slot.specs.StandsFor.{StandsFor, reaches}
 
--- what holds of each element holds of each that is left
+-- what holds of each element of a list holds of each element of a rest of it
 all_drop : {X : Type 0} (P : X → Type 0) (n : ℕ) (xs : List X) → AllByRecursion P xs → AllByRecursion P (drop n xs)
 all_drop P n [] a = all_drop_nil n
   where
@@ -24,19 +24,19 @@ all_drop P n [] a = all_drop_nil n
 all_drop P zero (x ∷ xs) a = a
 all_drop P (suc n) (x ∷ xs) a = all_drop P n xs a.1
 
--- what the broadcast makes of a call
+-- the broadcast sends what the history says for a call
 pub called_sends : (s : SlotState) (told : List GroupCall) (c : GroupCall) → StandsFor s told → IsLawful s.me.number (call_of c ∷ calls_of told) → (stack_gives s.stack (call_of c)).sends ≡ kind_broadcasts s.spec.kind s.me.number (call_of c) (calls_of told)
 called_sends s told c st lawful = stack.sends_broadcast s.spec.kind s.me s.spec.members (calls_of told) s.stack (call_of c) st.stack lawful
 
 called_ups : (s : SlotState) (told : List GroupCall) (c : GroupCall) → StandsFor s told → IsLawful s.me.number (call_of c ∷ calls_of told) → messages (stack_gives s.stack (call_of c)).ups ≡ kind_delivers s.spec.kind s.me.number (set.items s.spec.members) (call_of c) (calls_of told)
 called_ups s told c st lawful = stack.hands_up_delivered s.spec.kind s.me s.spec.members (calls_of told) s.stack (call_of c) st.stack lawful
 
--- the messages that are known after a call
+-- the messages that are known after a call are those of the history with it
 called_known : (s : SlotState) (told : List GroupCall) (c : GroupCall) → StandsFor s told → with_told s.store c ≡ known (c ∷ told)
 unfolding known
 called_known s told c st = ap (λ es. with_told es c) st.store
 
--- a slot whose broadcast takes a call stands for the history with it
+-- a slot whose broadcast receives a call represents the history with it
 pub called_stands : (s : SlotState) (told : List GroupCall) (c : GroupCall) (said : ℕ) (noticed : set.FinSet nat_cmp) (acknowledged : List (set.FinSet nat_cmp)) → StandsFor s told → IsLawful s.me.number (call_of c ∷ calls_of told) → said ≡ said_in (c ∷ told)
     → ((x : MsgId) → x.origin.number ≡ s.me.number → said < x.seq → mentions (call_of c ∷ calls_of told) x ≡ false)
     → ((p : ℕ) (x : MsgId) → p ≢ s.me.number → came_before (slot_called (call_of c) (with_told s.store c) s) p x ≡ came_from s.me.number (call_of c ∷ calls_of told) p x)
@@ -68,7 +68,7 @@ called_stands s told c said noticed acknowledged st lawful count own arrivals ot
       acknowledged = kept;
     }
 
--- what waits for a node after a call
+-- the items that wait for a node after a call
 pub waiting-called : (s : SlotState) (told : List GroupCall) (c : GroupCall) (b : ℕ) → StandsFor s told → IsLawful s.me.number (call_of c ∷ calls_of told)
     → waiting (slot_called (call_of c) (with_told s.store c) s) b ≡ waiting s b ++ (if reaches s b then puts_of s.spec s.me.number c told else [])
 waiting-called s told c b st lawful =

@@ -5,7 +5,7 @@ use Rattle.gb_rules.specs.Common.{bytes_of}
 use Rattle.gb_rules.proofs.MentionLemmas.{bytes_of-append}
 use Rattle.gb_slot.specs.Kept.{AreCounted}
 
--- the bytes of a message more are counted as its origin's
+-- the counts stay right as a message is added whose bytes are counted for its origin
 pub counted_pushed : (seen : List ℕ) (entries : List Entry) (x : Entry) (at sum : ℕ) → length seen ≡ NODES → at ≡ x.origin.number → sum ≡ slice_index seen at + length x.payload → sum ≤ BYTES → AreCounted seen entries → AreCounted (set seen at sum) (entries ++ x ∷ [])
 counted_pushed seen entries x at sum len is more few counted origin lt =
     elim (nat_eq x.origin.number origin) as (λ b. nat_eq x.origin.number origin ≡ b → bytes_of origin (entries ++ x ∷ []) ≡ bytes_of origin entries + (if b then length x.payload else 0) → (slice_index (set seen at sum) origin ≡ bytes_of origin (entries ++ x ∷ [])) × (bytes_of origin (entries ++ x ∷ []) ≤ BYTES)) [

@@ -1,4 +1,4 @@
--- The number of messages, and of their bytes, is at most that of the group.
+-- The numbers of messages and of their bytes are at most those of the group.
 use Rattle.gb_types.specs.Common.{◌≡◌, ℕ, zero, suc, ◌+◌, ◌*◌, ◌≤◌, ◌<◌, Bool, true, false, cond, ◌||◌, ◌&&◌, List, [], ◌∷◌, ◌++◌, length, refl, sym, ◌∙◌, ap, subst, arith, nat_eq, map, count_by, if◌then◌else◌, list_any, list_all, IsDistinct, AllByRecursion, eqb-true, nat_tests, length-map, message_of, same, below}
 use Rattle.std.specs.FinSet as set
 use Rattle.std.proofs.Math.Nat.{suc-mul}
@@ -19,11 +19,11 @@ has-any : (es : List Entry) (m : MsgId) → list_any (λ e. same (message_of e) 
 has-any [] m = refl
 has-any (e ∷ es) m = ap (λ b. same (message_of e) m || b) (has-any es m)
 
--- one more message of the group
+-- known messages are the group's after one more message of the group
 pub counted_new : (l : Limit) (es : List Entry) (x : Entry) → is_counted l (message_of x) ≡ true → list_all (is_counted l) (ids es) ≡ true → list_all (is_counted l) (ids (with_new es x)) ≡ true
 counted_new l es x k h = subst (λ (b : Bool). list_all (is_counted l) (ids (if b then es else es ++ x ∷ [])) ≡ true) (has-any es (message_of x)) (counted_grown message_of l es x k h)
 
--- stands there once
+-- known messages occur once after one more message
 pub once_new : (es : List Entry) (x : Entry) → IsDistinct same (ids es) → IsDistinct same (ids (with_new es x))
 once_new es x d = subst (λ (b : Bool). IsDistinct same (ids (if b then es else es ++ x ∷ []))) (has-any es (message_of x)) (once_grown message_of es x d)
 
@@ -45,7 +45,7 @@ none_in m (x ∷ ms) h =
     no true z = absurd (omega (arith, z))
     no false z = refl
 
--- messages of which none stands there twice
+-- a list of messages in which none occurs twice is distinct
 distinct_once : (ms : List MsgId) → ((m : MsgId) → count_by (λ x. same x m) ms ≤ 1) → IsDistinct same ms
 unfolding IsDistinct
 distinct_once [] f = tt
@@ -67,16 +67,16 @@ counted_among : (l : Limit) (es : List Entry) (ms : List MsgId) → list_all (is
 counted_among l es [] h there = refl
 counted_among l es (m ∷ ms) h there = (λ i. counted_there l es m h there.0 i && list_all (is_counted l) ms) ∙ counted_among l es ms h there.1
 
--- known messages of which none stands there twice
+-- known messages of which none occurs twice are at most as many as the group has
 pub few_among : (l : Limit) (es : List Entry) (ms : List MsgId) → list_all (is_counted l) (ids es) ≡ true → AllByRecursion (λ m. has es m ≡ true) ms → ((m : MsgId) → count_by (λ x. same x m) ms ≤ 1) → length ms ≤ message_count l
 few_among l es ms h there once = no_more_messages l ms (counted_among l es ms h there) (distinct_once ms once)
 
--- bytes counted origin by origin
+-- the number of bytes of these origins, counted origin by origin
 abbrev by_origin : List ℕ → List Entry → ℕ
 by_origin [] es = 0
 by_origin (p ∷ ps) es = bytes_of p es + by_origin ps es
 
--- so many bytes of one origin, counted origin by origin
+-- k bytes of origin o, counted origin by origin
 abbrev one_by_origin : List ℕ → ℕ → ℕ → ℕ
 one_by_origin [] o k = 0
 one_by_origin (p ∷ ps) o k = (if nat_eq o p then k else 0) + one_by_origin ps o k
@@ -104,20 +104,20 @@ all_found (x ∷ es) =
     let found = one_found NODES x.origin.number (length x.payload) x.origin.below in
     omega (arith, rest, more, found)
 
--- so many of each origin are at most this many of all
+-- where each of n origins has at most `most` bytes, all have at most n * most
 by_origin_few : (n most : ℕ) (es : List Entry) → ((p : ℕ) → p < n → bytes_of p es ≤ most) → by_origin (below n) es ≤ n * most
 by_origin_few zero most es few = omega arith
 by_origin_few (suc n) most es few =
     let rest = by_origin_few n most es (λ p lt. few p (omega (arith, lt))) in
     omega (arith, rest, few n (omega arith), suc-mul n most)
 
--- where each origin says no more bytes than a member may, no more are there than all nodes may say
+-- where no origin says more bytes than a member may, there are no more bytes than all nodes may say
 pub few_counted : (seen : List ℕ) (es : List Entry) → AreCounted seen es → total_bytes es ≤ NODES * BYTES
 few_counted seen es counted =
     let most = by_origin_few NODES BYTES es (λ p lt. (counted p lt).1) in
     omega (arith, all_found es, most)
 
--- who is no member said nothing
+-- a node that is no member said nothing
 foreign_none : (l : Limit) (es : List Entry) (p : ℕ) → list_all (is_counted l) (ids es) ≡ true → set.contains l.members p ≡ false → bytes_of p es ≡ 0
 foreign_none l [] p h out = refl
 foreign_none l (x ∷ es) p h out =
@@ -141,7 +141,7 @@ members_only l es most (p ∷ ps) h few =
       | false ↦ λ out. let none = foreign_none l es p h out in let e : (0 + c) * most ≡ c * most = ap (λ n. n * most) (let z : 0 + c ≡ c = omega arith in z) in omega (arith, rest, none, e)
     ] refl)
 
--- where no origin says more bytes than it may, no more are there than all members may say
+-- where no origin says more bytes than it may, there are no more bytes than all members may say
 pub few_bytes : (spec : Spec) (es : List Entry) → list_all (is_counted (limit_of spec)) (ids es) ≡ true → ((p : ℕ) → bytes_of p es ≤ spec.bytes) → total_bytes es ≤ most_bytes spec
 few_bytes spec es h few =
     let all = all_found es in

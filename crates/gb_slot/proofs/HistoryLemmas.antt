@@ -1,4 +1,4 @@
--- A slot stands for the history of its group's calls.
+-- A slot represents the history of its group's calls.
 use Rattle.gb_types.specs.Common.{◌≡◌, ◌≢◌, ℕ, ◌+◌, ◌-◌, ◌≤◌, ◌<◌, ◌||◌, ◌&&◌, not, Bool, true, false, List, [], ◌∷◌, ◌++◌, length, drop, refl, sym, ◌∙◌, ap, subst, arith, length-append, if◌then◌else◌, map, nat_eq, nat_le, slice_index_or, slice_set, nat_cmp, drop-nil, eqb-true, nat_tests, drop-map, length-replicate, length-set, message_of, same}
 use Rattle.std.specs.FinSet as set
 use Rattle.gb_types.proofs.{SameLemmas.same-true, InsertedLemmas.contains-inserted}
@@ -56,7 +56,7 @@ moved_stands s told phase Done st = record {
 }
 moved_stands s told phase reply st = st
 
--- what was not mentioned was not said
+-- a message that was not mentioned was not said
 not_said : (past : List Call) (m : MsgId) → mentions past m ≡ false → was_said past m ≡ false
 not_said past m new =
     elim (was_said past m) as (λ b. was_said past m ≡ b → b ≡ false) [

@@ -16,7 +16,7 @@ use Rattle.gb_rules.specs.Common.{calls_of, known, said_in, is_other}
 pub other_differs : (spec : Spec) (me b : ℕ) → is_other spec me b ≡ true → b ≢ me
 other_differs spec me b other = grind (arith, nat_tests)
 
--- a notice of another node keeps the caller's conditions
+-- notices of other nodes alone are a lawful history
 pub notices_lawful : (me : ℕ) (qs : List NodeId) → AllByRecursion (λ q. q.number ≢ me) qs → IsLawful me (calls_of (map Crashed qs))
 unfolding calls_of
 notices_lawful me [] others = tt
@@ -43,7 +43,7 @@ unfolding said_in
 none_said [] = refl
 none_said (q ∷ qs) = none_said qs
 
--- a list in which nothing stands
+-- a list that counts no message is empty
 none_there : (ms : List MsgId) → ((m : MsgId) → count_sends m ms ≡ 0) → [] ≡ ms
 none_there [] none = refl
 none_there (m ∷ ms) none =
@@ -70,7 +70,7 @@ none_delivered base me members (q ∷ qs) =
 pub none_logged : (kind : Kind) (me : ℕ) (members : List ℕ) (qs : List NodeId) → [] ≡ kind_log kind me members (calls_of (map Crashed qs))
 none_logged kind me members qs = stack.none_logged kind me members (calls_of (map Crashed qs)) (none_delivered kind.module me members qs)
 
--- the calls that notices are
+-- the calls of a history of notices
 pub notice_calls : (qs : List NodeId) → map Notice qs ≡ calls_of (map Crashed qs)
 unfolding calls_of
 notice_calls [] = refl
@@ -81,7 +81,7 @@ pub others_differ : (spec : Spec) (me : ℕ) (qs : List NodeId) → AllByRecursi
 others_differ spec me [] others = tt
 others_differ spec me (q ∷ qs) others = (other_differs spec me q.number others.0, others_differ spec me qs others.1)
 
--- and name no other nodes
+-- notices of other members name no node that is no other member
 others_alone : (spec : Spec) (me : ℕ) (qs : List NodeId) (b : ℕ) → AllByRecursion (λ q. is_other spec me q.number ≡ true) qs → is_other spec me b ≡ false → list_any (λ q. nat_eq q.number b) qs ≡ false
 others_alone spec me [] b others out = refl
 others_alone spec me (q ∷ qs) b others out =
@@ -91,7 +91,7 @@ others_alone spec me (q ∷ qs) b others out =
       | false ↦ λ _. rest
     ] refl
 
--- notices that name, of the other members, those that were noticed
+-- notices that name exactly those other members that were noticed
 pub notices_tell : (spec : Spec) (me : NodeId) (noticed : set.FinSet nat_cmp) (qs : List NodeId) → AllByRecursion (λ q. is_other spec me.number q.number ≡ true) qs
     → ((b : ℕ) → is_other spec me.number b ≡ true → set.contains noticed b ≡ list_any (λ q. nat_eq q.number b) qs)
     → (b : ℕ) → list_any (λ q. nat_eq q.number b) qs ≡ is_other_noticed me spec.members noticed b
@@ -109,7 +109,7 @@ notices_tell spec me noticed qs others tell b =
     outside true y z h = sym h
     outside false y z h = refl
 
--- the nodes that notices name are noticed
+-- exactly the nodes that notices name are noticed
 pub noticed_are : (qs : List NodeId) (b : ℕ) → was_noticed (calls_of (map Crashed qs)) b ≡ list_any (λ q. nat_eq q.number b) qs
 unfolding calls_of
 noticed_are [] b = refl

@@ -1,4 +1,4 @@
--- What a store has at the place of a message.
+-- The message and its data at a position of the store.
 use Rattle.gb_types.specs.Common.{◌≡◌, ℕ, zero, suc, ◌+◌, ◌≤◌, ◌<◌, Bool, true, false, List, [], ◌∷◌, length, map, drop, set, get_or, slice_get, Some, refl, sym, ◌∙◌, ap, subst, arith, replicate, slice_range, if◌then◌else◌, nat_cmp, list_any, length-map, get_or-replicate, list_any_at, slice_get-get_or, message_of, same}
 use Rattle.std.specs.FinSet as nodes
 use Rattle.gb_types.specs.declared.{entry.Entry.Entry, limits.TheConstants.NODES, limits.TheConstants.BYTES, message.MsgId.MsgId, node.NodeId.NodeId}
@@ -10,11 +10,11 @@ use Rattle.gb_slot.specs.declared.store.Kept.{Kept}
 use Rattle.gb_slot.specs.Kept.{start_of, entries_of, arrival_of, arrivals_of, AreInside, AreCounted}
 use Rattle.gb_slot.proofs.KeptLemmas.{start_within}
 
--- what is kept, with other nodes
+-- the data of a message with other nodes
 abbrev pub marked : nodes.FinSet nat_cmp → Kept → Kept
 marked from k = record { start = k.start; from = from }
 
--- these change neither messages nor payloads
+-- new nodes change neither messages nor payloads
 start_marked : (from : nodes.FinSet nat_cmp) (kept : List Kept) (i : ℕ) (d : Kept) (bytes : List ℕ) → start_of bytes (set kept i (marked from (get_or kept i d))) ≡ start_of bytes kept
 start_marked from [] i d bytes = refl
 start_marked from (k ∷ kept) zero d bytes = refl
@@ -31,7 +31,7 @@ inside_marked from [] i d bytes inside = inside
 inside_marked from (k ∷ kept) zero d bytes inside = inside
 inside_marked from (k ∷ kept) (suc i) d bytes inside = (subst (λ n. k.start ≤ n) (sym (start_marked from kept i d bytes)) inside.0, inside_marked from kept i d bytes inside.1)
 
--- one place further
+-- suc (i + 1) is suc i + 1
 suc_more : (i : ℕ) → suc (i + 1) ≡ suc i + 1
 suc_more i = omega arith
 
@@ -41,13 +41,13 @@ entries_ids bytes [] kept len = refl
 entries_ids bytes (m ∷ ms) [] len = absurd (omega (arith, len))
 entries_ids bytes (m ∷ ms) (k ∷ kept) len = let rest : length kept ≡ length ms = omega (arith, len) in ap (λ xs. m ∷ xs) (entries_ids bytes ms kept rest)
 
--- and of the arrivals
+-- the messages of the arrivals are the stored ones
 arrivals_ids : (ms : List MsgId) (kept : List Kept) → length kept ≡ length ms → map (λ (a : Arrival). a.m) (arrivals_of ms kept) ≡ ms
 arrivals_ids [] kept len = refl
 arrivals_ids (m ∷ ms) [] len = absurd (omega (arith, len))
 arrivals_ids (m ∷ ms) (k ∷ kept) len = let rest : length kept ≡ length ms = omega (arith, len) in ap (λ xs. m ∷ xs) (arrivals_ids ms kept rest)
 
--- whether a message is there
+-- a message is among the entries if it is among the stored messages
 pub any_entries : (bytes : List ℕ) (ms : List MsgId) (kept : List Kept) (m : MsgId) → length kept ≡ length ms → has (entries_of bytes ms kept) m ≡ list_any (λ x. same x m) ms
 any_entries bytes ms kept m len = any_keys message_of m (entries_of bytes ms kept) ∙ ap (list_any (λ x. same x m)) (entries_ids bytes ms kept len)
 
@@ -57,15 +57,15 @@ any_arrivals ms kept m len = any_keys (λ (a : Arrival). a.m) m (arrivals_of ms 
 pub entries_count : (bytes : List ℕ) (ms : List MsgId) (kept : List Kept) → length kept ≡ length ms → length (entries_of bytes ms kept) ≡ length ms
 entries_count bytes ms kept len = sym (length-map (entries_of bytes ms kept) message_of) ∙ ap length (entries_ids bytes ms kept len)
 
--- a message at a place is there
+-- a message at a position is among the stored messages
 pub stands_there : (ms : List MsgId) (m : MsgId) (i : ℕ) → i < length ms → message_at ms i ≡ m → list_any (λ x. same x m) ms ≡ true
 stands_there ms m i lt is = list_any_at (λ x. same x m) ms i no_message lt (ap (λ x. same x m) is ∙ same_itself m)
 
--- and is read there
+-- the message at a position is read there
 pub read_there : (bytes : List ℕ) (ms : List MsgId) (kept : List Kept) (m : MsgId) (i : ℕ) → length kept ≡ length ms → i < length ms → m ≡ message_at ms i → slice_get (map message_of (entries_of bytes ms kept)) i ≡ Some m
 read_there bytes ms kept m i len lt is = ap (λ xs. slice_get xs i) (entries_ids bytes ms kept len) ∙ slice_get-get_or ms i no_message lt ∙ ap (λ x. Some x) (sym is)
 
--- the payload of the message at a place
+-- the payload of the message at a position
 pub payload_there : (bytes : List ℕ) (ms : List MsgId) (kept : List Kept) (i : ℕ) (d : Kept) → all_differ ms ≡ true → length ms ≡ length kept → i < length kept
     → payload_in (entries_of bytes ms kept) (message_at ms i) ≡ slice_range bytes (get_or kept i d).start (start_of bytes (drop (i + 1) kept))
 payload_there bytes ms [] i d differ len lt = absurd (omega arith)
@@ -78,12 +78,12 @@ payload_there bytes (m ∷ ms) (k ∷ kept) (suc i) d differ len lt =
     ap (λ (b : Bool). if b then slice_range bytes k.start (start_of bytes kept) else payload_in (entries_of bytes ms kept) (message_at ms i)) other
     ∙ (payload_there bytes ms kept i d (and_right _ _ differ) rest less ∙ ap (λ n. slice_range bytes (get_or kept i d).start (start_of bytes (drop n (k ∷ kept)))) (suc_more i))
 
--- there is no payload of another message
+-- a message that is not stored has no payload
 pub payload_missing : (m : MsgId) (entries : List Entry) → has entries m ≡ false → payload_in entries m ≡ []
 payload_missing m [] none = refl
 payload_missing m (e ∷ entries) none = ap (λ (b : Bool). if b then e.payload else payload_in entries m) (or_left (same (message_of e) m) _ none) ∙ payload_missing m entries (or_right (same (message_of e) m) _ none)
 
--- the nodes from which the message at a place was taken in
+-- the nodes from which the message at a position was taken in
 pub nodes_there : (ms : List MsgId) (kept : List Kept) (i : ℕ) (d : Kept) → all_differ ms ≡ true → length ms ≡ length kept → i < length kept → nodes_of (arrivals_of ms kept) (message_at ms i) ≡ (get_or kept i d).from
 nodes_there ms [] i d differ len lt = absurd (omega arith)
 nodes_there [] (k ∷ kept) i d differ len lt = absurd (omega (arith, len))
@@ -94,7 +94,7 @@ nodes_there (m ∷ ms) (k ∷ kept) (suc i) d differ len lt =
     let other = apart m ms i (omega (arith, len, lt)) (alone m ms differ) in
     ap (λ (b : Bool). if b then k.from else nodes_of (arrivals_of ms kept) (message_at ms i)) other ∙ nodes_there ms kept i d (and_right _ _ differ) rest less
 
--- another message was taken in from none
+-- a message without an arrival was taken in from no node
 pub nodes_missing : (m : MsgId) (arrivals : List Arrival) → has_arrival arrivals m ≡ false → nodes_of arrivals m ≡ nodes.empty
 nodes_missing m [] none = refl
 nodes_missing m (a ∷ arrivals) none = ap (λ (b : Bool). if b then a.from else nodes_of arrivals m) (or_left (same a.m m) _ none) ∙ nodes_missing m arrivals (or_right (same a.m m) _ none)
@@ -102,7 +102,7 @@ nodes_missing m (a ∷ arrivals) none = ap (λ (b : Bool). if b then a.from else
 abbrev either : NodeId → MsgId → MsgId → Kept → List Arrival → Bool → List Arrival
 either p m x k arrivals b = if b then record { m = x; from = nodes.insert k.from p.number } ∷ arrivals else arrival_of x k ∷ with_node p m arrivals
 
--- the message at a place was taken in from one more node
+-- the message at a position was taken in from one more node
 pub node_there : (p : NodeId) (ms : List MsgId) (kept : List Kept) (i : ℕ) (d : Kept) → all_differ ms ≡ true → length ms ≡ length kept → i < length kept
     → arrivals_of ms (set kept i (marked (nodes.insert (get_or kept i d).from p.number) (get_or kept i d))) ≡ with_node p (message_at ms i) (arrivals_of ms kept)
 node_there p ms [] i d differ len lt = absurd (omega arith)
@@ -114,7 +114,7 @@ node_there p (m ∷ ms) (k ∷ kept) (suc i) d differ len lt =
     let other = apart m ms i (omega (arith, len, lt)) (alone m ms differ) in
     ap (λ arrivals. arrival_of m k ∷ arrivals) (node_there p ms kept i d (and_right _ _ differ) rest less) ∙ sym (ap (either p (message_at ms i) m k (arrivals_of ms kept)) other)
 
--- each payload stands among the bytes
+-- each payload lies within the bytes
 pub inside_at : (bytes : List ℕ) (kept : List Kept) (i : ℕ) (d : Kept) → AreInside bytes kept → i < length kept → ((get_or kept i d).start ≤ start_of bytes (drop (i + 1) kept)) × (start_of bytes (drop (i + 1) kept) ≤ length bytes)
 inside_at bytes [] i d inside lt = absurd (omega arith)
 inside_at bytes (k ∷ kept) zero d inside lt = (inside.0, start_within bytes kept inside.1)
@@ -122,6 +122,6 @@ inside_at bytes (k ∷ kept) (suc i) d inside lt =
     let less : i < length kept = omega (arith, lt) in
     subst (λ n. ((get_or kept i d).start ≤ start_of bytes (drop n (k ∷ kept))) × (start_of bytes (drop n (k ∷ kept)) ≤ length bytes)) (suc_more i) (inside_at bytes kept i d inside.1 less)
 
--- of nothing no bytes are counted for any origin
+-- an empty list of entries counts no bytes for any origin
 pub none_counted : (entries : List Entry) → entries ≡ [] → AreCounted (replicate NODES 0) entries
 none_counted entries e = λ origin h. subst (λ (es : List Entry). (get_or (replicate NODES 0) origin 0 ≡ bytes_of origin es) × (bytes_of origin es ≤ BYTES)) (sym e) (get_or-replicate NODES origin 0 0 h, omega arith)

@@ -28,7 +28,7 @@ said_broadcast base me m past own new =
     ∙ (filter-append test (first_mentions past) (m ∷ []) ∙ ap (λ (b : Bool). filter test (first_mentions past) ++ cond b (m ∷ []) []) passes) in
     omega (arith, ap length all, length-append (filter test (first_mentions past)) (m ∷ []))
 
--- so something is sent for it
+-- a message that is said makes the broadcast send something
 pub said_sends : (s : SlotState) (told : List GroupCall) (payload : List ℕ) → StandsFor s told → 0 < length (stack_gives s.stack (Say (message_of (own_entry s payload)))).sends
 said_sends s told payload st =
     let m : MsgId = message_of (own_entry s payload) in

@@ -1,4 +1,4 @@
--- Each call leads to a state that the group's messages lead to, and whose lists have at most the group's messages.
+-- Each call leads to a state that is reached by the group's messages, and whose lists have at most the group's messages.
 use Rattle.gb_types.specs.Common.{◌≡◌, ℕ, ◌+◌, ◌≤◌, ◌<◌, Bool, true, false, ◌&&◌, ◌||◌, not, List, [], ◌∷◌, ◌++◌, length, refl, sym, ◌∙◌, ap, subst, arith, map, count_by, filter, nat_eq, nat_le, nat_lt, if◌then◌else◌, nat_cmp, list_any, list_all, IsDistinct, AllByRecursion, or-true, eq-eqb, eqb-true, nat_tests, length-filter, message_of, same, AreNodes}
 use Rattle.std.specs.FinSet as set
 use Rattle.gb_types.specs.declared.{entry.Entry.Entry, limits.TheConstants.NODES, message.MsgId.MsgId, node.NodeId.NodeId, reply.Reply.TheVariants.Said, spec.Spec.Spec}
@@ -18,7 +18,7 @@ use Rattle.gb_slot.specs.StandsFor.{StandsFor}
 use Rattle.gb_slot.proofs.FewLemmas.{ids, counted_new, once_new, few_among}
 use Rattle.gb_slot.proofs.HistoryLemmas.{fresh_stands, said_stands, came_stands, noticed_stands, took_stands, own_store}
 
--- a lawful history keeps what the laws of a layer ask for
+-- a lawful history meets what the laws of a layer require
 lawful_fair : (me : ℕ) (past : List Call) → IsLawful me past → IsFair me past
 lawful_fair me [] l = tt
 lawful_fair me (Say m ∷ past) l = (l.0.1, lawful_fair me past l.1)
@@ -34,7 +34,7 @@ put_out_once s told st m =
     let e : count_by (λ x. same x m) s.outgoing ≡ count_by (λ x. same x m) (all_sends stack_next stack_gives start (calls_of told)) = ap (count_by (λ x. same x m)) st.sent in
     omega (arith, law, e)
 
--- nor delivered twice
+-- no message is delivered twice
 logged_once : (s : SlotState) (told : List GroupCall) → StandsFor s told → (m : MsgId) → count_by (λ x. same x m) s.log ≤ 1
 logged_once s told st m =
     let law = kind_log_once s.spec.kind s.me.number (set.items s.spec.members) (calls_of told) m in
@@ -42,20 +42,20 @@ logged_once s told st m =
     ap (count_by (λ x. same x m)) st.log ∙ sym (length-filter (λ x. same x m) (delivered s.spec s.me.number told)) in
     omega (arith, law, e)
 
--- what is delivered is known
+-- each delivered message is known
 logged_known : (s : SlotState) (told : List GroupCall) → StandsFor s told → AllByRecursion (λ m. has s.store m ≡ true) s.log
 logged_known s told st =
     subst (AllByRecursion (λ m. has s.store m ≡ true)) (sym st.log)
     (all_weaker (λ m. _) (λ m. has s.store m ≡ true) (λ m is. ap (λ es. has es m) st.store ∙ (has-known told m ∙ is)) (delivered s.spec s.me.number told) (kind_log_mentioned s.spec.kind s.me.number (set.items s.spec.members) (calls_of told)))
 
--- no more is put out, and delivered, than the group has messages
+-- at most as many messages are put out as the group has
 pub few_outgoing : (s : SlotState) → IsReached s → length s.outgoing ≤ most_messages s.spec
 few_outgoing s r = few_among (limit_of s.spec) s.store s.outgoing r.counted r.stands.outgoing (put_out_once s r.told r.stands)
 
 pub few_logged : (s : SlotState) → IsReached s → length s.log ≤ most_messages s.spec
 few_logged s r = few_among (limit_of s.spec) s.store s.log r.counted (logged_known s r.told r.stands) (logged_once s r.told r.stands)
 
--- the bytes of each origin after one more message
+-- the bytes of each origin stay within the most after one more message
 bytes_new : (most : ℕ) (es : List Entry) (x : Entry) → (has es (message_of x) ≡ false → bytes_of x.origin.number es + length x.payload ≤ most) → ((p : ℕ) → bytes_of p es ≤ most) → (p : ℕ) → bytes_of p (with_new es x) ≤ most
 bytes_new most es x enough few p =
     elim (has es (message_of x)) as (λ b. has es (message_of x) ≡ b → bytes_of p (if b then es else es ++ x ∷ []) ≤ most) [
@@ -77,13 +77,13 @@ own_counted s payload member more =
     let high : nat_le (s.said + 1) s.spec.msgs ≡ true = grind (arith, nat_tests, more) in
     λ i. member i && (low i && high i)
 
--- and not known
+-- the next own message is not known
 pub own_unknown : (s : SlotState) (payload : List ℕ) → IsReached s → has s.store (message_of (own_entry s payload)) ≡ false
 own_unknown s payload r =
     ap (λ es. has es (message_of (own_entry s payload))) r.stands.store
     ∙ (has-known r.told (message_of (own_entry s payload)) ∙ r.stands.own (message_of (own_entry s payload)) refl (omega arith))
 
--- after a message was said
+-- a reached state stays one after a message was said
 pub reached_said : (s : SlotState) (payload : List ℕ) → s.said < s.spec.msgs → bytes_of s.me.number s.store + length payload ≤ s.spec.bytes → IsReached s → IsReached (slot_said payload (Said (s.said + 1)) s)
 reached_said s payload more enough r =
     let x : Entry = own_entry s payload in
@@ -98,12 +98,12 @@ reached_said s payload more enough r =
       bytes = λ p. subst (λ es. bytes_of p es ≤ s.spec.bytes) store (bytes_new s.spec.bytes s.store x (λ _. enough) r.bytes p);
     }
 
--- an item that is not let fall is of the group, from a member, and of an origin that said no more bytes than it may
+-- an item that is not let fall is of the group, came from a member, and its origin said no more bytes than it may
 pub kept_item : (spec : Spec) (me from : ℕ) (x : Entry) (before there : Bool) (seen : ℕ) → is_let_fall spec me from x before there seen ≡ false
     → (is_member spec from ≡ true) × (is_counted (limit_of spec) (message_of x) ≡ true) × (there ≡ false → seen + length x.payload ≤ spec.bytes)
 kept_item spec me from x before there seen stays = (grind (arith, nat_tests), grind (arith, nat_tests), λ new. grind (arith, nat_tests))
 
--- after an item came that is not let fall
+-- a reached state stays one after an item came that is not let fall
 pub reached_came : (s : SlotState) (from : NodeId) (x : Entry) → falls from x s ≡ false → IsReached s → IsReached (slot_called (Came from (message_of x)) (with_new s.store x) s)
 reached_came s from x stays r =
     let facts = kept_item s.spec s.me.number from.number x (came_before s from.number (message_of x)) (has s.store (message_of x)) (bytes_of x.origin.number s.store) stays in
@@ -118,7 +118,7 @@ reached_came s from x stays r =
       bytes = bytes_new s.spec.bytes s.store x facts.2 r.bytes;
     }
 
--- after another member was noticed
+-- the state after another member was noticed
 abbrev pub noticed_by : NodeId → SlotState → SlotState
 noticed_by q s = let called = slot_called (Notice q) s.store s in record called { noticed = set.insert s.noticed q.number }
 
@@ -132,7 +132,7 @@ reached_noticed s q other r = record {
   bytes = r.bytes;
 }
 
--- after items were taken
+-- a reached state stays one after items were taken
 pub reached_took : (s : SlotState) (b count : ℕ) → b < NODES → count ≤ length (waiting s b) → IsReached s → IsReached (slot_took b count s)
 reached_took s b count within enough r = record {
   told = r.told;
@@ -143,7 +143,7 @@ reached_took s b count within enough r = record {
   bytes = r.bytes;
 }
 
--- a slot that was just made
+-- each node that a list of nodes names passes a test which all named nodes pass
 all_listed : (t : ℕ → Bool) (qs : List NodeId) → ((b : ℕ) → list_any (λ q. nat_eq q.number b) qs ≡ true → t b ≡ true) → AllByRecursion (λ q. t q.number ≡ true) qs
 all_listed t [] f = tt
 all_listed t (q ∷ qs) f = (

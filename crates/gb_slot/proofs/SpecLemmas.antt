@@ -1,4 +1,4 @@
--- Steps keep the spec of a slot; those that say and take in a message keep to whom items are put out.
+-- Steps keep the spec of a slot; a say and an arrival keep the nodes to which items are put out.
 use Rattle.gb_types.specs.Common.{◌≡◌, true, false, List, ℕ, refl, if◌then◌else◌, message_of}
 use Rattle.std.specs.FinSet as set
 use Rattle.gb_types.specs.declared.{entry.Entry.Entry, node.NodeId.NodeId, reply.Reply.Reply}

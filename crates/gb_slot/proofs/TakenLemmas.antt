@@ -23,7 +23,7 @@ taken_more s told b count st within = get_or-set_same s.taken b (taken_for s b +
 pub taken_elsewhere : (s : SlotState) (b c count : ℕ) → c ≢ b → taken_for (slot_took b count s) c ≡ taken_for s c
 taken_elsewhere s b c count other = get_or-set_other s.taken b c (taken_for s b + count) 0 other
 
--- no more wait than were broadcast and not taken
+-- the items that were taken and those that wait are at most those that were broadcast
 pub waiting_few : (s : SlotState) (b : ℕ) → taken_for s b ≤ length s.outgoing → taken_for s b + length (waiting s b) ≤ length s.outgoing
 waiting_few s b within =
     elim (reaches s b) as (λ r. taken_for s b + length (if r then map (entry_in s.store) (drop (taken_for s b) s.outgoing) else []) ≤ length s.outgoing) [

@@ -10,24 +10,24 @@ pub record Arrival : Type 0 where
   pub m : MsgId
   pub from : set.FinSet nat_cmp
 
--- the message is among them
+-- the message is among the arrivals
 abbrev pub has_arrival : List Arrival → MsgId → Bool
 has_arrival arrivals m = list_any (λ a. same a.m m) arrivals
 
--- one more message, which was taken in from no node
+-- the arrivals with one more message, which was taken in from no node
 abbrev pub with_message : List Arrival → MsgId → List Arrival
 with_message arrivals m = arrivals ++ record { m = m; from = set.empty } ∷ []
 
--- the nodes from which the message was taken in
+-- the nodes from which the message was taken in; none if it is not known
 abbrev pub nodes_of : List Arrival → MsgId → set.FinSet nat_cmp
 nodes_of [] m = set.empty
 nodes_of (a ∷ arrivals) m = if same a.m m then a.from else nodes_of arrivals m
 
--- the message was taken in from one more node
+-- the arrivals after message m was taken in from one more node
 abbrev pub with_node : NodeId → MsgId → List Arrival → List Arrival
 with_node p m [] = []
 with_node p m (a ∷ arrivals) = if same a.m m then record { m = a.m; from = set.insert a.from p.number } ∷ arrivals else a ∷ with_node p m arrivals
 
--- the arrivals after a message came from a node
+-- the arrivals after message m came from a node
 abbrev pub with_arrived : NodeId → MsgId → List Arrival → List Arrival
 with_arrived p m arrivals = with_node p m (if has_arrival arrivals m then arrivals else with_message arrivals m)

@@ -4,7 +4,7 @@ use Rattle.gb_types.specs.declared.message.MsgId.{MsgId}
 use Rattle.gb_layer.specs.declared.effects.Up.{Up}
 use Rattle.gb_layer.specs.Common.{Gives, messages, folded, SplitsRoom}
 
--- which lists are borrowed, the messages that they have, their memory, and whether each outgoing place is one of the index
+-- which lists are borrowed, their messages, their memory, and whether each outgoing position is one of the index
 pub record OutwardState : Type 0 where
   pub log_name : ℕ
   pub log : List MsgId
@@ -14,11 +14,11 @@ pub record OutwardState : Type 0 where
   pub outgoing_capacity : ℕ
   pub inside : Bool
 
--- what is sent stands behind the outgoing messages
+-- the state after a message is sent: it is appended to the outgoing messages
 abbrev pub outward_sent : OutwardState → MsgId → OutwardState
 outward_sent s m = record s { outgoing = s.outgoing ++ m ∷ [] }
 
--- what comes up stands behind the log
+-- the state after a message is delivered: it is appended to the log
 abbrev pub outward_risen : OutwardState → Up → OutwardState
 outward_risen s u = record s { log = s.log ++ u.m ∷ [] }
 
@@ -46,7 +46,7 @@ then_takes s ms g h =
     let k : length (s.outgoing ++ ms) + length g.sends ≤ s.outgoing_capacity = omega (arith, e, f, a) in
     subst (λ (t : OutwardState). outward_takes t g) (sym (outward_sends s ms)) (k, h.1)
 
--- room for effects is room for their first part, and then for the rest
+-- memory for effects is memory for their first part, and then for the rest
 pub outward_splits : SplitsRoom outward_sent outward_risen outward_takes
 outward_splits = record {
   first_sends = λ s ms g h. (let e = length-append ms g.sends in let a = h.0 in omega (arith, e, a), let b = h.1 in omega (arith, b));
@@ -59,14 +59,14 @@ module _ (s t : OutwardState) (g : Gives) (h : t ≡ folded outward_sent outward
   same_as : t ≡ record s { outgoing = s.outgoing ++ g.sends; log = s.log ++ messages g.ups }
   same_as = h ∙ outward_folded s g
 
-  -- the lists are the borrowed ones
+  -- the log is the borrowed one
   pub outward_log_name : t.log_name ≡ s.log_name
   outward_log_name = ap (λ x. x.log_name) same_as
 
   pub outward_outgoing_name : t.outgoing_name ≡ s.outgoing_name
   outward_outgoing_name = ap (λ x. x.outgoing_name) same_as
 
-  -- they have as much memory
+  -- the log has as much memory as before
   pub outward_log_capacity : t.log_capacity ≡ s.log_capacity
   outward_log_capacity = ap (λ x. x.log_capacity) same_as
 
@@ -79,6 +79,6 @@ module _ (s t : OutwardState) (g : Gives) (h : t ≡ folded outward_sent outward
   pub outward_outgoing : t.outgoing ≡ s.outgoing ++ g.sends
   outward_outgoing = ap (λ x. x.outgoing) same_as
 
-  -- each place that was added is one of the index
+  -- whether all outgoing positions are in the index stays the same
   pub outward_inside : t.inside ≡ s.inside
   outward_inside = ap (λ x. x.inside) same_as

@@ -6,7 +6,7 @@ use Rattle.gb_slot.specs.Reached.{most_messages, most_bytes}
 use Rattle.gb_slot.specs.SlotState.{SlotState}
 use Rattle.gb_slot.specs.declared.slot.Slot.TheInside.{Inside}
 
--- the state of a slot whose broadcast is in this state
+-- the state of a slot, whose broadcast is in this state
 abbrev pub state_of : StackState → Inside → SlotState
 state_of stack s = record {
   spec = s.spec;
@@ -23,7 +23,7 @@ state_of stack s = record {
   acknowledged = s.acknowledged.items;
 }
 
--- The group's own memory is enough for all later calls. The broadcast was told the messages that are known, and has memory for the most that are said.
+-- the memory of the group is enough for all later calls; the broadcast received the messages that are known, and has memory for all
 pub record HasMemory (knows : ℕ → ℕ → Type 0) (s : Inside) : Type 0 where
   pub stack : knows (length s.store.entries) (most_messages s.spec)
   pub log : most_messages s.spec ≤ vec_capacity s.log

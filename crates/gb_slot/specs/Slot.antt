@@ -33,34 +33,34 @@ abbrev pub unfinished_of : Spec → set.FinSet nat_cmp → List (set.FinSet nat_
 unfinished_of spec noticed [] = 0
 unfinished_of spec noticed (by ∷ bys) = (if is_finished spec noticed by then 0 else 1) + unfinished_of spec noticed bys
 
--- what its member has used of its budgets and its window
+-- how much its member has used of its budgets and its window
 abbrev pub usage_of : SlotState → Usage
 usage_of s = record { said = s.said; bytes = bytes_of s.me.number s.store; unfinished = unfinished_of s.spec s.noticed s.acknowledged }
 
--- what the rules read of the slot
+-- the part of the slot that the rules read
 abbrev pub shown : SlotState → Shown
 shown s = record { spec = s.spec; phase = s.phase; usage = usage_of s; log = map (entry_in s.store) s.log }
 
--- the number of items that were taken to be sent to the node
+-- the number of items that were taken to be sent to node b
 abbrev pub taken_for : SlotState → ℕ → ℕ
 taken_for s b = slice_index_or s.taken b 0
 
--- the items that wait for the node
+-- the items that wait for node b
 abbrev pub waiting : SlotState → ℕ → List Entry
 waiting s b = if is_other s.spec s.me.number b && not (set.contains s.noticed b) then map (entry_in s.store) (drop (taken_for s b) s.outgoing) else []
 
--- the slot after the answer to a request that moves it to a phase
+-- the slot after the answer to a request that changes its phase
 abbrev pub slot_moved : Phase → Reply → SlotState → SlotState
 slot_moved phase Done s = record s { phase = phase }
 slot_moved phase reply s = s
 
--- the arrivals from other nodes, with those of a call
+-- the arrivals after a call
 abbrev pub with_arrival : Call → List Arrival → List Arrival
 with_arrival (Say m) arrivals = with_message arrivals m
 with_arrival (Came p m) arrivals = with_arrived p m arrivals
 with_arrival (Notice q) arrivals = arrivals
 
--- the slot after a call of its broadcast; `store` are the messages that are then known
+-- the slot after a call of its broadcast; `store` has the messages that are known then
 abbrev pub slot_called : Call → List Entry → SlotState → SlotState
 slot_called c store s = record s {
   stack = stack_next s.stack c;
@@ -74,18 +74,18 @@ slot_called c store s = record s {
 abbrev pub own_entry : SlotState → List ℕ → Entry
 own_entry s payload = record { origin = s.me; seq = s.said + 1; payload = payload }
 
--- the slot after the answer to a request that says something
+-- the slot after the answer to a request that says a message
 abbrev pub slot_said : List ℕ → Reply → SlotState → SlotState
 slot_said payload (Said seq) s =
     let next = slot_called (Say (message_of (own_entry s payload))) (s.store ++ own_entry s payload ∷ []) s in
     record next { said = s.said + 1; acknowledged = s.acknowledged ++ set.insert set.empty s.me.number ∷ [] }
 slot_said payload reply s = s
 
--- the same message was taken in from the node before
+-- the same message was taken in from the node before this call
 abbrev pub came_before : SlotState → ℕ → MsgId → Bool
 came_before s from m = set.contains (nodes_of s.arrivals m) from
 
--- true if an item is let fall
+-- the rules let an item from a node fall
 abbrev pub falls : NodeId → Entry → SlotState → Bool
 falls from x s = is_let_fall s.spec s.me.number from.number x (came_before s from.number (message_of x)) (has s.store (message_of x)) (bytes_of x.origin.number s.store)
 
@@ -93,7 +93,7 @@ falls from x s = is_let_fall s.spec s.me.number from.number x (came_before s fro
 abbrev pub slot_came : NodeId → Entry → SlotState → SlotState
 slot_came from x s = if falls from x s then s else slot_called (Came from (message_of x)) (with_new s.store x) s
 
--- the slot after another member is noticed to have crashed
+-- the slot after another member is noticed as crashed
 abbrev pub slot_noticed : NodeId → SlotState → SlotState
 slot_noticed q s =
     if is_other s.spec s.me.number q.number then (
@@ -101,19 +101,19 @@ slot_noticed q s =
     record next { noticed = set.insert s.noticed q.number }
     ) else s
 
--- the message with this number, counted from 1, is acknowledged by one more node
+-- the acknowledgements after node b acknowledged message `seq`, counted from 1
 abbrev pub with_acknowledgement : ℕ → NodeId → List (set.FinSet nat_cmp) → List (set.FinSet nat_cmp)
 with_acknowledgement seq b acknowledged =
     if nat_le 1 seq && nat_le seq (length acknowledged) then slice_set acknowledged (seq - 1) (set.insert (slice_index_or acknowledged (seq - 1) set.empty) b.number) else acknowledged
 
--- for each message that was said here, the nodes that have it for good, after a node acknowledged a message
+-- for each message that was said here, the nodes that have it for good, after node b acknowledged message m
 abbrev pub acknowledged_by : NodeId → MsgId → SlotState → List (set.FinSet nat_cmp)
 acknowledged_by b m s = if nat_eq m.origin.number s.me.number then with_acknowledgement m.seq b s.acknowledged else s.acknowledged
 
--- the slot after a node acknowledged a message
+-- the slot after node b acknowledged message m
 abbrev pub slot_done : NodeId → MsgId → SlotState → SlotState
 slot_done b m s = record s { acknowledged = acknowledged_by b m s }
 
--- the slot after `count` more items were taken to be sent to the node b
+-- the slot after `count` more items were taken to be sent to node b
 abbrev pub slot_took : ℕ → ℕ → SlotState → SlotState
 slot_took b count s = record s { taken = slice_set s.taken b (taken_for s b + count) }

@@ -6,7 +6,7 @@ use Rattle.gb_stack.specs.StackState.{StackState}
 use Rattle.gb_rules.specs.declared.phase.Phase.{Phase}
 use Rattle.gb_slot.specs.Arrivals.{Arrival}
 
--- one group at one node
+-- the state of one group at one node
 pub record SlotState : Type 0 where
   pub spec : Spec
   pub me : NodeId
@@ -23,7 +23,7 @@ pub record SlotState : Type 0 where
   pub store : List Entry
   -- the delivered messages, in order
   pub log : List MsgId
-  -- the broadcast messages, in order: the same for each other member
+  -- the messages that the broadcast sent, in order: the same for each other member
   pub outgoing : List MsgId
   -- for each node, the number of these that were taken to be sent to it
   pub taken : List ℕ

@@ -1,4 +1,4 @@
-//! A call of a group's broadcast, and where its effects go.
+//! A call of a group's broadcast, and the lists that take its effects.
 ghost use Rattle.std.specs.Prelude.{◌≡◌, ℕ, ◌≤◌, ◌<◌, ◌+◌, ◌++◌, length, map, vec_len, vec_capacity};
 ghost use Rattle.gb_layer.specs.Common.{messages, told, Names, IsNext, MayTake, told_after, message_at};
 ghost use Rattle.gb_types.specs.Common.{message_of};
@@ -11,7 +11,7 @@ use gb_layer::{Index, Layer, PlacedCall, Sink};
 use gb_stack::Stack;
 use gb_types::{MsgId, NodeId};
 
-/// The sink of a slot. A message that is sent is put out by its place. A message that comes up is appended to the log.
+/// The sink of a slot. It puts out each message that is sent, by its position in the store. It appends each delivered message to the log.
 #[derive(Drop)]
 struct Outward<'a> {
     log: &'a mut Vec<MsgId>,
@@ -42,8 +42,8 @@ impl<'a> Sink for Outward<'a> {
     ghost splits = { outward_splits };
 }
 
-/// Makes a call of a layer over an index of messages. Each message that it sends is put out, by its place. Each message that comes up is
-/// appended to the log. Takes no memory.
+/// Makes a call of a layer over an index of messages. Puts out each message that the layer sends, by its position in the index. Appends
+/// each message that the layer delivers to the log. Takes no memory.
 #[inline(always)]
 fn take_placed<L: Layer>(
     layer: &mut L,
@@ -68,8 +68,8 @@ fn take_placed<L: Layer>(
     layer.take(index, call, &mut out);
 }
 
-/// Makes a call of the broadcast over the messages of a store. Each message that it sends is put out, by its place in the store. Each
-/// message that comes up is appended to the log. Takes no memory.
+/// Makes a call of the broadcast over the messages of a store. Puts out each message that the broadcast sends, by its position in the
+/// store. Appends each message that it delivers to the log. Takes no memory.
 #[inline(always)]
 pub(crate) fn take_call(
     stack: &mut Stack,

@@ -1,8 +1,8 @@
-//! Laws: the histories that a slot stands for.
+//! Laws about the histories that a slot represents.
 ghost use Rattle.gb_slot.specs.HistoryLaws.{FreshStands, MovedStands, SaidStands, CameStands, NoticedStands, DoneStands, TookStands, LogIs, FallsIs, WaitingSaid, WaitingCame, WaitingNoticed, WaitingTook, WaitingElsewhere};
 
-/// A law: for every history of a group that a slot stands for, the slot holds what the group's broadcast makes of that history: its
-/// log, and the messages that wait for each node. It does nothing.
+/// A law: for every history of a group that a slot represents, the slot holds what the group's broadcast computes from that history: the
+/// group's log, and the messages that wait for each node. It does nothing.
 pub fn stands()
     ensures fresh { FreshStands }
     ensures opened { MovedStands }

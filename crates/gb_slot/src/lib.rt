@@ -1,8 +1,8 @@
-//! One group at one node: its phase, its broadcast, what it delivered, and what waits to be sent.
+//! One group at one node: its phase, its broadcast, its delivered messages, and the messages that wait to be sent.
 //!
 //! A slot knows no other group, no link and no frame. It answers commands. It receives items from other nodes, crash notices and
-//! acknowledgements. It holds the items that wait for other nodes. Read `slot::Slot` first; `history` says which histories a slot
-//! stands for.
+//! acknowledgements. It holds the items that wait for other nodes. Read `slot::Slot` first; `history` has the laws about the histories
+//! that a slot represents.
 #![tactic(auto)]
 
 mod broadcast;

@@ -20,8 +20,8 @@ use gb_types::{Entry, MsgId, NodeId, NodeSet, OutOfMemory, Refusal, Spec, Versio
 use std::alloc::Global;
 use std::marker::Model;
 
-/// One group at one node. Contracts see its state. All its memory is taken when it is made: only `new`, and `fetch`, which builds
-/// its answer, take memory.
+/// One group at one node. Contracts see its state. A slot takes all its memory when it is made. Only `new` and `fetch` take memory;
+/// `fetch` takes it for the copies that it returns.
 pub struct Slot {
     alloc: Global,
     spec: Spec,
@@ -36,13 +36,13 @@ pub struct Slot {
     stack: Stack,
     /// The delivered messages, in order.
     log: Vec<MsgId>,
-    /// The broadcast messages, in order. Of each its place in the store, from 0.
+    /// The messages that the broadcast sent, in order. Each is kept as its position in the store, from 0.
     outgoing: Vec<u16>,
     store: Store,
     taken: [u16; NODES],
 }
 
-// Not derived: what is derived is proved anew in each crate that ends one.
+// Not derived: a derived impl is proved anew in each crate that ends a slot.
 impl Drop for Slot {
     fn drop(self) {
         let Slot {
@@ -89,15 +89,15 @@ impl Model for Slot {
 impl Slot {
     ghost use Rattle.gb_slot.specs.Slot.{IsWithinLimits, new_slot, usage_of, shown, waiting, slot_moved, slot_said, slot_came, slot_noticed, slot_done, slot_took};
 
-    /// Returns a new group at the node `me`, one of its members, which holds the nodes `noticed` for crashed (noticed as crashed). Each
-    /// message that it broadcasts is queued to be sent to the group's other members. `Err` with `OutOfMemory` if there is no memory,
-    /// and with no other refusal.
+    /// Returns a new group at node `me`, one of its members. The group holds the nodes `noticed` for crashed (noticed as crashed). Each
+    /// message that it broadcasts is queued for each other member. `Err` with `OutOfMemory` if there is no memory, and with no other
+    /// refusal.
     ///
-    /// All memory that the group by itself ever needs is taken here. Let n be the number of members; each says at most `msgs` messages
-    /// with at most `bytes` payload bytes in all. The group takes n * `bytes` payload bytes. It takes 18 bytes for each of the n *
-    /// `msgs` messages: 12 in the store, 4 in the log, 2 in the queue to the other members; 8 more if the broadcast relays, and 1 more
-    /// if it keeps the order of each origin. It takes 4 bytes for each of `msgs` own messages, for the nodes that have it for good. It
-    /// takes one table, by which messages are found, of 2 * `msgs` bytes for each node up to the last member.
+    /// The group takes all the memory that it ever needs by itself here. Let n be the number of members; each says at most `msgs`
+    /// messages with at most `bytes` payload bytes in all. The group takes n * `bytes` payload bytes. It takes 18 bytes for each of the
+    /// n * `msgs` messages: 12 in the store, 4 in the log, 2 in the queue to the other members. It takes 8 more if the broadcast relays,
+    /// and 1 more if it keeps the order of each origin. It takes 4 bytes for each of `msgs` own messages, for the set of nodes that have
+    /// it for good. It takes one table, which finds messages, of 2 * `msgs` bytes for each node up to the last member.
     pub fn new(alloc: Global, spec: Spec, me: NodeId, noticed: &NodeSet) -> Result<Slot, Refusal>
         requires limits { IsWithinLimits spec }
         requires member { is_member spec me.number ≡ true }
@@ -110,13 +110,13 @@ impl Slot {
         }
     }
 
-    /// Returns the group, with all its memory.
+    /// Returns the group with all its memory. `Err` if there is no memory.
     fn make(alloc: Global, spec: Spec, me: NodeId, noticed: &NodeSet) -> Result<Slot, OutOfMemory>
         requires limits { IsWithinLimits spec }
         requires member { is_member spec me.number ≡ true }
         ensures ok { IfOk result (λ s. s ≡ new_slot spec me noticed.now) }
     {
-        // The proof reads that only nodes were noticed.
+        // This call shows the prover that `noticed` contains only nodes.
         let _ = noticed.nodes();
         let stack = broadcast(alloc, &spec, me, noticed)?;
         let (store, log, outgoing, acknowledged) = memory(alloc, &spec)?;
@@ -149,7 +149,7 @@ impl Slot {
         Ok(())
     }
 
-    /// Shuts this group: its member here says nothing more. `Err` with `WrongPhase` if it is not open; then nothing changes.
+    /// Shuts this group: its member here says no more messages. `Err` with `WrongPhase` if it is not open; then nothing changes.
     pub fn shut_group(&mut self) -> Result<(), Refusal>
         ensures answer { done_reply result ≡ shut_answer (shown self.old) }
         ensures present { is_gone self.old.phase ≡ false }
@@ -160,7 +160,7 @@ impl Slot {
         Ok(())
     }
 
-    /// Returns what the member here has used of its budgets and its window.
+    /// Returns how much the member here has used of its budgets and its window.
     fn usage(&self) -> Usage
         ensures { result ≡ usage_of self.now }
     {
@@ -171,12 +171,12 @@ impl Slot {
         }
     }
 
-    /// Broadcasts a payload in this group and returns the number that the message got among this member's own, from 1. `version` is the
-    /// version of the packet text that the node sends, and `seq` the number that the message must get, if the caller names one. The
-    /// message is queued at once to be sent to each other member that is not held for crashed (noticed as crashed). `Err`, in this
-    /// order: `WrongPhase` if the group is not open, `BadPlace` if `seq` is not the next number, `TooLong` if the payload is longer
-    /// than the version allows, `Budget` if all messages are said, `Bytes` if the payload bytes would exceed their limit, `Window` if
-    /// too many own messages are unfinished. After an `Err` nothing has changed. Takes no memory.
+    /// Broadcasts a payload in this group. Returns the number of the message among this member's own messages, from 1. `version` is the
+    /// version of the packet text that the node sends. `seq` is the number that the message must get, if the caller names one. The message
+    /// is queued at once for each other member that is not held for crashed (noticed as crashed). `Err`, in this order: `WrongPhase` if the
+    /// group is not open, `BadPlace` if `seq` is not the next number, `TooLong` if the payload is longer than the version allows, `Budget`
+    /// if all messages are said, `Bytes` if the payload bytes would exceed their limit, `Window` if too many own messages are unfinished.
+    /// After an `Err` nothing has changed. Takes no memory.
     pub fn say(
         &mut self,
         version: Version,
@@ -218,16 +218,16 @@ impl Slot {
         Ok(number)
     }
 
-    /// Takes a message into this group that node `from` sent. It is dropped if the group's rules say so, and else handed to the
-    /// broadcast, which may append messages to the log. Returns true if the broadcast queued something to be sent; then something waits
-    /// for each other member that is not held for crashed (noticed as crashed). If false, as many messages wait for each node as
-    /// before. Takes no memory.
+    /// Takes a message into this group that node `from` sent. If the group's rules reject it, nothing happens. Else the broadcast receives
+    /// it, which may append messages to the log. Returns true if the broadcast queued something to be sent; then something waits for each
+    /// other member that is not held for crashed (noticed as crashed). Returns false otherwise; then each node has as many messages
+    /// waiting as before. Takes no memory.
     pub fn came(&mut self, from: NodeId, origin: NodeId, seq: u16, payload: &[u8]) -> bool
         ensures state { self.new ≡ slot_came from (record { origin = origin; seq = seq; payload = payload.now }) self.old }
         ensures put_out { result ≡ true → WaitsForEach self.new }
         ensures unchanged { result ≡ false → (dest : ℕ) → length (waiting self.new dest) ≡ length (waiting self.old dest) }
     {
-        // (the tables cover only the members' messages)
+        // The tables have only messages of members.
         if !self.spec.members.contains(origin) {
             return false;
         }
@@ -296,7 +296,7 @@ impl Slot {
         &self.acknowledged
     }
 
-    /// Returns copies of at most `max` entries of the group's log, from place `from` on. Places count from 0. `Err` with `BadPlace` if
+    /// Returns copies of at most `max` entries of the group's log, from index `from` on. Indices count from 0. `Err` with `BadPlace` if
     /// `from` is above the log's length or `max` is above 16, and with `OutOfMemory` if there is no memory for the copies. Changes
     /// nothing.
     pub fn fetch(&self, from: u32, max: u32) -> Result<Vec<Entry>, Refusal>
@@ -341,8 +341,8 @@ impl Slot {
         &self.spec.members
     }
 
-    /// Returns this node and the nodes that it holds for crashed (noticed as crashed). Of the members, these are the ones to which
-    /// nothing is sent.
+    /// Returns the set of this node and the nodes that it holds for crashed (noticed as crashed). To the members among them nothing is
+    /// sent.
     pub fn passed_over(&self) -> NodeSet
         ensures { result ≡ set.insert self.now.noticed self.now.me.number }
     {
@@ -351,15 +351,15 @@ impl Slot {
         nodes
     }
 
-    /// Returns true if items are put out to the node: it is another member, and was not noticed.
+    /// Returns true if items are put out to node `dest`: it is another member and was not noticed.
     fn is_reached(&self, dest: NodeId) -> bool
         ensures { result ≡ (is_other self.now.spec self.now.me.number dest.number && not (set.contains self.now.noticed dest.number)) }
     {
         self.spec.members.contains(dest) && dest != self.me && !self.noticed.contains(dest)
     }
 
-    /// Returns the message at a place among those that wait to be sent to node `dest`, with its payload. Places count from 0, and
-    /// `place` is below their number. Changes nothing.
+    /// Returns the message at index `place` of those that wait to be sent to node `dest`, with its payload. `place` counts from 0, and is
+    /// below their number. Changes nothing.
     #[inline(always)]
     pub fn peek_at(&self, dest: NodeId, place: usize) -> (MsgId, &[u8])
         requires { place < length (waiting self.now dest.number) }
@@ -383,7 +383,7 @@ impl Slot {
             .saturating_sub(self.taken[dest.index()] as usize)
     }
 
-    /// Removes the first `count` messages from those that wait to be sent to node `dest`. At least `count` of them wait.
+    /// Removes the first `count` messages of those that wait to be sent to node `dest`. At least `count` of them wait.
     pub fn took(&mut self, dest: NodeId, count: usize)
         requires { count ≤ length (waiting self.old dest.number) }
         ensures state { self.new ≡ slot_took dest.number count self.old }
@@ -393,7 +393,7 @@ impl Slot {
     }
 }
 
-/// Returns the broadcast of a group at the node `me`, which has noticed these nodes. It has all its memory.
+/// Returns the broadcast of a group at node `me`, which has noticed the nodes `noticed`. It has all its memory. `Err` if there is none.
 fn broadcast(
     alloc: Global,
     spec: &Spec,
@@ -410,7 +410,7 @@ fn broadcast(
     Ok(stack)
 }
 
-/// Returns the greatest number of messages that are said in the group.
+/// Returns the greatest number of messages that the members of the group may say in all.
 fn message_count(spec: &Spec) -> usize
     requires { IsWithinLimits spec.now }
     ensures { result ≡ most_messages spec.now }
@@ -418,8 +418,8 @@ fn message_count(spec: &Spec) -> usize
     spec.members.count_in(&spec.members) * spec.msgs as usize
 }
 
-/// Returns the store and the lists of a group, empty, with all their memory: the log, the messages that are put out, and for each
-/// message that is said here the nodes that have it for good.
+/// Returns the empty store and the empty lists of a group, with all their memory. The lists are the log, the messages that are put out,
+/// and for each message that is said here the nodes that have it for good.
 fn memory(
     alloc: Global,
     spec: &Spec,
@@ -442,7 +442,7 @@ fn memory(
     Ok((store, log, outgoing, acknowledged))
 }
 
-/// Returns the lists of a group, with memory for `messages` messages, of which `own` are said here.
+/// Returns the empty lists of a group, with memory for `messages` messages, of which `own` are said here.
 fn lists(
     alloc: Global,
     messages: usize,
@@ -461,7 +461,7 @@ fn lists(
     Ok((log, outgoing, acknowledged))
 }
 
-/// Returns up to `most` messages, from index `from` on.
+/// Returns at most `most` messages, from index `from` on.
 fn page(messages: &[MsgId], from: usize, most: usize) -> &[MsgId]
     requires { from ≤ length messages.now }
     ensures { result.now ≡ take most (drop from messages.entry.now) }
@@ -471,8 +471,8 @@ fn page(messages: &[MsgId], from: usize, most: usize) -> &[MsgId]
     &rest[..count]
 }
 
-/// Returns copies of the messages with their payloads. Each is looked for behind the one before it, since most of a log is in the
-/// store in the same order.
+/// Returns copies of the messages with their payloads. It looks for each message behind the one before it, since most of a log has the
+/// order of the store.
 fn copies(alloc: Global, store: &Store, messages: &[MsgId]) -> Result<Vec<Entry>, OutOfMemory>
     ensures ok { IfOk result (λ v. v.items ≡ map (entry_in store.now.entries) messages.now) }
     ensures lack { OnErr result (messages.now ≢ []) }

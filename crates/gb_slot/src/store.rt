@@ -16,7 +16,7 @@ use gb_types::{Entry, MsgId, NodeId, NodeSet, OutOfMemory, Payload};
 use std::alloc::Global;
 use std::marker::Model;
 
-/// What is kept of a message: the index at which its payload begins among the bytes, and the nodes from which it was taken in. The
+/// The data of a stored message: the index at which its payload begins among the bytes, and the nodes from which it was taken in. The
 /// payload ends where the next one begins.
 #[derive(Drop)]
 pub struct Kept {
@@ -27,9 +27,9 @@ pub struct Kept {
 /// Messages in the order in which they were added, with their payloads. All memory is taken when the store is made.
 #[derive(Drop)]
 pub struct Store {
-    /// The messages, by place.
+    /// The messages, each by its position in the store.
     index: Index,
-    /// What is kept of each, by the same places.
+    /// The data of each message, at the same positions.
     kept: Vec<Kept>,
     bytes: Vec<u8>,
     /// For each origin, the number of payload bytes of its messages.
@@ -52,7 +52,7 @@ impl Model for Store {
     ghost invariant = { λ s. (vec_len s.kept ≡ vec_len s.index.list) × AreInside s.bytes.items s.kept.items × AreCounted s.seen (entries_of s.bytes.items s.index.list.items s.kept.items) × (vec_len s.bytes ≡ total_bytes (entries_of s.bytes.items s.index.list.items s.kept.items)) × (vec_capacity s.kept ≤ vec_capacity s.index.list) × (vec_capacity s.kept ≤ 65536) };
 }
 
-/// Returns the index at which the payload at a place ends.
+/// Returns the byte index at which the payload of the message at position `place` ends.
 fn end_of(kept: &[Kept], bytes: &[u8], place: usize) -> usize
     requires { place < length kept.now }
     ensures { result ≡ start_of bytes.now (drop (place + 1) kept.now) }
@@ -63,7 +63,7 @@ fn end_of(kept: &[Kept], bytes: &[u8], place: usize) -> usize
     }
 }
 
-/// Returns the payload of the message at a place.
+/// Returns the payload of the message at position `place`.
 fn part<'a>(kept: &[Kept], bytes: &'a [u8], place: usize) -> &'a [u8]
     requires inside { AreInside bytes.now kept.now }
     requires within { place < length kept.now }
@@ -72,7 +72,7 @@ fn part<'a>(kept: &[Kept], bytes: &'a [u8], place: usize) -> &'a [u8]
     &bytes[kept[place].start as usize..end_of(kept, bytes, place)]
 }
 
-/// Records that the message at this place was taken in from a node.
+/// Records that the message at position `place` was taken in from node `from`.
 fn mark(kept: &mut Vec<Kept>, place: usize, from: NodeId)
     requires { place < vec_len kept.old }
     ensures arrivals { (ms : List Message) → length ms ≡ length kept.old.items → all_differ ms ≡ true → arrivals_of ms kept.new.items ≡ with_node from (message_at ms place) (arrivals_of ms kept.old.items) }
@@ -83,7 +83,7 @@ fn mark(kept: &mut Vec<Kept>, place: usize, from: NodeId)
     kept[place].from.insert(from);
 }
 
-/// Keeps one more message, which was taken in from these nodes, and appends its payload. There is memory for both.
+/// Appends the data of one more message, which was taken in from the nodes `from`, and its payload. There is memory for both.
 fn append(kept: &mut Vec<Kept>, bytes: &mut Vec<u8>, payload: &[u8], from: NodeSet)
     requires place { vec_len kept.old < vec_capacity kept.old }
     requires room { vec_len bytes.old + length payload.now ≤ vec_capacity bytes.old }
@@ -100,7 +100,7 @@ fn append(kept: &mut Vec<Kept>, bytes: &mut Vec<u8>, payload: &[u8], from: NodeS
     kept.push_reserved(Kept { start, from });
 }
 
-/// Counts a payload's bytes for its origin.
+/// Adds a payload's length to the number of bytes of its origin.
 fn count_bytes(seen: &mut [u32; NODES], m: MsgId, payload: &[u8])
     requires { slice_index seen.old m.origin.number + length payload.now ≤ BYTES }
     ensures { (entries : List EntryValue) → AreCounted seen.old entries → AreCounted seen.new (entries ++ record { origin = m.origin; seq = m.seq; payload = payload.now } ∷ []) }
@@ -108,8 +108,8 @@ fn count_bytes(seen: &mut [u32; NODES], m: MsgId, payload: &[u8])
     seen[m.origin.index()] += payload.len() as u32;
 }
 
-/// Appends a message of at most `INLINE` bytes to entries with capacity for one more. The bytes are copied to where they stay. To
-/// build such an entry first and then move it was measured to take longer.
+/// Appends a message of at most `INLINE` bytes to entries with capacity for one more. It copies the bytes to where they stay. To build
+/// such an entry first and then move it takes longer, by measurement.
 fn put_few(m: MsgId, payload: &[u8], entries: &mut Vec<Entry>)
     requires few { length payload.now ≤ INLINE }
     requires room { vec_len entries.old < vec_capacity entries.old }
@@ -126,9 +126,9 @@ fn put_few(m: MsgId, payload: &[u8], entries: &mut Vec<Entry>)
 }
 
 impl Store {
-    /// Returns an empty store of the messages that a group's slot knows. It takes memory for `messages` messages and for `bytes`
-    /// payload bytes in all. Messages of these members, numbered from 1 to `width`, are found by a table, others by a search. `Err` if
-    /// there is no memory, or if `messages` is above 65,536.
+    /// Returns an empty store for the messages of a group's slot. It takes memory for `messages` messages and for `bytes` payload bytes in
+    /// all. A table finds messages of these members with numbers from 1 to `width`; a search finds others. `Err` if there is no memory, or
+    /// if `messages` is above 65,536.
     pub fn new(
         alloc: Global,
         members: &NodeSet,
@@ -150,14 +150,14 @@ impl Store {
         })
     }
 
-    /// Returns the messages of this store, each at its place.
+    /// Returns the messages of this store, each at its position.
     pub fn index(&self) -> &Index
         ensures { result.now.list.items ≡ map message_of self.now.entries }
     {
         &self.index
     }
 
-    /// Appends a message that was taken in from these nodes, and a copy of its payload. Takes no memory. Returns its place.
+    /// Appends a message that was taken in from the nodes `from`, and a copy of its payload. Takes no memory. Returns its position.
     #[inline(always)]
     fn add(&mut self, m: MsgId, payload: &[u8], from: NodeSet) -> u16
         requires new { has self.old.entries m ≡ false }
@@ -176,7 +176,7 @@ impl Store {
     }
 
     /// Appends a message that was said here to this store, with a copy of its payload. The message is not in the store yet, and the
-    /// store has capacity for it, so no memory is taken. Returns its place, from 0.
+    /// store has capacity for it, so no memory is taken. Returns its position in the store, from 0.
     pub fn push(&mut self, m: MsgId, payload: &[u8]) -> u16
         requires new { has self.old.entries m ≡ false }
         requires place { length self.old.entries < self.old.places }
@@ -200,7 +200,7 @@ impl Store {
         self.seen[origin.index()]
     }
 
-    /// Returns two things: the place of message `m` in the store, from 0, or `None` if it is not there; and true if it was taken in
+    /// Returns two things: the position of message `m` in the store, from 0, or `None` if it is not there; and true if it was taken in
     /// from node `from`.
     pub fn known_from(&self, m: MsgId, from: NodeId) -> (Option<u16>, bool)
         ensures place { IfSome result.0 (λ i. slice_get (map message_of self.now.entries) i ≡ Some m) }
@@ -217,7 +217,7 @@ impl Store {
         }
     }
 
-    /// Records that the message at this place was taken in from the node.
+    /// Records that the message at position `place` was taken in from node `from`.
     fn mark(&mut self, place: u16, from: NodeId)
         requires { place < length self.old.entries }
         ensures arrivals { self.new.arrivals ≡ with_node from (message_at (map message_of self.old.entries) place) self.old.arrivals }
@@ -227,9 +227,9 @@ impl Store {
         mark(&mut self.kept, usize::from(place), from);
     }
 
-    /// Records in this store that message `m` was taken in from node `from`. `known` is the message's place, or `None` if it is not in
-    /// the store. If it is not, it is appended with a copy of its payload; the store has capacity for it, so no memory is taken. Returns
-    /// the message's place, from 0.
+    /// Records in this store that message `m` was taken in from node `from`. `known` is the position of the message, or `None` if it is not
+    /// in the store. Then it is appended with a copy of its payload; the store has capacity for it, so no memory is taken. Returns the
+    /// position of the message, from 0.
     pub fn take_in(&mut self, m: MsgId, payload: &[u8], from: NodeId, known: Option<u16>) -> u16
         requires stands { IfSome known (λ i. slice_get (map message_of self.old.entries) i ≡ Some m) }
         requires known { is_some known ≡ has self.old.entries m }
@@ -259,7 +259,7 @@ impl Store {
         }
     }
 
-    /// Returns the place of message `m` in the store, from 0. `None` if it is not there.
+    /// Returns the position of message `m` in the store, from 0. `None` if it is not there.
     pub fn place(&self, m: MsgId) -> Option<usize>
         ensures { MatchOption result (has self.now.entries m ≡ false) (λ i. slice_get (map message_of self.now.entries) i ≡ Some m) }
     {
@@ -269,7 +269,7 @@ impl Store {
         }
     }
 
-    /// Returns the message at a place of the store, with its payload. Places count from 0, and `place` is below the number of messages.
+    /// Returns the message at position `place` of the store, with its payload. `place` counts from 0, and is below the number of messages.
     /// Inlined: packing calls it twice an item.
     #[inline(always)]
     pub fn at(&self, place: usize) -> (MsgId, &[u8])
@@ -283,8 +283,8 @@ impl Store {
         )
     }
 
-    /// Returns the payload of message `m`. It is empty if the message is not in the store. `place` is where the message is looked for
-    /// first, which only saves a search.
+    /// Returns the payload of message `m`. It is empty if the message is not in the store. `place` is the position at which it looks for the
+    /// message first, which only saves a search.
     #[inline(always)]
     pub fn payload_at(&self, m: MsgId, place: usize) -> &[u8]
         ensures { result.now ≡ payload_in self.now.entries m }
@@ -298,9 +298,9 @@ impl Store {
         }
     }
 
-    /// Appends message `m`, with a copy of its payload, to `entries`, which has capacity for one more. `place` is where the message is
-    /// looked for first, which only saves a search. `Err` if there is no memory for a payload of more than 16 bytes; then `entries` is
-    /// as it was.
+    /// Appends message `m`, with a copy of its payload, to `entries`, which has capacity for one more. `place` is the position at which it
+    /// looks for the message first, which only saves a search. `Err` if there is no memory for a payload of more than 16 bytes; then
+    /// `entries` is as it was.
     pub fn put_entry(
         &self,
         alloc: Global,

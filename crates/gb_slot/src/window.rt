@@ -5,7 +5,7 @@ ghost use Rattle.gb_slot.specs.Slot.{is_finished, unfinished_of, with_acknowledg
 
 use gb_types::{NodeId, NodeSet, Spec};
 
-/// Returns 1 if a message that the nodes `by` have for good is unfinished, else 0.
+/// Returns 1 if a message is unfinished that the nodes `by` have for good, and else 0.
 fn count_one(spec: &Spec, noticed: &NodeSet, by: &NodeSet) -> u32
     ensures value { result ≡ (if is_finished spec.now noticed.now by.now then 0 else 1) }
     ensures most { result ≤ 1 }
@@ -17,7 +17,7 @@ fn count_one(spec: &Spec, noticed: &NodeSet, by: &NodeSet) -> u32
     }
 }
 
-/// Returns the number of unfinished messages. For each message `acknowledged` has the nodes that have it for good.
+/// Returns the number of unfinished messages. `acknowledged` has, for each message, the nodes that have it for good.
 pub(crate) fn count_unfinished(spec: &Spec, noticed: &NodeSet, acknowledged: &[NodeSet]) -> u32
     requires { length acknowledged.now ≤ MESSAGES }
     ensures { result ≡ unfinished_of spec.now noticed.now acknowledged.now }
@@ -29,7 +29,7 @@ pub(crate) fn count_unfinished(spec: &Spec, noticed: &NodeSet, acknowledged: &[N
     count
 }
 
-/// Adds a message that was said, which these nodes have for good. Returns the number of unfinished messages afterwards.
+/// Adds a message that was said, which the nodes `by` have for good. Returns the number of unfinished messages afterwards.
 pub(crate) fn add_said(
     spec: &Spec,
     noticed: &NodeSet,
@@ -50,7 +50,7 @@ pub(crate) fn add_said(
     unfinished + more
 }
 
-/// Records that a node acknowledged the message with this number, counted from 1. Returns the number of unfinished messages
+/// Records that node `dest` acknowledged message `seq` of this member, counted from 1. Returns the number of unfinished messages
 /// afterwards.
 pub(crate) fn acknowledge(
     spec: &Spec,

@@ -1,4 +1,4 @@
--- The numbers that the words of a fetch spell, from what the readers of its words found.
+-- The numbers that the words of a fetch spell, from the results of the readers of its words.
 use Rattle.gb_types.specs.Common.{◌≡◌, ℕ, List, [], ◌∷◌, sym, ◌∙◌, decimal}
 use Rattle.gb_spelling.specs.CommandWords.{SpellsFetch}
 use Rattle.gb_types.proofs.ReadLemmas.{Reads, found, only, reads_one}

@@ -1,4 +1,4 @@
--- A text is cut in only one way at a byte that its parts lack.
+-- A text is cut in only one way at a byte that its parts do not have.
 use Rattle.gb_types.specs.Common.{◌≡◌, ◌≢◌, ℕ, ◌^◌, ◌<◌, ◌⊎◌, inl, inr, List, [], ◌∷◌, ◌++◌, refl, sym, ◌∙◌, subst, decimal, IsInRange}
 use Rattle.std.specs.Str.Parse.{AllDigits}
 use Rattle.std.proofs.{lemmas.Fmt.decimal_is_IsNumeral, lemmas.Str.Parse.digit_from_value}
@@ -8,7 +8,7 @@ abbrev pub Without : ℕ → List ℕ → Type 0
 Without c [] = Unit {0}
 Without c (x ∷ xs) = (x ≢ c) × Without c xs
 
--- nothing, or c first
+-- the list is empty, or begins with c
 abbrev pub Begins : ℕ → List ℕ → Type 0
 Begins c rest = (rest ≡ []) ⊎ ((more : List ℕ) × (rest ≡ c ∷ more))
 
@@ -20,7 +20,7 @@ without_digits : (c : ℕ) → (IsInRange 48 57 c → ⊥) → (ds : List ℕ) �
 without_digits c other [] h = tt
 without_digits c other (d ∷ ds) h = (λ e. other (subst (IsInRange 48 57) e (digit_from_value d h.0)), without_digits c other ds h.1)
 
--- a number lacks what is no digit
+-- the decimal digits of a number do not have a byte that is no digit
 pub without-decimal : (c n : ℕ) → (IsInRange 48 57 c → ⊥) → n < 2 ^ 64 → Without c (decimal n)
 without-decimal c n other small = without_digits c other (decimal n) (decimal_is_IsNumeral n small).0.1
 

@@ -17,7 +17,7 @@ digits_have_no_dot (c ∷ cs) all =
 pub number_has_no_dot : (n : ℕ) → n < 2 ^ 64 → HasNoDot (decimal n)
 number_has_no_dot n small = digits_have_no_dot (decimal n) (digits_decimal own n small)
 
--- two words that are cut alike are the same in both parts
+-- if two cut words are equal, their parts are equal
 pub cut_alike : (word other : List ℕ) (behind its : Option (List ℕ)) → HasNoDot word → HasNoDot other → with_dot word behind ≡ with_dot other its → (word ≡ other) × (behind ≡ its)
 cut_alike [] [] None None clear free e = (refl, refl)
 cut_alike [] [] None (Some b) clear free e = absurd cc
@@ -39,7 +39,7 @@ cut_alike (c ∷ cs) (d ∷ ds) (Some a) None clear free e =
 cut_alike (c ∷ cs) (d ∷ ds) (Some a) (Some b) clear free e =
     let rest = cut_alike cs ds (Some a) (Some b) (All-tail (λ byte. byte ≢ 46) c cs clear) (All-tail (λ byte. byte ≢ 46) d ds free) cc in (cc (e, rest.0), rest.1)
 
--- what stands before a dot and behind it is the number and the generation
+-- the parts before the dot and behind it are the number and the generation
 pub group_reads : (word front : List ℕ) (behind : Option (List ℕ)) (number generation : ℕ) → word ≡ with_dot front behind → HasNoDot front
     → Reads (IsShortWord front) number → Reads (λ n. IsLong n × (behind ≡ generation_word n)) generation → Reads (AreGroupNumbers word) (number, generation)
 group_reads word front behind number generation whole clear reads_number reads_generation =
@@ -52,7 +52,7 @@ group_reads word front behind number generation whole clear reads_number reads_g
     let same_generation : generation ≡ other.1 = only (λ n. IsLong n × (behind ≡ generation_word n)) generation other.1 reads_generation (spelt.1, alike.1) in
     λ i. (same_number i, same_generation i))
 
--- where what stands before the dot is no number, or what stands behind it no generation, no group is spelt
+-- if the part before the dot is no number, or the part behind it no generation, no group is spelt
 pub no_number : (word front : List ℕ) (behind : Option (List ℕ)) → word ≡ with_dot front behind → HasNoDot front → ((n : ℕ) → (None ≡ Some n) ↔ IsShortWord front n)
     → {r : Option (ℕ × ℕ)} → r ≡ None → (n : ℕ × ℕ) → (r ≡ Some n) ↔ AreGroupNumbers word n
 no_number word front behind whole clear none is n = (

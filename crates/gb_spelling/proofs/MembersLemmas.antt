@@ -13,19 +13,19 @@ use Rattle.gb_types.proofs.RisingLemmas.{passing, NonePasses, first_or_none, non
 abbrev pub parts_of : List ℕ → List (List ℕ)
 parts_of word = slice_split (λ b. eqb b 44) word
 
--- a numeral has no other byte than digits
+-- the digits of a number have no other byte than digits
 pub lacks : (c : ℕ) → (IsInRange 48 57 c → ⊥) → (ds : List ℕ) → AllDigits 10 ds → All (λ x. eqb x c ≡ false) ds
 lacks c other [] h = All-nil (λ x. eqb x c ≡ false)
 lacks c other (d ∷ ds) h =
     let digit = digit_from_value d h.0 in
     All-cons (λ x. eqb x c ≡ false) d ds (elim (cases_eq d c) [ inl same ↦ absurd (other (subst (IsInRange 48 57) same digit)) | inr different ↦ grind (arith, nat_tests) ]) (lacks c other ds h.1)
 
--- each is written without a comma
+-- numbers below n; each is written without a comma
 abbrev NumbersBelow : ℕ → List ℕ → Type 0
 NumbersBelow n [] = Unit {0}
 NumbersBelow n (x ∷ xs) = (x < n) × NumbersBelow n xs
 
--- numbers that are joined by commas come apart again
+-- numbers that are joined by commas are split into the same numbers
 parts-joined : (n : ℕ) (ns : List ℕ) → NumbersBelow NODES (n ∷ ns) → parts_of (join_with_byte 44 (map decimal (n ∷ ns))) ≡ map decimal (n ∷ ns)
 parts-joined n [] h = slice_split_none (λ b. eqb b 44) (decimal n) (lacks 44 (λ r. omega (arith, r)) (decimal n) (decimal_is_IsNumeral n (let lt = h.0 in omega arith)).0.1)
 parts-joined n (m ∷ ns) h =
@@ -36,7 +36,7 @@ parts-joined n (m ∷ ns) h =
 abbrev pub onward : fin.FinSet nat_cmp → ℕ → List ℕ
 onward s low = passing (fin.contains s) low (NODES - low)
 
--- what is read from the first parts
+-- the state after the first k parts were read as the set s
 pub record IsReadTo (parts : List (List ℕ)) (k : ℕ) (s : fin.FinSet nat_cmp) (lowest : ℕ) : Type 0 where
   pub low : lowest ≤ NODES
   pub under : (q : ℕ) → fin.contains s q ≡ true → q < lowest
@@ -44,7 +44,7 @@ pub record IsReadTo (parts : List (List ℕ)) (k : ℕ) (s : fin.FinSet nat_cmp)
   pub back : (t : fin.FinSet nat_cmp) → parts ≡ map decimal (rising t) → drop k parts ≡ map decimal (onward t lowest)
   pub same : (t : fin.FinSet nat_cmp) → parts ≡ map decimal (rising t) → (q : ℕ) → q < lowest → fin.contains t q ≡ fin.contains s q
 
--- nothing is read
+-- it holds before any part was read
 pub IsReadTo-none : (parts : List (List ℕ)) → IsReadTo parts 0 fin.empty 0
 unfolding rising
 IsReadTo-none parts = record {
@@ -65,7 +65,7 @@ contains-insert-other s n q other = let e : eqb q n ≡ false = grind (arith, na
 contains-insert-same : (s : fin.FinSet nat_cmp) (n : ℕ) → fin.contains (fin.insert s n) n ≡ true
 contains-insert-same s n = let e : eqb n n ≡ true = grind (arith, nat_tests) in contains-insert s n n ∙ ap (λ b. b || fin.contains s n) e
 
--- a node above all others stands last
+-- a node above all others is the last of the rising list
 pub rising-insert : (s : fin.FinSet nat_cmp) (n : ℕ) → n < NODES → ((q : ℕ) → fin.contains s q ≡ true → q < n) → rising (fin.insert s n) ≡ rising s ++ n ∷ []
 unfolding rising
 rising-insert s n lt under =
@@ -75,7 +75,7 @@ rising-insert s n lt under =
     (λ q h. contains-insert-other s n q (λ e. absurd (omega arith)) ∙ not_member s n q under (omega arith))
     (λ q h. not_member s n q under h) 0 NODES (omega arith) lt
 
--- what the next part has to be, where the word spells t
+-- the next part, if the word spells t
 pub record IsNext (parts : List (List ℕ)) (k : ℕ) (low : ℕ) (part : List ℕ) (t : fin.FinSet nat_cmp) (n : ℕ) : Type 0 where
   pub least : low ≤ n
   pub node : n < NODES
@@ -121,7 +121,7 @@ same_numbers (m ∷ ms) (n ∷ ns) hm hn e =
     let tail = same_numbers ms ns hm.1 hn.1 others in
     λ i. head i ∷ tail i
 
--- one more part is read
+-- it holds after one more part was read
 pub IsReadTo-more : (parts : List (List ℕ)) (k : ℕ) (s : fin.FinSet nat_cmp) (low : ℕ) (part : List ℕ) → IsReadTo parts k s low → k < length parts → part ≡ get_or parts k part
     → (n : ℕ) → n < NODES → low ≤ n → part ≡ decimal n → IsReadTo parts (k + 1) (fin.insert s n) (n + 1)
 IsReadTo-more parts k s low part r lt e n node le word = record {
@@ -145,7 +145,7 @@ IsReadTo-more parts k s low part r lt e n node le word = record {
       ];
 }
 
--- ---- the answers
+-- ---- the results
 
 none_if_empty : (p : ℕ → Bool) (low k : ℕ) → passing p low k ≡ [] → NonePasses p low (low + k)
 none_if_empty p low k e = elim (first_or_none p low k) [ inl none ↦ none.1 | inr first ↦ let f = first.1.parts in cc ]
@@ -182,11 +182,11 @@ parts_list (n ∷ ns) h some = parts-joined n ns h
 pub parts-members : (word : List ℕ) (t : fin.FinSet nat_cmp) → AreNodes t → t ≢ fin.empty → word ≡ members_word t → parts_of word ≡ map decimal (rising t)
 parts-members word t nodes some e = ap parts_of e ∙ parts_list (rising t) (rising_below t) (λ none. some (empty_if_none t nodes none))
 
--- a set is answered exactly where its word was given
+-- a set is returned if and only if the word is the one for that set
 abbrev pub Answers : List ℕ → Option (fin.FinSet nat_cmp) → Type 0
 Answers word r = (t : fin.FinSet nat_cmp) → (r ≡ Some t) ↔ (AreNodes t × (t ≢ fin.empty) × (word ≡ members_word t))
 
--- where the next part is no number that may come next, the word spells nothing
+-- if the next part is no number that may come next, the word spells no set
 pub refuses : (word : List ℕ) (k : ℕ) (s : fin.FinSet nat_cmp) (low : ℕ) (part : List ℕ) (r : Option (fin.FinSet nat_cmp)) → IsReadTo (parts_of word) k s low → (k < length (parts_of word)) × (part ≡ get_or (parts_of word) k part)
     → ((n : ℕ) → low ≤ n → n < NODES → part ≡ decimal n → ⊥) → r ≡ None → Answers word r
 refuses word k s low part r read turn bad is t = (
@@ -202,7 +202,7 @@ has_parts word s e none =
     let zero_parts : length (parts_of word) ≡ 0 = ap length (sym e ∙ nothing) in
     omega (arith, some, zero_parts)
 
--- where all parts are read, the word spells what was read
+-- if all parts were read, the word spells the set that was read
 pub answers : (word : List ℕ) (k : ℕ) (s : fin.FinSet nat_cmp) (low : ℕ) → IsReadTo (parts_of word) k s low → k ≡ length (parts_of word) → Answers word (Some s)
 answers word k s low read end t =
     let all : map decimal (rising s) ≡ parts_of word = read.front ∙ take_all k (parts_of word) (omega arith) in

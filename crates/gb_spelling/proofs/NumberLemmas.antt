@@ -15,7 +15,7 @@ is_digit c digit = (grind (arith, nat_tests, digit), grind (arith, nat_tests, di
 pub no_digit : (c : ℕ) → is_ascii_digit c ≡ false → IsInRange 48 57 c → ⊥
 no_digit c not range = grind (arith, nat_tests, not, range)
 
--- the digits of a front, and one more
+-- the value of a prefix of the digits and one more
 value_after_more : (n : ℕ) (ds : List ℕ) (i : ℕ) → i < length ds → digits_value_after 10 n (take (suc i) ds) ≡ digits_value_after 10 n (take i ds) * 10 + digit_value (get_or ds i 0)
 value_after_more n [] i l = absurd (omega arith)
 value_after_more n (c ∷ cs) zero l = refl
@@ -26,7 +26,7 @@ all_digits_more [] i l all more = absurd (omega arith)
 all_digits_more (c ∷ cs) zero l all more = (more, tt)
 all_digits_more (c ∷ cs) (suc i) l all more = (all.0, all_digits_more cs i (omega arith) all.1 more)
 
--- a front that was read, and one more digit, whose number fits
+-- a prefix that was read, and one more digit, if the number fits
 pub read_more : (ds : List ℕ) (i number next : ℕ) → i < length ds → AllDigits 10 (take i ds) × (digits_value 10 (take i ds) ≡ number) → IsInRange 48 57 (get_or ds i 0)
     → next ≡ number * 10 + (get_or ds i 0 - 48) → AllDigits 10 (take (i + 1) ds) × (digits_value 10 (take (i + 1) ds) ≡ next)
 read_more ds i number next l read digit is =
@@ -35,18 +35,18 @@ read_more ds i number next l read digit is =
     let value : digits_value 10 (take i ds) * 10 + digit_value (get_or ds i 0) ≡ next = omega (arith, read.1, is, weight) in
     subst (λ k. AllDigits 10 (take k ds) × (digits_value 10 (take k ds) ≡ next)) one (all_digits_more ds i l read.0 (omega (arith, weight, digit)), value_after_more 0 ds i l ∙ value)
 
--- and whose number does not
+-- the same, if the number does not fit
 pub too_many_bits : (ds : List ℕ) (i number : ℕ) → i < length ds → AllDigits 10 (take i ds) × (digits_value 10 (take i ds) ≡ number) → IsInRange 48 57 (get_or ds i 0)
     → 2 ^ 64 ≤ number * 10 + (get_or ds i 0 - 48) → 2 ^ 64 ≤ digits_value 10 ds
 too_many_bits ds i number l read digit many =
     let more = read_more ds i number (number * 10 + (get_or ds i 0 - 48)) l read digit refl in
     omega (arith, more.1, many, digits_value-take-le 10 ds (i + 1) (omega arith))
 
--- what begins with no digit, or with a zero before more digits
+-- a word that is empty, or has a zero before more digits
 abbrev pub BeginsBadly : List ℕ → Type 0
 BeginsBadly word = (word ≡ []) ⊎ ((get_or word 0 0 ≡ 48) × (1 < length word))
 
--- no number does
+-- the word of a number does not begin in that way
 pub not_badly : (n : ℕ) (word : List ℕ) → n < 2 ^ 64 → word ≡ decimal n → BeginsBadly word → ⊥
 not_badly n word small e (inl none) = let numeral = decimal_is_IsNumeral n small in let empty : length (decimal n) ≡ 0 = ap length (sym e ∙ none) in omega (arith, numeral.0.0, empty)
 not_badly n word small e (inr zeros) =
@@ -55,21 +55,21 @@ not_badly n word small e (inr zeros) =
       | inr some ↦ let first = first_decimal n (omega arith) small in let none : get_or (decimal n) 0 0 ≡ 48 = ap (λ w. get_or w 0 0) (sym e) ∙ zeros.0 in omega (arith, first, none)
     ]
 
--- digits that begin well spell the number that they write
+-- digits that do not begin in that way spell the number that they write
 pub reads_back : (word : List ℕ) → AllDigits 10 word → digits_value 10 word < 2 ^ 64 → (BeginsBadly word → ⊥) → decimal (digits_value 10 word) ≡ word
 reads_back [] all small well = absurd (well (inl refl))
 reads_back (c ∷ cs) all small well =
     let one : c ≡ 48 → length (c ∷ cs) ≡ 1 = λ least. elim (cases_lt 1 (length (c ∷ cs))) [ inl more ↦ absurd (well (inr (least, more))) | inr few ↦ omega arith ] in
     decimal-digits_value own (c ∷ cs) all (omega arith) one small
 
--- a number's word are digits, and it has few bits
+-- the word of a number of 64 bits is digits whose value has 64 bits
 pub no_digits : (n : ℕ) (word : List ℕ) → n < 2 ^ 64 → word ≡ decimal n → (AllDigits 10 word → 2 ^ 64 ≤ digits_value 10 word) → ⊥
 no_digits n word small e many =
     let numeral = decimal_is_IsNumeral n small in
     let least : 2 ^ 64 ≤ digits_value 10 word = many (rw e numeral.0.1) in
     let is : digits_value 10 word ≡ n = ap (digits_value 10) e ∙ numeral.1 in omega (arith, least, is)
 
--- the answer, where the word spells this number
+-- the result, if the word spells this number
 pub answers : (word : List ℕ) (max number : ℕ) (r : Option ℕ) → max < 2 ^ 64 → number < 2 ^ 64 → decimal number ≡ word → r ≡ then_some (nat_le number max) number
     → (n : ℕ) → (r ≡ Some n) ↔ ((n ≤ max) × (word ≡ decimal n))
 answers word max number r fits small spelt is n =
@@ -84,7 +84,7 @@ answers word max number r fits small spelt is n =
       )
     ]
 
--- the answer, where it spells none
+-- the result, if it spells none
 pub refuses : (word : List ℕ) (max : ℕ) (r : Option ℕ) → ((n : ℕ) → n ≤ max → word ≡ decimal n → ⊥) → r ≡ None → (n : ℕ) → (r ≡ Some n) ↔ ((n ≤ max) × (word ≡ decimal n))
 refuses word max r unspelt is n = (λ e. cc, λ h. absurd (unspelt n h.0 h.1))
 
@@ -95,6 +95,6 @@ digits_have_no_space (c ∷ cs) all =
     (ne_eqb c 32 (λ e. let no : digit_value 32 < 10 = subst (λ k. digit_value k < 10) e all.0 in omega (arith, no)))
     (digits_have_no_space cs all.1)
 
--- what a number is written as is one word
+-- the decimal digits of a number are one word
 pub number_is_one_word : (n : ℕ) → n < 2 ^ 64 → words_of (decimal n) ≡ decimal n ∷ []
 number_is_one_word n small = slice_split_none (λ byte. eqb byte 32) (decimal n) (digits_have_no_space (decimal n) (digits_decimal own n small))

@@ -6,13 +6,13 @@ use Rattle.hex.proofs.HexLemmas.{decode_of-encode_lower, length-encode_with, IsD
 use Rattle.gb_spelling.specs.PayloadWord.{payload_word, payload_of}
 use Rattle.gb_spelling.proofs.CutLemmas.{Without}
 
--- a word that is not `-` spells what its digits do
+-- a word that is not `-` spells the bytes of its digits
 payload_of-digits : (word : List ℕ) → bytes_eq word (codes "-") ≡ false → 0 < length word → payload_of word ≡ result_ok (decode_of word)
 payload_of-digits word not_dash some =
     let there : eqb (length word) 0 ≡ false = grind (arith, nat_tests) in
     ap (λ t. cond t (Some []) (cond (eqb (length word) 0) None (result_ok (decode_of word)))) not_dash ∙ ap (λ t. cond t None (result_ok (decode_of word))) there
 
--- a payload that is written reads back
+-- the word that is written for a payload is read as that payload
 pub payload_of-payload_word : (bytes : List ℕ) → IsBytes bytes → payload_of (payload_word bytes) ≡ Some bytes
 unfolding encode_with
 payload_of-payload_word [] h = refl
@@ -37,7 +37,7 @@ without-encode c none (b ∷ bytes) h =
     let fits : b < 256 = h 0 in
     (digit_is_not c (b / 16) none (omega arith), (digit_is_not c (b % 16) none (omega arith), without-encode c none bytes (λ k. h (suc k))))
 
--- a payload's word lacks what is no hexadecimal digit and not `-`
+-- the word of a payload does not have a byte that is neither `-` nor a hexadecimal digit
 pub without-payload_word : (c : ℕ) → hex_digit_value c ≡ None → c ≢ 45 → (bytes : List ℕ) → IsBytes bytes → Without c (payload_word bytes)
 without-payload_word c none other [] h = (λ e. other (sym e), tt)
 without-payload_word c none other (b ∷ bytes) h = without-encode c none (b ∷ bytes) h
@@ -47,7 +47,7 @@ unfolding encode_with
 encode_with-append t [] behind = refl
 encode_with-append t (b ∷ front) behind = ap (λ digits. slice_index t (b / 16) ∷ slice_index t (b % 16) ∷ digits) (encode_with-append t front behind)
 
--- a word has the digits of the bytes where both parts of it have those of theirs
+-- a word is the digits of the bytes if both of its parts are the digits of the parts of the bytes
 pub encode-in_parts : (n k : ℕ) (bytes word : List ℕ) → encode_lower (take n bytes) ≡ take k word → encode_lower (drop n bytes) ≡ drop k word
     → encode_lower bytes ≡ word
 encode-in_parts n k bytes word front behind =
@@ -56,6 +56,6 @@ encode-in_parts n k bytes word front behind =
     let word_parts = take-append-drop k word in
     ap encode_lower (sym bytes_parts) ∙ (parts ∙ (ap (λ digits. digits ++ encode_lower (drop n bytes)) front ∙ (ap (λ digits. take k word ++ digits) behind ∙ word_parts)))
 
--- a word with the digits of some bytes spells them
+-- a word that is the digits of some bytes spells them
 pub decode-of_digits : (bytes word : List ℕ) → IsBytes bytes → encode_lower bytes ≡ word → decode_of word ≡ Ok bytes
 decode-of_digits bytes word fits is = ap decode_of (sym is) ∙ decode_of-encode_lower bytes fits

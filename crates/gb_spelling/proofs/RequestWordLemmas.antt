@@ -7,7 +7,7 @@ use Rattle.gb_spelling.specs.RequestWords.{IsShort, IsLong, IsGroup, AreGroupNum
 use Rattle.gb_types.specs.declared.{kind.Kind.Kind, address.Addr.Addr, spec.Spec.Spec}
 use Rattle.gb_types.proofs.ReadLemmas.{Reads, found, only, reads_one}
 
--- what the readers of single words find
+-- the results of the readers of single words
 abbrev pub IsShortWord : List ℕ → ℕ → Type 0
 IsShortWord word n = IsShort n × (word ≡ decimal n)
 
@@ -17,7 +17,7 @@ IsLongWord word n = IsLong n × (word ≡ decimal n)
 abbrev pub AreAddressWords : List ℕ → List ℕ → Addr → Type 0
 AreAddressWords t g address = IsShort address.tenant × (t ≡ decimal address.tenant) × IsGroup address × (g ≡ group_word address)
 
--- what the readers of a tenant's word and of a group's word find is the address
+-- if the readers of both words return these numbers, the words spell the address of them
 pub address_reads : (t g : List ℕ) (tenant group generation : ℕ) → Reads (IsShortWord t) tenant → Reads (AreGroupNumbers g) (group, generation)
     → Reads (AreAddressWords t g) (record { tenant = tenant; group = group; generation = generation })
 address_reads t g tenant group generation reads_tenant reads_group =
@@ -30,7 +30,7 @@ address_reads t g tenant group generation reads_tenant reads_group =
     let same_group : (group, generation) ≡ (other.group, other.generation) = only (AreGroupNumbers g) (group, generation) (other.group, other.generation) reads_group (spelt.2.0, spelt.2.1, spelt.3) in
     λ i. record { tenant = same_tenant i; group = (same_group i).0; generation = (same_group i).1 })
 
--- where a group's word cannot be read, no address is spelt
+-- if a group's word cannot be read, no address is spelt
 pub no_group_words : (t g : List ℕ) (address : Addr) {r : Option Addr} → r ≡ None → ((n : ℕ × ℕ) → (None ≡ Some n) ↔ AreGroupNumbers g n)
     → (r ≡ Some address) ↔ AreAddressWords t g address
 no_group_words t g address is none = (λ e. cc, λ spelt. cc ((none (address.group, address.generation)).1 (spelt.2.0, spelt.2.1, spelt.3)))

@@ -1,4 +1,4 @@
--- The words of commands in groups: what a command begins with, and the words that spell what it asks.
+-- The words of commands in groups: the first word of a command, and the words behind it.
 use Rattle.std.specs.Prelude.{◌≡◌, ℕ, List, [], ◌∷◌, codes, decimal}
 use Rattle.gb_spelling.specs.RequestWords.{IsLong, SpellsSpec, SpellsMessage}
 use Rattle.gb_spelling.specs.declared.command_words.CommandHead.{CommandHead}
@@ -6,7 +6,7 @@ use Rattle.gb_spelling.specs.declared.command_words.CommandHead.TheVariants.{Mak
 use Rattle.gb_types.specs.declared.{new_message.NewMessage.NewMessage, request.GroupCommand.GroupCommand, spec.Spec.Spec}
 use Rattle.gb_types.specs.declared.request.GroupCommand.TheVariants as commands
 
--- the word that a command begins with
+-- the first word of a command
 abbrev pub head_word : CommandHead → List ℕ
 head_word Make = codes "make"
 head_word Open = codes "open"
@@ -19,8 +19,7 @@ head_word Fetch = codes "fetch"
 abbrev pub SpellsFetch : ℕ × ℕ → List (List ℕ) → Type 0
 SpellsFetch n words = IsLong n.0 × IsLong n.1 × (words ≡ decimal n.0 ∷ decimal n.1 ∷ [])
 
--- The table: what the words behind a head and the group's address spell. They are the group's parameters, none, a message, or two
--- numbers.
+-- The table: what the words behind the first one and the group's address spell. They are the group's parameters, none, a message, or two numbers.
 abbrev pub SpellsCommand : CommandHead → GroupCommand → List (List ℕ) → Type 0
 SpellsCommand Make command words = (spec : Spec) × (command ≡ commands.Make spec) × SpellsSpec spec words
 SpellsCommand Open command words = (command ≡ commands.Open) × (words ≡ [])

@@ -1,4 +1,4 @@
--- The names that files of crates above cite, passed on from one place. Declares nothing.
+-- The names that files of crates above cite, gathered in one file. Declares nothing.
 pub use Rattle.gb_spelling.specs.CommandWords.{SpellsCommand, SpellsFetch, head_word}
 pub use Rattle.gb_spelling.specs.KindWord.{kind_word, module_word, order_word}
 pub use Rattle.gb_spelling.specs.Laws.{FitsEntry, FitsReply, OneTextOneReply, OneWordOneKind}

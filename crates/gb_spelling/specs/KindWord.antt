@@ -11,7 +11,7 @@ module_word Eager = codes "eager"
 module_word AllAck = codes "allack"
 module_word Majority = codes "majority"
 
--- the letter f stands for first-in first-out order
+-- the letter f in front of a module means first-in first-out order
 abbrev pub order_word : Order → List ℕ
 order_word Any = codes ""
 order_word Fifo = codes "f"

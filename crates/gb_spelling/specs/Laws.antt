@@ -39,6 +39,6 @@ abbrev pub OneWordOneGroup : Type 0
 OneWordOneGroup =
     (s t : set.FinSet nat_cmp) → AreNodes s → AreNodes t → s ≢ set.empty → t ≢ set.empty → members_word s ≡ members_word t → s ≡ t
 
--- a payload that is written reads back
+-- the word that is written for a payload is read as that payload
 abbrev pub PayloadReadsBack : Type 0
 PayloadReadsBack = (bytes : List ℕ) → IsBytes bytes → payload_of (payload_word bytes) ≡ Some bytes

@@ -6,7 +6,7 @@ use Rattle.gb_types.specs.declared.reply.Reply.TheVariants.{Done, Said, Log, Ref
 use Rattle.gb_spelling.specs.PayloadWord.{payload_word}
 use Rattle.gb_types.specs.Common.{refusal_number, refusal_name}
 
--- ORIGIN:SEQ:PAYLOAD
+-- the text ORIGIN:SEQ:PAYLOAD of an entry
 abbrev pub entry_text : Entry → List ℕ
 entry_text e = decimal e.origin.number ++ codes ":" ++ decimal e.seq ++ codes ":" ++ payload_word e.payload
 

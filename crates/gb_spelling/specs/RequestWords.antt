@@ -36,7 +36,7 @@ group_word a = with_dot (decimal a.group) (generation_word a.generation)
 abbrev pub AreGroupNumbers : List ℕ → ℕ × ℕ → Type 0
 AreGroupNumbers word n = IsShort n.0 × IsLong n.1 × (word ≡ with_dot (decimal n.0) (generation_word n.1))
 
--- each byte of a word differs from a dot
+-- no byte of a word is a dot
 abbrev pub HasNoDot : List ℕ → Type 0
 HasNoDot word = All (λ byte. byte ≢ 46) word
 
@@ -54,7 +54,7 @@ abbrev pub seq_words : Option ℕ → List (List ℕ)
 seq_words None = []
 seq_words (Some n) = decimal n ∷ []
 
--- a message in the words PAYLOAD, or PAYLOAD SEQ; the digits of the payload may be of both cases
+-- a message in the words PAYLOAD or PAYLOAD SEQ; the digits of the payload may be in either case
 pub record SpellsMessage (message : NewMessage) (words : List (List ℕ)) : Type 0 where
   pub payload_word : List ℕ
   pub words_are : words ≡ payload_word ∷ seq_words message.seq

@@ -6,7 +6,7 @@ use Rattle.std.specs.List.{slice_split, join_with_byte}
 abbrev pub words_of : List ℕ → List (List ℕ)
 words_of line = slice_split (λ byte. byte == 32) line
 
--- each byte of a word differs from a space
+-- no byte of a word is a space
 abbrev pub IsWord : List ℕ → Type 0
 IsWord word = All (λ byte. byte ≢ 32) word
 
@@ -14,6 +14,6 @@ IsWord word = All (λ byte. byte ≢ 32) word
 abbrev pub WrittenWordsAreRead : Type 0
 WrittenWordsAreRead = (words : List (List ℕ)) → words ≢ [] → All IsWord words → words_of (join_with_byte 32 words) ≡ words
 
--- each line is its words, with single spaces between them
+-- each line consists of its words, with single spaces between them
 abbrev pub EachLineIsItsWords : Type 0
 EachLineIsItsWords = (line : List ℕ) → (join_with_byte 32 (words_of line) ≡ line) × All IsWord (words_of line)

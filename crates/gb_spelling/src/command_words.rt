@@ -1,4 +1,4 @@
-//! The words of commands in groups: what a command begins with, and the words that spell what it asks.
+//! The words of commands in groups: the first word of a command, and the words behind it.
 ghost use Rattle.std.specs.Prelude.{◌≡◌, ◌↔◌, ℕ, [], Some, IfOk, IfErr, map};
 ghost use Rattle.gb_spelling.specs.CommandWords.{head_word, SpellsFetch, SpellsCommand};
 ghost use Rattle.gb_spelling.specs.declared.{command_words.CommandHead.CommandHead, command_words.CommandHead.TheVariants.Make as MakeHead, command_words.CommandHead.TheVariants.Say as SayHead, command_words.CommandHead.TheVariants.Fetch as FetchHead};
@@ -33,7 +33,7 @@ pub fn head_word(head: CommandHead) -> &'static [u8]
     }
 }
 
-/// Returns the only head that a word can name, by its first two letters. `None` if it can name none.
+/// Returns the only head that a word can name, by its first two letters, or `None` if it can name none.
 fn head_like(word: &[u8]) -> Option<CommandHead>
     ensures { (head : CommandHead) → word.now ≡ head_word head → result ≡ Some head }
 {
@@ -48,7 +48,7 @@ fn head_like(word: &[u8]) -> Option<CommandHead>
     }
 }
 
-/// Returns the head of a command that a word names. `None` if the word names no head.
+/// Returns the head of a command that a word names, or `None` if it names no head.
 pub fn read_head(word: &[u8]) -> Option<CommandHead>
     ensures { (head : CommandHead) → (result ≡ Some head) ↔ (word.now ≡ head_word head) }
 {
@@ -58,7 +58,7 @@ pub fn read_head(word: &[u8]) -> Option<CommandHead>
     }
 }
 
-// KIND MEMBERS MSGS BYTES WINDOW
+// Reads the words KIND MEMBERS MSGS BYTES WINDOW.
 fn read_make(words: &[&[u8]]) -> Option<GroupCommand>
     ensures { (command : TheCommand) → (result ≡ Some command)
         ↔ SpellsCommand MakeHead command (map (λ word. word.now) words.now) }
@@ -67,7 +67,7 @@ fn read_make(words: &[&[u8]]) -> Option<GroupCommand>
     Some(GroupCommand::Make(spec))
 }
 
-// PAYLOAD, or PAYLOAD SEQ
+// Reads the words PAYLOAD, or PAYLOAD SEQ.
 fn read_say(alloc: Global, words: &[&[u8]]) -> Result<Option<GroupCommand>, OutOfMemory>
     ensures { IfOk result (λ found. (command : TheCommand) → (found ≡ Some command)
         ↔ SpellsCommand SayHead command (map (λ word. word.now) words.now)) }
@@ -78,8 +78,8 @@ fn read_say(alloc: Global, words: &[&[u8]]) -> Result<Option<GroupCommand>, OutO
     Ok(Some(GroupCommand::Say(message)))
 }
 
-/// Returns the two numbers of a fetch, each 0 to 4,294,967,295, which two words spell: the place of the first entry, and the most
-/// entries. `None` if there are not two words, or one of them spells no such number.
+/// Returns the two numbers of a fetch, each 0 to 4,294,967,295, which two words spell: the index of the first entry, and the greatest
+/// number of entries. Returns `None` if there are not two words, or if one of them spells no such number.
 pub fn read_fetch(words: &[&[u8]]) -> Option<(u32, u32)>
     ensures { (n : ℕ × ℕ) → (result ≡ Some n) ↔ SpellsFetch n (map (λ word. word.now) words.now) }
 {
@@ -91,7 +91,7 @@ pub fn read_fetch(words: &[&[u8]]) -> Option<(u32, u32)>
     Some((from, most))
 }
 
-// FROM MAX
+// Reads the words FROM MAX.
 fn read_fetch_command(words: &[&[u8]]) -> Option<GroupCommand>
     ensures { (command : TheCommand) → (result ≡ Some command)
         ↔ SpellsCommand FetchHead command (map (λ word. word.now) words.now) }
@@ -100,7 +100,7 @@ fn read_fetch_command(words: &[&[u8]]) -> Option<GroupCommand>
     Some(GroupCommand::Fetch { from, most })
 }
 
-// No words stand behind a command that is asked by its head alone.
+// Returns the command `alone`, which has no words behind its first one, or `None` if there are words.
 fn read_alone(alone: GroupCommand, words: &[&[u8]]) -> Option<GroupCommand>
     ensures { (command : TheCommand) → (result ≡ Some command)
         ↔ ((command ≡ alone) × (map (λ word. word.now) words.now ≡ [])) }
@@ -111,9 +111,10 @@ fn read_alone(alone: GroupCommand, words: &[&[u8]]) -> Option<GroupCommand>
     }
 }
 
-/// Returns the command that a head and the words behind the group's address spell: the five words of a group's parameters for
-/// `make`, no word for `open`, `shut` and `drop`, the one or two words of a message for `say`, and two numbers for `fetch`, the place of
-/// the first entry and the most entries. `Ok(None)` if they spell none. `Err` if there is no memory for the payload of a message.
+/// Returns the command that a head and the words behind the group's address spell: the five words of a group's parameters for `make`, no
+/// word for `open`, `shut` and `drop`, the one or two words of a message for `say`, and two numbers for `fetch`, which are the index of the
+/// first entry and the greatest number of entries. Returns `Ok(None)` if they spell none. Returns `Err` if there is no memory for the
+/// payload of a message.
 pub fn read_command(
     alloc: Global,
     head: CommandHead,

@@ -5,7 +5,7 @@ ghost use Rattle.gb_spelling.specs.KindWord.{kind_word, module_word};
 
 use gb_types::{Kind, Module, Order};
 
-/// Returns the word for a kind of broadcast, such as `lazy`, or `flazy` for the same in first-in first-out order.
+/// Returns the word for a kind of broadcast, for instance `lazy`, or `flazy` for lazy in first-in first-out order.
 pub fn word_of(kind: Kind) -> &'static [u8]
     ensures { result.now ≡ kind_word kind }
 {
@@ -35,7 +35,7 @@ fn module_like(word: &[u8]) -> Module
     }
 }
 
-/// Returns the kind of broadcast that the word names. `None` if it names no kind.
+/// Returns the kind of broadcast that the word names, or `None` if it names no kind.
 pub fn read_kind(word: &[u8]) -> Option<Kind>
     ensures { (k : Kind) → (result ≡ Some k) ↔ (word.now ≡ kind_word k) }
 {

@@ -1,6 +1,6 @@
-//! How the types that every crate shares are spelt: the words for numbers, kinds, members, payloads, tokens and commands, and the
-//! text of a reply. Each is read and written here, and `laws` says that what is written is read back. Read `request_words` and
-//! `reply_text` first.
+//! How the types that every crate shares are spelt: the words for numbers, kinds, members, payloads, tokens and commands, and the text of a
+//! reply. Each is read and written here, and by the laws in `laws` a word that is written is read as the same value. Read `request_words`
+//! and `reply_text` first.
 #![tactic(auto)]
 
 pub mod command_words;

@@ -92,8 +92,8 @@ fn write_entries(bytes: &mut [u8], from: usize, entries: &[Entry]) -> usize
     at
 }
 
-/// Returns an upper bound of the bytes of an entry after a space: a space, two and five digits, two colons, and two digits for each
-/// byte of the payload, or `-`. `None` if it exceeds `usize::MAX`.
+/// Returns an upper bound of the number of bytes of an entry after a space: a space, two and five digits, two colons, and two digits for
+/// each byte of the payload, or `-`. Returns `None` if it exceeds `usize::MAX`.
 fn room_for_one(entry: &Entry) -> Option<usize>
     ensures { IfSome result (λ room. length (codes " " ++ entry_text entry.now) ≤ room) }
 {
@@ -101,7 +101,7 @@ fn room_for_one(entry: &Entry) -> Option<usize>
     entry.payload.len().checked_mul(2)?.checked_add(11)
 }
 
-/// Returns an upper bound of the bytes of the entries, each after a space. `None` if it exceeds `usize::MAX`.
+/// Returns an upper bound of the number of bytes of the entries, each after a space. Returns `None` if it exceeds `usize::MAX`.
 fn room_for(entries: &[Entry]) -> Option<usize>
     ensures { IfSome result (λ room. length (flat_map (λ e. codes " " ++ entry_text e) entries.now) ≤ room) }
 {
@@ -112,7 +112,7 @@ fn room_for(entries: &[Entry]) -> Option<usize>
     Some(room)
 }
 
-/// Appends the entries, each after a space. If memory is refused, `out` stays as it was.
+/// Appends the entries, each after a space. Returns `Err` if memory is refused; then `out` is as it was.
 pub(crate) fn put_entries(out: &mut Vec<u8>, entries: &[Entry]) -> Result<(), OutOfMemory>
     ensures ok { OnOk result (out.new.items
         ≡ out.old.items ++ flat_map (λ e. codes " " ++ entry_text e) entries.now) }

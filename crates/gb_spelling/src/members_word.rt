@@ -9,7 +9,7 @@ use crate::number::read_number;
 use gb_types::limits::NODES;
 use gb_types::{NodeId, NodeSet};
 
-/// Returns the node whose number the word spells. `None` if it spells no node's number.
+/// Returns the node whose number the word spells, or `None` if it spells no node's number.
 fn read_node(word: &[u8]) -> Option<NodeId>
     ensures some { IfSome result (λ node. word.now ≡ decimal node.number) }
     ensures none { IfNone result ((n : ℕ) → n < NODES → word.now ≢ decimal n) }
@@ -18,8 +18,8 @@ fn read_node(word: &[u8]) -> Option<NodeId>
     Some(NodeId::new(number as u8))
 }
 
-/// Returns the set of members that the word spells: one or more numbers of nodes, 0 to 31, strictly rising, separated by commas. `None`
-/// if the word is anything else.
+/// Returns the set of members that the word spells: one or more numbers of nodes, 0 to 31, strictly rising, separated by commas. Returns
+/// `None` for any other word.
 pub fn read_members(word: &[u8]) -> Option<NodeSet>
     ensures { (s : set.FinSet nat_cmp)
         → (result ≡ Some s) ↔ (AreNodes s × (s ≢ set.empty) × (word.now ≡ members_word s)) }

@@ -12,8 +12,8 @@ use gb_types::{OutOfMemory, Payload};
 use hex::FromHexError;
 use std::alloc::Global;
 
-/// Decodes up to `2 * INLINE` hexadecimal digits of either case, into the payload itself. `None` if the word is not hexadecimal or
-/// has an odd length.
+/// Returns the payload that at most `2 * INLINE` hexadecimal digits of either case spell, stored in its value. Returns `None` if the word
+/// is not hexadecimal or has an odd length.
 fn read_few(alloc: Global, word: &[u8]) -> Result<Option<Payload>, OutOfMemory>
     requires { length word.now ≤ 2 * INLINE }
     ensures { IfOk result (λ found. found ≡ result_ok (decode_of word.now)) }
@@ -26,7 +26,7 @@ fn read_few(alloc: Global, word: &[u8]) -> Result<Option<Payload>, OutOfMemory>
     }
 }
 
-/// Decodes hexadecimal digits of either case. `None` if the word is not hexadecimal or has an odd length.
+/// Returns the payload that hexadecimal digits of either case spell. Returns `None` if the word is not hexadecimal or has an odd length.
 fn read_any(alloc: Global, word: &[u8]) -> Result<Option<Payload>, OutOfMemory>
     ensures { IfOk result (λ found. found ≡ result_ok (decode_of word.now)) }
 {
@@ -37,8 +37,8 @@ fn read_any(alloc: Global, word: &[u8]) -> Result<Option<Payload>, OutOfMemory>
     }
 }
 
-/// Returns the payload that the word spells: `-` for no bytes, or two hexadecimal digits of either case for each byte. `Ok(None)` if
-/// the word is anything else. `Err` if there is no memory for the bytes.
+/// Returns the payload that the word spells: `-` for no bytes, or two hexadecimal digits of either case for each byte. Returns `Ok(None)`
+/// for any other word. Returns `Err` if there is no memory for the bytes.
 pub fn read_payload(alloc: Global, word: &[u8]) -> Result<Option<Payload>, OutOfMemory>
     ensures { IfOk result (λ found. found ≡ payload_of word.now) }
 {
@@ -53,14 +53,14 @@ pub fn read_payload(alloc: Global, word: &[u8]) -> Result<Option<Payload>, OutOf
     }
 }
 
-/// Returns the index behind the digits of `bytes` that begin at index `start`. `None` if it exceeds `usize::MAX`.
+/// Returns the index behind the digits of `bytes`, if they begin at index `start`. Returns `None` if it exceeds `usize::MAX`.
 fn digits_end(start: usize, bytes: &[u8]) -> Option<usize>
     ensures { IfSome result (λ end. end ≡ start + length bytes.now * 2) }
 {
     start.checked_add(bytes.len().checked_mul(2)?)
 }
 
-/// Appends the digits of `bytes`, in lower case. If memory is refused, `out` stays as it was.
+/// Appends the digits of `bytes`, in lower case. Returns `Err` if memory is refused; then `out` is as it was.
 fn put_digits(out: &mut Vec<u8>, bytes: &[u8]) -> Result<(), OutOfMemory>
     ensures ok { OnOk result (out.new.items ≡ out.old.items ++ encode_lower bytes.now) }
     ensures err { OnErr result (out.new.items ≡ out.old.items) }
@@ -72,8 +72,8 @@ fn put_digits(out: &mut Vec<u8>, bytes: &[u8]) -> Result<(), OutOfMemory>
     Ok(())
 }
 
-/// Appends the word for `bytes` to `out`: two hexadecimal digits in lower case for each byte, or `-` if there are no bytes. `Err` if
-/// there is no memory; then `out` is as it was.
+/// Appends the word for `bytes` to `out`: two hexadecimal digits in lower case for each byte, or `-` if there are no bytes. Returns `Err`
+/// if there is no memory; then `out` is as it was.
 pub fn put_payload(out: &mut Vec<u8>, bytes: &[u8]) -> Result<(), OutOfMemory>
     ensures ok { OnOk result (out.new.items ≡ out.old.items ++ payload_word bytes.now) }
     ensures err { OnErr result (out.new.items ≡ out.old.items) }

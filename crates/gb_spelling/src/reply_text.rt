@@ -52,9 +52,9 @@ fn put_log(out: &mut Vec<u8>, entries: &[Entry]) -> Result<(), OutOfMemory>
     put_entries(out, entries)
 }
 
-/// Appends the text of a reply to `out`, without a line end: `ok`; `said SEQ`; `log COUNT` and then for each entry a space and
-/// `ORIGIN:SEQ:PAYLOAD`; or `refused NUMBER NAME`. Payloads are hexadecimal digits in lower case, or `-` for no bytes. `Err` if there
-/// is no memory; then a part of the text may stand behind the earlier bytes.
+/// Appends the text of a reply to `out`, without a line feed: `ok`; `said SEQ`; `log COUNT` and then for each entry a space and
+/// `ORIGIN:SEQ:PAYLOAD`; or `refused NUMBER NAME`. Payloads are hexadecimal digits in lower case, or `-` for no bytes. Returns `Err` if
+/// there is no memory; then a part of the text may be behind the earlier bytes.
 pub fn put_reply(out: &mut Vec<u8>, reply: &Reply) -> Result<(), OutOfMemory>
     ensures ok { OnOk result (out.new.items ≡ out.old.items ++ reply_spelling reply.now) }
     ensures err { OnErr result (StartsWith out.new.items out.old.items) }
@@ -67,7 +67,7 @@ pub fn put_reply(out: &mut Vec<u8>, reply: &Reply) -> Result<(), OutOfMemory>
     }
 }
 
-/// Returns the text of a reply, as `put_reply` appends it, without a line end. `Err` if there is no memory.
+/// Returns the text of a reply, as `put_reply` appends it, without a line feed. Returns `Err` if there is no memory.
 pub fn reply_text(alloc: Global, reply: &Reply) -> Result<Vec<u8>, OutOfMemory>
     ensures { IfOk result (λ text. text.items ≡ reply_spelling reply.now) }
 {

@@ -11,21 +11,21 @@ use crate::payload_word::read_payload;
 use gb_types::{Addr, NewMessage, OutOfMemory, Spec};
 use std::alloc::Global;
 
-/// Returns the number that the word spells in decimal, 0 to 65,535. `None` if it spells no such number.
+/// Returns the number that the word spells in decimal, 0 to 65,535, or `None` if it spells no such number.
 pub fn read_u16(word: &[u8]) -> Option<u16>
     ensures { (n : ℕ) → (result ≡ Some n) ↔ (IsShort n × (word.now ≡ decimal n)) }
 {
     Some(read_number(word, 65_535)? as u16)
 }
 
-/// Returns the number that the word spells in decimal, 0 to 4,294,967,295. `None` if it spells no such number.
+/// Returns the number that the word spells in decimal, 0 to 4,294,967,295, or `None` if it spells no such number.
 pub fn read_u32(word: &[u8]) -> Option<u32>
     ensures { (n : ℕ) → (result ≡ Some n) ↔ (IsLong n × (word.now ≡ decimal n)) }
 {
     Some(read_number(word, 4_294_967_295)? as u32)
 }
 
-/// Returns the bytes of the word before its first dot, and those behind it. Without a dot, returns the whole word and `None`.
+/// Returns the bytes of the word before its first dot, and those behind it. If it has no dot, returns the whole word and `None`.
 fn cut_at_dot(word: &[u8]) -> (&[u8], Option<&[u8]>)
     ensures whole { word.now ≡ with_dot result.0.now (option_map (λ behind. behind.now) result.1) }
     ensures front { HasNoDot result.0.now }
@@ -36,7 +36,8 @@ fn cut_at_dot(word: &[u8]) -> (&[u8], Option<&[u8]>)
     }
 }
 
-/// Returns the generation that stands behind the dot of a group's word: 0 if there is no dot, else 1 to 4,294,967,295.
+/// Returns the generation behind the dot of a group's word, 1 to 4,294,967,295, or 0 if there is no dot. Returns `None` if it is no such
+/// number.
 fn read_generation(behind: Option<&[u8]>) -> Option<u32>
     ensures { (n : ℕ) → (result ≡ Some n) ↔ (IsLong n × (option_map (λ word. word.now) behind.entry ≡ generation_word n)) }
 {
@@ -51,7 +52,7 @@ fn read_generation(behind: Option<&[u8]>) -> Option<u32>
 }
 
 /// Returns the number of a group within its tenant, 0 to 65,535, and its generation. The word is `NUMBER` for generation 0, or
-/// `NUMBER.GENERATION` for a generation from 1 on. `None` if it is anything else.
+/// `NUMBER.GENERATION` for a generation from 1 on. Returns `None` for any other word.
 pub fn read_group(word: &[u8]) -> Option<(u16, u32)>
     ensures { (n : ℕ × ℕ) → (result ≡ Some n) ↔ AreGroupNumbers word.now n }
 {
@@ -62,7 +63,7 @@ pub fn read_group(word: &[u8]) -> Option<(u16, u32)>
 }
 
 /// Returns the address of a group. The word `tenant` is its tenant's number. The word `group` is `NUMBER` for generation 0, or
-/// `NUMBER.GENERATION` for a generation from 1 on. `None` if a word is anything else.
+/// `NUMBER.GENERATION` for a generation from 1 on. Returns `None` if a word is anything else.
 pub fn read_address(tenant: &[u8], group: &[u8]) -> Option<Addr>
     ensures { (address : TheAddress) → (result ≡ Some address)
         ↔ (IsShort address.tenant × (tenant.now ≡ decimal address.tenant)
@@ -77,8 +78,8 @@ pub fn read_address(tenant: &[u8], group: &[u8]) -> Option<Addr>
     })
 }
 
-/// Returns the limits of a group, each 0 to 4,294,967,295, in this order: the messages and the payload bytes that a member may say, and
-/// the messages of a member that may be unfinished at once. `None` if a word spells no such number.
+/// Returns the limits of a group, each 0 to 4,294,967,295, in this order: the number of messages and of payload bytes that a member may
+/// say, and the number of its messages that may be unfinished at once. Returns `None` if a word spells no such number.
 pub fn read_limits(msgs: &[u8], bytes: &[u8], window: &[u8]) -> Option<(u32, u32, u32)>
     ensures { (n : ℕ × ℕ × ℕ) → (result ≡ Some n)
         ↔ ((IsLong n.0 × (msgs.now ≡ decimal n.0))
@@ -91,8 +92,8 @@ pub fn read_limits(msgs: &[u8], bytes: &[u8], window: &[u8]) -> Option<(u32, u32
     Some((msgs, bytes, window))
 }
 
-/// Returns the parameters of a group, which five words spell: its kind of broadcast, its members, and the three limits of
-/// `read_limits`. `None` if there are not five words, or one of them is wrong.
+/// Returns the parameters of a group, which five words spell: its kind of broadcast, its members, and the three limits of `read_limits`.
+/// Returns `None` if there are not five words, or if one of them is wrong.
 pub fn read_spec(words: &[&[u8]]) -> Option<Spec>
     ensures { (spec : TheSpec) → (result ≡ Some spec)
         ↔ SpellsSpec spec (map (λ word. word.now) words.now) }
@@ -112,7 +113,8 @@ pub fn read_spec(words: &[&[u8]]) -> Option<Spec>
     })
 }
 
-/// Returns the number that a message must get: SEQ, or none if there is no word.
+/// Returns the number that a message must get, as the only word spells it, or `Some(None)` if there is no word. Returns `None` if the words
+/// are anything else.
 fn read_seq(words: &[&[u8]]) -> Option<Option<u32>>
     ensures { (seq : Option ℕ) → (result ≡ Some seq)
         ↔ (ForSome seq IsLong × (map (λ word. word.now) words.now ≡ seq_words seq)) }
@@ -124,8 +126,8 @@ fn read_seq(words: &[&[u8]]) -> Option<Option<u32>>
     }
 }
 
-/// Returns the message that the words spell: its payload, and then, if there is a second word, the number that it must get. `Ok(None)`
-/// if the words are anything else. `Err` if there is no memory for the payload.
+/// Returns the message that the words spell: its payload, and then, if there is a second word, the number that it must get. Returns
+/// `Ok(None)` if the words are anything else. Returns `Err` if there is no memory for the payload.
 pub fn read_message(alloc: Global, words: &[&[u8]]) -> Result<Option<NewMessage>, OutOfMemory>
     ensures { IfOk result (λ found. (message : TheMessage) → (found ≡ Some message)
         ↔ SpellsMessage message (map (λ word. word.now) words.now)) }

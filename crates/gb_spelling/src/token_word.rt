@@ -5,7 +5,7 @@ ghost use Rattle.gb_spelling.specs.TokenWord.{token_of};
 use crate::lower_digits::read_lower_token;
 use hex::FromHex;
 
-/// Returns the 32 bytes that the word spells: 64 hexadecimal digits of either case. `None` if the word is anything else.
+/// Returns the 32 bytes that the word spells, which is 64 hexadecimal digits of either case. Returns `None` for any other word.
 pub fn read_token(word: &[u8]) -> Option<[u8; 32]>
     ensures { result ≡ token_of word.now }
 {

@@ -1,4 +1,4 @@
--- Over a history a stack hands up and sends what its kind delivers and broadcasts.
+-- Over a history a stack delivers and sends what its kind delivers and broadcasts.
 use Rattle.gb_types.specs.Common.{◌≡◌, ℕ, List, [], ◌∷◌, ◌++◌, refl, ap, ◌∙◌}
 use Rattle.std.specs.FinSet as set
 use Rattle.gb_types.specs.declared.{kind.Kind.Kind, kind.Order.Order, kind.Order.TheVariants.Any, kind.Order.TheVariants.Fifo, message.MsgId.MsgId, node.NodeId.NodeId, kind.Module.Module}
@@ -21,11 +21,11 @@ use Rattle.gb_stack.specs.UnorderedLemmas.{stay, unordered_ups_handed_in}
 use Rattle.gb_stack.specs.StackLemmas.{ordered_next, ordered_gives}
 use Rattle.gb_stack.proofs.StartLemmas.{lower_untold, new_is}
 
--- a broadcast without an order that was told nothing
+-- a broadcast without an order that received no call
 abbrev untold : Module → NodeId → Nodes → UnorderedState
 untold base me members = unordered_noticing base me members set.empty
 
--- a relay among the broadcasts without an order is the module that its rules make
+-- a relay among the broadcasts without an order behaves as the module of its rules
 module _ (rules : Rules) (base : Module) (into : State NodeId → UnorderedState) (nexts : (s : State NodeId) (c : Call) → unordered_next (into s) c ≡ into (relayed_next rules s c))
     (alike : (s : State NodeId) (c : Call) → unordered_gives (into s) c ≡ relayed_gives rules s c) (is : IsModule rules base) (me : NodeId) (members : Nodes) (past : List Call) where
   relay_call : (c : Call) → unordered_gives (after unordered_next (into (at_start me members)) past) c ≡ relayed_gives rules (after (relayed_next rules) (at_start me members) past) c
@@ -70,7 +70,7 @@ unordered_log AllAck me members past l = relay_log all_ack_rules AllAck all_ack 
 unordered_log Majority me members past l = relay_log majority_ack_rules Majority majority_ack (λ s c. refl) (λ s c. refl) majority_ack_is_module me members past l
 
 module _ (base : Module) (me : NodeId) (members : Nodes) where
-  -- a fifo that was told nothing
+  -- a fifo that received no call
   abbrev ordered : FifoState UnorderedState
   ordered = record { lower = untold base me members; entries = [] }
 
@@ -118,7 +118,7 @@ grows_in Fifo earlier new = ordered_append [] earlier new
 pub log_grows : LogGrows
 log_grows kind me members c past = grows_in kind.order (log kind.module me members past) (delivers kind.module me members c past)
 
--- where the module delivers nothing, nor does the kind
+-- a kind delivers nothing where its module delivers nothing
 pub none_logged : (kind : Kind) (me : ℕ) (members : List ℕ) (past : List Call) → [] ≡ log kind.module me members past → [] ≡ kind_log kind me members past
 none_logged kind me members past none = elim kind.order as (λ order. [] ≡ released order [] (log kind.module me members past)) [ Any ↦ none | Fifo ↦ ap in_order none ]
 

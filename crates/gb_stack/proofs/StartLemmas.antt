@@ -1,4 +1,4 @@
--- Stacks that took the notices of nodes, and no other call.
+-- Stacks that received the notices of nodes, and no other call.
 use Rattle.gb_types.specs.Common.{◌≡◌, ℕ, ◌+◌, ◌<◌, Bool, true, false, cond, ◌&&◌, ◌||◌, not, nat_eq, nat_lt, List, [], ◌∷◌, map, refl, ap, ◌∙◌, sym, arith, list_any, nat_cmp, eqb-true, nat_tests, if◌then◌else◌, and-true, AreNodes}
 use Rattle.std.specs.{Cmp.nat_cmp_total, Cmp.unsigned_tied, FinSet.nat_cmp-IsAntisymmetric}
 use Rattle.std.specs.FinSet as set
@@ -13,7 +13,7 @@ use Rattle.gb_fifo.specs.Entries.{taken}
 use Rattle.gb_stack.specs.StackState.{StackState, unordered, fifo, lazy, eager, all_ack, majority_ack, relayed_next, relayed_gives, unordered_next, unordered_gives, unordered_me, unordered_noticing, IsUntold, IsUntoldStack, stack_next, stack_me, stack_over, stack_noticing, untold_stack, others_in, new_stack}
 use Rattle.gb_stack.specs.Stands.{is_other_noticed, HasHeard}
 
--- a relay that was told notices alone
+-- a relay that received notices alone
 abbrev noticing : NodeId → Nodes → Nodes → State NodeId
 noticing me members noticed = record { lower = me; members = members; noticed = noticed; entries = [] }
 
@@ -44,7 +44,7 @@ silent Eager me members noticed q = relay_silent eager_rules me members noticed 
 silent AllAck me members noticed q = relay_silent all_ack_rules me members noticed q
 silent Majority me members noticed q = relay_silent majority_ack_rules me members noticed q
 
--- one more node is noticed
+-- a stack that starts with noticed nodes and receives one more notice is the stack that starts with one more noticed node
 stack_more : (kind : Kind) (me : NodeId) (members noticed : Nodes) (q : NodeId) → stack_next (stack_noticing kind me members noticed) (Notice q) ≡ stack_noticing kind me members (set.insert noticed q.number)
 stack_more kind me members noticed q =
     let more = one_more kind.module me members noticed q in
@@ -54,7 +54,7 @@ stack_more kind me members noticed q =
       | Fifo ↦ λ i. fifo (record { lower = more i; entries = taken (none i).ups [] })
     ]
 
--- these nodes are noticed, one after the other
+-- a stack that receives these notices, one after the other, is the stack that starts with their nodes noticed
 pub told : (kind : Kind) (me : NodeId) (members : Nodes) (qs : List NodeId) → after stack_next (untold_stack kind me members) (map Notice qs) ≡ stack_noticing kind me members (noticed_in (map Notice qs))
 told kind me members [] = refl
 told kind me members (q ∷ qs) = ap (λ v. stack_next v (Notice q)) (told kind me members qs) ∙ stack_more kind me members (noticed_in (map Notice qs)) q
@@ -78,7 +78,7 @@ contains-others me members noticed b =
     and_swap false true = refl
     and_swap false false = refl
 
--- notices of the other members that were noticed, whichever way they are listed, make the new stack
+-- notices of the other members that were noticed, in any order, lead to the new stack
 pub new_is : (kind : Kind) (me : NodeId) (members noticed : Nodes) (qs : List NodeId) → ((b : ℕ) → list_any (λ q. nat_eq q.number b) qs ≡ is_other_noticed me members noticed b)
     → new_stack kind me members noticed ≡ after stack_next (untold_stack kind me members) (map Notice qs)
 new_is kind me members noticed qs tell =
@@ -87,7 +87,7 @@ new_is kind me members noticed qs tell =
     (λ b. contains-others me members noticed b ∙ (sym (tell b) ∙ sym (contains-noticed qs b))))
     ∙ sym (told kind me members qs)
 
--- no node was told of
+-- a layer that received no notice has heard of the noticed nodes below 0
 pub heard_none : {S : Type 0} (next : S → Call → S) (me : NodeId) (members noticed : Nodes) (s : S) → HasHeard next me members noticed 0 s s
 heard_none next me members noticed s = record {
   qs = [];
@@ -99,7 +99,7 @@ heard_none next me members noticed s = record {
     below_none true = refl
     below_none false = refl
 
--- one more node was told of, where it is another member that was noticed
+-- a layer has heard of one more node, if it received the notice of this node where it is another member that was noticed
 pub heard_more : {S : Type 0} (next : S → Call → S) (me : NodeId) (members noticed : Nodes) (i : ℕ) (old s s' : S) (q : NodeId) → q.number ≡ i → HasHeard next me members noticed i old s
     → s' ≡ (if is_other_noticed me members noticed q.number then next s (Notice q) else s) → HasHeard next me members noticed (i + 1) old s'
 heard_more {S} next me members noticed i old s s' q at heard now =
@@ -136,7 +136,7 @@ heard_more {S} next me members noticed i old s s' q at heard now =
           | false ↦ λ f. ap (λ x. t b && x) (let g : nat_lt b i ≡ nat_lt b (i + 1) = grind (arith, nat_tests, f, at) in g)
         ] refl
 
--- all nodes were told of
+-- an uncalled stack that has heard of all nodes is the new stack
 pub new_heard : (kind : Kind) (me : NodeId) (members noticed : Nodes) (old s : StackState) → AreNodes noticed → old ≡ untold_stack kind me members → HasHeard stack_next me members noticed NODES old s → s ≡ new_stack kind me members noticed
 new_heard kind me members noticed old s nodes from heard =
     heard.is ∙ (ap (λ v. after stack_next v (map Notice heard.qs)) from ∙ sym (new_is kind me members noticed heard.qs (λ b. heard.tell b ∙ all (set.contains noticed b) (set.contains members b) (not (nat_eq b me.number)) (nat_lt b NODES) (λ e. let below : b < NODES = nodes b e in grind (arith, nat_tests, below)))))
@@ -146,7 +146,7 @@ new_heard kind me members noticed old s nodes from heard =
     all true y z false f = let e : false ≡ true = f refl in cc
     all false y z w f = refl
 
--- a stack that was told nothing is at its node
+-- a stack that received no call is at its node
 pub untold_me : (kind : Kind) (me : NodeId) (members : Nodes) → stack_me (untold_stack kind me members) ≡ me
 untold_me kind me members =
     elim kind.order as (λ order. stack_me (stack_over order (unordered_noticing kind.module me members set.empty)) ≡ me) [
@@ -161,7 +161,7 @@ untold_me kind me members =
     at AllAck = refl
     at Majority = refl
 
--- a broadcast that was told nothing is so
+-- a broadcast without an order starts as one that received no call
 pub lower_untold : (base : Module) (me : NodeId) (members : Nodes) → IsUntold (unordered_noticing base me members set.empty)
 lower_untold BestEffort me members = tt
 lower_untold Lazy me members = record { lower = tt; noticed = refl; entries = refl }
@@ -169,7 +169,7 @@ lower_untold Eager me members = record { lower = tt; noticed = refl; entries = r
 lower_untold AllAck me members = record { lower = tt; noticed = refl; entries = refl }
 lower_untold Majority me members = record { lower = tt; noticed = refl; entries = refl }
 
--- and a stack over it
+-- a stack starts as one that received no call
 pub was_untold : (kind : Kind) (me : NodeId) (members : Nodes) → IsUntoldStack (untold_stack kind me members)
 was_untold kind me members =
     elim kind.order as (λ order. IsUntoldStack (stack_over order (unordered_noticing kind.module me members set.empty))) [

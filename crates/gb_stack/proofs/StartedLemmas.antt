@@ -19,7 +19,7 @@ module _ {S : Type 0} (next : S → Call → S) (gives : S → Call → Gives) (
       (λ i. ups_append past i ++ (gives (after_append past i) c).ups)
       ∙ append_assoc (all_ups next gives s earlier) (all_ups next gives (after next s earlier) past) (gives (after next (after next s earlier) past) c).ups
 
-  -- what comes up later comes up over all
+  -- a message is delivered later at most as often as it is delivered over all calls
   later_less : (past : List Call) (m : MsgId) → count_by (is_of m) (all_ups next gives (after next s earlier) past) ≤ count_by (is_of m) (all_ups next gives s (past ++ earlier))
   later_less past m =
       let e : count_by (is_of m) (all_ups next gives s (past ++ earlier)) ≡ count_by (is_of m) (all_ups next gives s earlier) + count_by (is_of m) (all_ups next gives (after next s earlier) past) =
@@ -49,7 +49,7 @@ came_more me (Notice q ∷ past) qs p m = came_more me past qs p m
 other : (q : NodeId) (me : ℕ) → nat_eq q.number me ≡ false → q.number ≢ me
 other q me h e = let k = eq-eqb q.number me e in cc
 
--- notices of other nodes may stand before a history that keeps the conditions
+-- a history that keeps the caller's conditions keeps them if notices of other nodes precede it
 fair_more : (me : ℕ) (past : List Call) (qs : List NodeId) → list_any (λ q. nat_eq q.number me) qs ≡ false → IsFair me past → IsFair me (past ++ map Notice qs)
 fair_more me [] [] h f = tt
 fair_more me [] (q ∷ qs) h f = (other q me (or_left (nat_eq q.number me) _ h), fair_more me [] qs (or_right (nat_eq q.number me) _ h) tt)
@@ -57,7 +57,7 @@ fair_more me (Say m ∷ past) qs h f = (said_more past qs m ∙ f.0, fair_more m
 fair_more me (Came p m ∷ past) qs h f = ((f.0.0, came_more me past qs p.number m ∙ f.0.1), fair_more me past qs h f.1)
 fair_more me (Notice q ∷ past) qs h f = (f.0, fair_more me past qs h f.1)
 
--- the node itself is not among those it is told of
+-- the node itself is not among the other members that it noticed
 not_itself : (me : NodeId) (members noticed : Nodes) → (is_other_noticed me members noticed me.number && nat_lt me.number NODES) ≡ false
 not_itself me members noticed =
     let e : not (nat_eq me.number me.number) ≡ false = ap not (eq-eqb me.number me.number refl) in

@@ -1,4 +1,4 @@
--- The state that a stack's layers represent, and what they know.
+-- The state that a stack's layers represent, and the calls that they are ready for.
 use Rattle.std.proofs.Common.{◌≡◌, ℕ, List, ◌++◌, ap, refl}
 use Rattle.gb_types.specs.declared.{message.MsgId.MsgId, node.NodeId.NodeId}
 use Rattle.gb_layer.specs.Common.{Rules, RelayKnows, relay_grows}
@@ -16,7 +16,7 @@ use Rattle.gb_stack.specs.StackState.{UnorderedState, best_effort, lazy, eager, 
 abbrev pub beb_of : List MsgId → Beb → NodeId
 beb_of ms b = b.me
 
--- the lowest layer keeps nothing of a message
+-- the lowest layer keeps nothing about a message
 abbrev pub beb_knows : List MsgId → Beb → ℕ → ℕ → Type 0
 beb_knows ms b n w = Unit {0}
 
@@ -28,11 +28,11 @@ unordered_of ms (Eager r) = eager (column.state_of beb_of ms r)
 unordered_of ms (AllAck r) = all_ack (column.state_of beb_of ms r)
 unordered_of ms (Majority r) = majority_ack (column.state_of beb_of ms r)
 
--- a relay over the lowest layer was told the first n places, and has memory for w
+-- a relay over the lowest layer received calls for the first n messages of the index, and has memory for w
 abbrev pub Relays : {R : Type 0} → Rules → List MsgId → Relay Beb R → ℕ → ℕ → Type 0
 Relays rules ms r n w = RelayKnows beb_of (λ s. s) rules beb_knows ms r n w
 
--- a broadcast without an order was told the first n places, and has memory for w
+-- a broadcast without an order received calls for the first n messages of the index, and has memory for w
 abbrev pub UnorderedKnows : List MsgId → Unordered → ℕ → ℕ → Type 0
 UnorderedKnows ms (BestEffort d) n w = Unit {0}
 UnorderedKnows ms (Lazy r) n w = Relays lazy_rules ms r n w
@@ -43,7 +43,7 @@ UnorderedKnows ms (Majority r) n w = Relays majority_ack_rules ms r n w
 relays_grow : {R : Type 0} (rules : Rules) (ms more : List MsgId) (r : Relay Beb R) (n w : ℕ) → Relays rules ms r n w → (column.state_of beb_of (ms ++ more) r ≡ column.state_of beb_of ms r) × Relays rules (ms ++ more) r n w
 relays_grow rules = relay_grows beb_of (λ s. s) rules beb_knows (λ ms more b n w k. (refl, tt))
 
--- more messages in the index change neither the state nor what the broadcast knows
+-- more messages in the index change neither the state of a broadcast nor the messages that it received
 pub unordered_grows : (ms more : List MsgId) (x : Unordered) (n w : ℕ) → UnorderedKnows ms x n w → (unordered_of (ms ++ more) x ≡ unordered_of ms x) × UnorderedKnows (ms ++ more) x n w
 unordered_grows ms more (BestEffort d) n w k = (refl, tt)
 unordered_grows ms more (Lazy r) n w k = let g = relays_grow lazy_rules ms more r n w k in (ap lazy g.0, g.1)
@@ -56,12 +56,12 @@ abbrev pub stack_of : List MsgId → Stack → StackState
 stack_of ms (Plain u) = unordered (unordered_of ms u)
 stack_of ms (Ordered f) = fifo (fifo_marks.state_of unordered_of ms f)
 
--- a stack was told the first n places, and has memory for w
+-- a stack received calls for the first n messages of the index, and has memory for w
 abbrev pub StackKnows : List MsgId → Stack → ℕ → ℕ → Type 0
 StackKnows ms (Plain u) n w = UnorderedKnows ms u n w
 StackKnows ms (Ordered f) n w = FifoKnows UnorderedKnows ms f n w
 
--- more messages in the index change neither the state nor what the stack knows
+-- more messages in the index change neither the state of a stack nor the messages that it received
 pub stack_grows : (ms more : List MsgId) (x : Stack) (n w : ℕ) → StackKnows ms x n w → (stack_of (ms ++ more) x ≡ stack_of ms x) × StackKnows (ms ++ more) x n w
 stack_grows ms more (Plain u) n w k = let g = unordered_grows ms more u n w k in (ap unordered g.0, g.1)
 stack_grows ms more (Ordered f) n w k = let g = fifo_grows unordered_of UnorderedKnows unordered_grows ms more f n w k in (ap fifo g.0, g.1)

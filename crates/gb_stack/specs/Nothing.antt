@@ -1,4 +1,4 @@
--- A sink that discards what it takes has room for all.
+-- A sink that discards all effects has room for all.
 use Rattle.gb_layer.specs.Common.{SplitsRoom}
 
 pub nothing_splits : SplitsRoom {S = Unit {0}} (λ _ _. tt) (λ _ _. tt) (λ _ _. Unit {0})

@@ -1,4 +1,4 @@
--- The histories that a stack stands for, and the laws that hold then.
+-- The histories that a stack represents, and the laws that hold then.
 use Rattle.std.specs.Prelude.{◌≡◌, ℕ, ◌≤◌, Bool, ◌&&◌, not, nat_eq, nat_lt, List, ◌∷◌, ◌++◌, map, count_by}
 use Rattle.std.specs.FinSet as set
 use Rattle.std.specs.List.{list_any}
@@ -8,68 +8,68 @@ use Rattle.gb_layer.specs.Common.{after, all_ups, messages, IsFair, is_of, IsLaw
 use Rattle.gb_kinds.specs.Kinds.{kind_delivers, kind_broadcasts, kind_log}
 use Rattle.gb_stack.specs.StackState.{StackState, stack_next, stack_gives, stack_me, IsUntoldStack, untold_stack, new_stack}
 
--- the state of a stack of a kind at the node me, in a group with these members, after these calls, the newest first
+-- the stack of a kind at node me, in a group with these members, is in this state after these calls, the newest first
 pub record IsStackAfter (kind : Kind) (me : NodeId) (members : Nodes) (calls : List Call) (value : StackState) : Type 0 where
   pub is : value ≡ after stack_next (untold_stack kind me members) calls
 
--- the node b is another member that was noticed
+-- node b is another member that was noticed
 abbrev pub is_other_noticed : NodeId → Nodes → Nodes → ℕ → Bool
 is_other_noticed me members noticed b = (set.contains noticed b && set.contains members b) && not (nat_eq b me.number)
 
--- a stack that starts at a node which has noticed these nodes stands for notices of the other members among them, in whatever order they are listed
+-- a stack that starts at a node with these noticed nodes represents the notices of the other members among them, listed in any order
 abbrev pub NewStackStands : Type 0
 NewStackStands =
     (kind : Kind) (me : NodeId) (members noticed : Nodes) (qs : List NodeId)
     → ((b : ℕ) → list_any (λ q. nat_eq q.number b) qs ≡ is_other_noticed me members noticed b)
     → IsStackAfter kind me members (map Notice qs) (new_stack kind me members noticed)
 
--- between two states a layer took the notices of the other members that were noticed, with numbers below a bound
+-- between two states a layer received the notices of those other members below a bound that were noticed
 pub record HasHeard {S : Type 0} (next : S → Call → S) (me : NodeId) (members noticed : Nodes) (bound : ℕ) (old new : S) : Type 0 where
   pub qs : List NodeId
   pub tell : (b : ℕ) → list_any (λ q. nat_eq q.number b) qs ≡ (is_other_noticed me members noticed b && nat_lt b bound)
   pub is : new ≡ after next old (map Notice qs)
 
--- a stack to which no call was made took the notices of the other members that were noticed, and no other call
+-- a stack that had received no call received the notices of the other members that were noticed, and no other call
 pub record HasStarted (me : NodeId) (members noticed : Nodes) (value : StackState) : Type 0 where
   pub start : StackState
   pub untold : IsUntoldStack start
   pub here : stack_me start ≡ me
   pub heard : HasHeard stack_next me members noticed NODES start value
 
--- after any further calls of such a stack no message comes up twice, if the caller keeps its conditions
+-- after any further calls of such a stack no message was delivered twice, if the caller keeps its conditions
 abbrev pub StartedHandsUpEachOnce : Type 0
 StartedHandsUpEachOnce =
     (me : NodeId) (members noticed : Nodes) (value : StackState) (past : List Call) (m : MsgId)
     → HasStarted me members noticed value → IsFair me.number past → count_by (is_of m) (all_ups stack_next stack_gives value past) ≤ 1
 
--- after a call a stack stands for the history with it
+-- after a call a stack represents the history with the call
 abbrev pub CalledStackStands : Type 0
 CalledStackStands =
     (kind : Kind) (me : NodeId) (members : Nodes) (calls : List Call) (value : StackState) (c : Call)
     → IsStackAfter kind me members calls value → IsStackAfter kind me members (c ∷ calls) (stack_next value c)
 
--- the messages that a call hands up are those that the kind delivers then
+-- the messages that a call of a stack delivers are those that the kind delivers then
 abbrev pub HandsUpWhatIsDelivered : Type 0
 HandsUpWhatIsDelivered =
     (kind : Kind) (me : NodeId) (members : Nodes) (calls : List Call) (value : StackState) (c : Call)
     → IsStackAfter kind me members calls value → IsLawful me.number (c ∷ calls)
     → messages (stack_gives value c).ups ≡ kind_delivers kind me.number (set.items members) c calls
 
--- the messages that a call sends are those that the kind broadcasts then
+-- the messages that a call of a stack sends are those that the kind broadcasts then
 abbrev pub SendsWhatIsBroadcast : Type 0
 SendsWhatIsBroadcast =
     (kind : Kind) (me : NodeId) (members : Nodes) (calls : List Call) (value : StackState) (c : Call)
     → IsStackAfter kind me members calls value → IsLawful me.number (c ∷ calls)
     → (stack_gives value c).sends ≡ kind_broadcasts kind me.number c calls
 
--- all that comes up over a history is the kind's log
+-- the messages that a stack delivers over a history are the kind's log
 abbrev pub HandsUpTheLog : Type 0
 HandsUpTheLog =
     (kind : Kind) (me : NodeId) (members : Nodes) (calls : List Call)
     → IsLawful me.number calls
     → messages (all_ups stack_next stack_gives (untold_stack kind me members) calls) ≡ kind_log kind me.number (set.items members) calls
 
--- a kind's log grows by the messages that the kind delivers
+-- a call appends to a kind's log the messages that the kind delivers then
 abbrev pub LogGrows : Type 0
 LogGrows =
     (kind : Kind) (me : ℕ) (members : List ℕ) (c : Call) (past : List Call)

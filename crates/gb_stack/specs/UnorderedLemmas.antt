@@ -9,7 +9,7 @@ use Rattle.gb_uniform.specs.Rules.{all_ack_rules, majority_ack_rules}
 use Rattle.gb_stack.specs.InsideLemmas.{sends_handed_in_into, ups_handed_in_into, up_once_into, sent_once_into, noticed_once_into}
 use Rattle.gb_stack.specs.StackState.{best_effort, lazy, eager, all_ack, majority_ack, relayed_next, relayed_gives, unordered_next, unordered_gives, unordered_me, IsUntold}
 
--- `Beb` has no condition on its start
+-- `Beb` has no condition on its first state
 abbrev IsAny : NodeId → Type 0
 IsAny _ = Unit {0}
 
@@ -17,7 +17,7 @@ IsAny _ = Unit {0}
 abbrev pub stay : NodeId → Call → NodeId
 stay s _ = s
 
--- best effort hands up what came from its origin
+-- best effort delivers each message that came from its origin
 abbrev direct_gives : NodeId → Call → Gives
 direct_gives s c = own_gives (beb_gives s c)
 

@@ -1,10 +1,10 @@
-//! A sink that discards what it takes.
+//! A sink that discards all effects.
 ghost use Rattle.std.proofs.Common.{refl};
 
 use gb_layer::{Index, Sink};
 use gb_types::NodeId;
 
-/// Discards each message and each pair. It has room for all.
+/// Discards each message that is sent and each pair that is delivered. It has room for all.
 #[derive(Drop)]
 pub(crate) struct Nothing {}
 

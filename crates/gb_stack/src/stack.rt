@@ -13,8 +13,7 @@ use gb_types::limits::NODES;
 use gb_types::{Kind, NodeId, NodeSet, Order, OutOfMemory, Spec};
 use std::alloc::Global;
 
-/// Makes the layer take the notice of a node, if the node is another member that was noticed. What the layer sends and hands up is
-/// discarded.
+/// Passes the layer the notice of a node, if the node is another member that was noticed. Discards what the layer sends and delivers.
 fn hear_of<L: Layer>(
     layer: &mut L,
     index: &Index,
@@ -33,7 +32,7 @@ fn hear_of<L: Layer>(
     }
 }
 
-/// Makes the layer take the notices of the other members that were noticed. What the layer sends and hands up is discarded.
+/// Passes the layer the notices of the other members that were noticed. Discards what the layer sends and delivers.
 fn hear<L: Layer>(layer: &mut L, index: &Index, me: NodeId, members: &NodeSet, noticed: &NodeSet)
     requires { L.knows index.now.list.items layer.old 0 0 }
     ensures heard { HasHeard L.next me members.now noticed.now NODES (L.meaning index.now.list.items layer.old) (L.meaning index.now.list.items layer.new) }
@@ -45,8 +44,8 @@ fn hear<L: Layer>(layer: &mut L, index: &Index, me: NodeId, members: &NodeSet, n
     }
 }
 
-/// The broadcast of a group, of the kind that the group chose: one of five (Cachin, Guerraoui, Rodrigues 2011, chapter 3), plain or
-/// in the order of each origin.
+/// The broadcast of a group, of the kind that the group chose: one of five modules (Cachin, Guerraoui, Rodrigues 2011, chapter 3),
+/// plain or in the order of each origin.
 #[derive(Drop)]
 pub enum Stack {
     Plain(Unordered),
@@ -54,7 +53,7 @@ pub enum Stack {
 }
 
 impl Stack {
-    /// Returns a stack to which no call was made.
+    /// Returns a stack that has received no call.
     fn untold(alloc: Global, kind: Kind, me: NodeId, members: NodeSet) -> Stack
         ensures meaning { (ms : List MsgId) → ⟦<Stack as Layer>⟧.meaning ms result ≡ untold_stack kind me members }
         ensures known { (ms : List MsgId) → ⟦<Stack as Layer>⟧.knows ms result 0 0 }
@@ -66,8 +65,8 @@ impl Stack {
         }
     }
 
-    /// Returns the broadcast of a group at the node `me`, which holds the nodes `noticed` for crashed (noticed as crashed). It starts
-    /// as if it had been told, one after the other, that the other members among them are crashed. It was told no place, and has no
+    /// Returns the broadcast of a group at node `me`, which holds the nodes `noticed` for crashed (noticed as crashed). The broadcast starts
+    /// as if it had received, one after the other, the notices of the other members among them. It has received no message, and has no
     /// memory for one.
     pub fn new(alloc: Global, spec: &Spec, me: NodeId, noticed: &NodeSet) -> Stack
         ensures meaning { (ms : List MsgId) → ⟦<Stack as Layer>⟧.meaning ms result ≡ new_stack spec.now.kind me spec.now.members noticed.now }
@@ -77,7 +76,7 @@ impl Stack {
         let mut stack = Stack::untold(alloc, spec.kind, me, spec.members.duplicate());
         let index = Index::new(alloc);
         hear(&mut stack, &index, me, &spec.members, noticed);
-        // The proof reads that only nodes were noticed.
+        // This call shows the prover that `noticed` contains only nodes.
         let _ = noticed.nodes();
         stack
     }

@@ -23,7 +23,7 @@ pub enum Unordered {
 }
 
 impl Unordered {
-    /// Returns the broadcast of a module at the node `me`, in a group with these members. It was told no place and has noticed nobody.
+    /// Returns the broadcast of a module at node `me`, in a group with these members. It has received no message and has noticed no node.
     pub fn new(alloc: Global, base: Module, me: NodeId, members: NodeSet) -> Unordered
         ensures meaning { (ms : List MsgId) → ⟦<Unordered as Layer>⟧.meaning ms result ≡ unordered_noticing base me members set.empty }
         ensures known { (ms : List MsgId) → ⟦<Unordered as Layer>⟧.knows ms result 0 0 }

@@ -1,4 +1,4 @@
--- How a node's figures are written. Source: the text exposition format 0.0.4 of Prometheus.
+-- The text of a node's figures. Source: the text exposition format 0.0.4 of Prometheus.
 use Rattle.std.specs.Prelude.{ℕ, ◌-◌, ◌^◌, List, ◌++◌, codes, decimal, slice_index, min}
 use Rattle.std.specs.List.{flat_map}
 use Rattle.gb_status.specs.declared.{figure.Figure.Figure, figure.TheConstants.FIGURES, figures.Figures.Figures, figures.NodeFigures.NodeFigures}
@@ -8,7 +8,7 @@ use Rattle.gb_status.specs.Names.{family_of, head_of, label_of, line_feed, place
 abbrev pub value_of : Figures → Figure → ℕ
 value_of figures figure = slice_index figures.numbers (place_of figure)
 
--- a count has 64 bits, and stays at 2^64 - 1 once it is reached
+-- a count of 64 bits, which stays at 2^64 - 1 once it has reached it
 abbrev pub capped : ℕ → ℕ
 capped n = min n (2 ^ 64 - 1)
 
@@ -19,7 +19,7 @@ front_text figure node = family_of figure ++ codes "{node=" ++ quote ++ decimal 
 abbrev pub line_text : Figure → ℕ → ℕ → List ℕ
 line_text figure node number = front_text figure node ++ codes "} " ++ decimal number ++ line_feed
 
--- the lines that stand above a figure, and its own lines, one for each node
+-- the lines above a figure, and its own lines, one for each node
 abbrev pub figure_text : List NodeFigures → Figure → List ℕ
 figure_text all figure = head_of figure ++ flat_map (λ row. line_text figure row.node.number (value_of row.figures figure)) all
 

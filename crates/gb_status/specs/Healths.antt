@@ -9,13 +9,13 @@ use Rattle.gb_status.specs.declared.health.NodeHealth.{NodeHealth}
 abbrev pub is_apart : ℕ → ℕ → Bool
 is_apart noticed others = if others == 0 then false else nat_le others (2 * noticed)
 
--- how the loops that run are
+-- the health of a server whose loops all run
 abbrev pub running_health : List NodeHealth → ℕ → Health
 running_health rows others =
     if list_any (λ row. row.is_stalled) rows then Stalled
     else (if list_any (λ row. is_apart row.noticed others) rows then Apart else Well)
 
--- how a server of these nodes is
+-- the health of a server of these nodes
 abbrev pub health_of : List NodeHealth → ℕ → Bool → Health
 health_of rows others is_over =
     if is_over then Ended else (if list_all (λ row. row.is_running) rows then running_health rows others else Ended)

@@ -1,4 +1,4 @@
--- The names of a node's figures, and how they stand in a text. Source: the text exposition format 0.0.4 of Prometheus.
+-- The names of a node's figures in texts. Source: the text exposition format 0.0.4 of Prometheus.
 use Rattle.std.specs.Prelude.{ℕ, List, [], ◌++◌, ◌∷◌, codes}
 use Rattle.gb_status.specs.declared.figure.Figure.{Figure}
 use Rattle.gb_status.specs.declared.figure.Figure.TheVariants.{RequestsTenant, RequestsMake, RequestsOpen, RequestsShut, RequestsDrop, RequestsSay, RequestsFetch, RefusedDenied, RefusedNoGroup, RefusedSpent, RefusedBadMembers, RefusedOverReserve, RefusedWrongPhase, RefusedTooLong, RefusedBudget, RefusedBytes, RefusedWindow, RefusedBadPlace, RefusedNoRoom, RefusedTenantThere, RefusedMalformed, RefusedStopped, RefusedOutOfMemory, Said, Fetched, GroupsMade, GroupsDropped, FramesPacked, FramesAgain, Acknowledgements, PacketsBare, PacketsFirst, PacketsSeen, PacketsOutside, Items, FaultShort, FaultMagic, FaultVersion, FaultNode, FaultMask, FaultCount, FaultLength, FaultTrailing, FaultTooLong, FaultTag, Lost, PortFailures, Strangers, Unreached, Noticed, Ticks, Accepted, TurnedAway, Open, Waiting, PlacesLeft, Running}
@@ -9,7 +9,7 @@ quote = 34 ∷ []
 abbrev pub line_feed : List ℕ
 line_feed = 10 ∷ []
 
--- the place of a figure in a table of figures
+-- the index of a figure in a table of figures
 abbrev pub place_of : Figure → ℕ
 place_of RequestsTenant = 0
 place_of RequestsMake = 1
@@ -189,7 +189,7 @@ family_of Waiting = codes "foqradesh_connections_waiting"
 family_of PlacesLeft = codes "foqradesh_places_left"
 family_of Running = codes "foqradesh_node_running"
 
--- what stands behind the node in that text's braces
+-- the labels of a figure behind the node's label in that text
 abbrev pub label_of : Figure → List ℕ
 label_of RequestsTenant = codes ",kind=" ++ quote ++ codes "tenant" ++ quote
 label_of RequestsMake = codes ",kind=" ++ quote ++ codes "make" ++ quote
@@ -249,7 +249,7 @@ label_of Waiting = []
 label_of PlacesLeft = []
 label_of Running = []
 
--- the lines that stand above a name's first figure, and nothing for its others
+-- the lines above the first figure of a name; nothing for the other figures of that name
 abbrev pub head_of : Figure → List ℕ
 head_of RequestsTenant = codes "# HELP foqradesh_requests_total Requests answered, by kind." ++ line_feed ++ codes "# TYPE foqradesh_requests_total counter" ++ line_feed
 head_of RequestsMake = []

@@ -1,4 +1,4 @@
-//! Where each node's thread puts the node's figures for other threads to read.
+//! The board on which each node's thread stores the node's figures for other threads to read.
 use crate::facts::{NodeNoticed, NodeRecord};
 use crate::figure::COUNT;
 use crate::figures::{Figures, NodeFigures};
@@ -10,7 +10,7 @@ use std::alloc::Global;
 use std::sync::atomic::{AtomicU64, Ordering};
 
 /// For each node, a number for each figure and the set of nodes that it noticed. One thread may write them while others read.
-/// Each number is one that was put there, but the numbers of a node may come from two puts.
+/// Each number is one that was stored, but the numbers of a node may come from two stores.
 #[derive(Drop)]
 pub struct Board {
     // The nodes that have a row: `count` of them from number `first` on.
@@ -19,25 +19,25 @@ pub struct Board {
     numbers: Vec<AtomicU64>,
     // The bit with a noticed node's number is 1.
     noticed: Vec<AtomicU64>,
-    // How often the node's figures were put.
+    // For each node, the number of times that its figures were stored.
     puts: Vec<AtomicU64>,
-    // For each node and each other one, how many lines are due of each misfit.
+    // For each node and each other one, the number of lines of each misfit that the log is to have.
     misfits: Vec<AtomicU64>,
-    // How many bytes were written to each node's record, if it has one: the number is one more.
+    // For each node, one more than the number of bytes that were written to its record; 0 if it has no record.
     records: Vec<AtomicU64>,
-    // For each node, what its loop measured: the counts of the buckets, then the count and the sum, of rounds and then of replies.
+    // For each node, the measurements of its loop: the counts of the buckets, then the count and the sum, of rounds and then of replies.
     times: Vec<AtomicU64>,
 }
 
 // The number of misfits.
 const MISFITS: usize = 2;
 
-// How many numbers there are of a histogram, and of a node.
+// The number of values of a histogram, and of all histograms of a node.
 const TIMES: usize = BUCKETS + 2;
 
 const ALL_TIMES: usize = 2 * TIMES;
 
-// The place of a misfit among those of a node.
+// Returns the index of a misfit among those of a node.
 fn misfit_place(other: NodeId, misfit: Misfit) -> usize {
     let kind = match misfit {
         Misfit::Key => 0,
@@ -57,7 +57,7 @@ fn bits_of(nodes: &NodeSet) -> u64 {
     bits
 }
 
-// Returns the set that a number stands for.
+// Returns the set of nodes that a number encodes.
 fn set_of(bits: u64) -> NodeSet {
     let mut nodes = NodeSet::new();
     for number in 0..NODES {
@@ -115,7 +115,7 @@ impl Board {
     }
 
     /// Stores the figures of a node on the board, and the set of nodes that it holds for crashed (noticed as crashed). They replace
-    /// those that were stored for it. If the node has no row on the board, nothing is stored. Takes no memory and no lock.
+    /// the ones that were stored for it. If the node has no row on the board, nothing is stored. Takes no memory and no lock.
     pub fn put(&self, node: NodeId, figures: &Figures, noticed: &NodeSet) {
         let Some(place) = self.place(node) else {
             return;
@@ -134,7 +134,7 @@ impl Board {
         }
     }
 
-    /// Returns how often figures were stored for a node, modulo 2^64: once a tick of its loop. It is 0 if the node has no row on the board.
+    /// Returns the number of times that figures were stored for a node, modulo 2^64: once a tick of its loop. It is 0 without a row on the board.
     pub fn puts(&self, node: NodeId) -> u64 {
         match self.place(node) {
             Some(place) => match self.puts.get(usize::from(place)) {
@@ -172,22 +172,22 @@ impl Board {
         }
     }
 
-    // The number of lines that are due of a misfit.
+    // Returns the number of lines of a misfit that the log is to have. `None` if the node has no row on the board.
     fn misfit(&self, node: NodeId, other: NodeId, misfit: Misfit) -> Option<&AtomicU64> {
         let row = usize::from(self.place(node)?) * (NODES * MISFITS);
         self.misfits
             .get(row.saturating_add(misfit_place(other, misfit)))
     }
 
-    /// Notes that the log is to have one more line of packets that come to a node from the address of another one and do not fit. If the
-    /// node has no row on the board, nothing is noted.
+    /// Counts one more line that the log is to have, about packets that come to a node from the address of another one and do not fit. If
+    /// the node has no row on the board, nothing is counted.
     pub fn note_misfit(&self, node: NodeId, other: NodeId, misfit: Misfit) {
         if let Some(count) = self.misfit(node, other, misfit) {
             count.fetch_add(1, Ordering::SeqCst);
         }
     }
 
-    /// Returns how many such lines the log is to have had so far. It is 0 if the node has no row on the board.
+    /// Returns the number of lines that `note_misfit` has counted for these arguments. It is 0 if the node has no row on the board.
     pub fn misfits(&self, node: NodeId, other: NodeId, misfit: Misfit) -> u64 {
         match self.misfit(node, other, misfit) {
             Some(count) => count.load(Ordering::SeqCst),
@@ -220,14 +220,14 @@ impl Board {
         Ok(all)
     }
 
-    // Stores one of the numbers of what a node's loop measured.
+    // Stores one value of the measurements of a node's loop.
     fn put_number(&self, at: usize, number: u64) {
         if let Some(word) = self.times.get(at) {
             word.store(number, Ordering::SeqCst);
         }
     }
 
-    // Stores a histogram from a place on.
+    // Stores a histogram from an index on.
     fn put_histogram(&self, from: usize, times: &Times) {
         for at in 0..BUCKETS {
             self.put_number(from.saturating_add(at), times.buckets[at].count);
@@ -236,8 +236,8 @@ impl Board {
         self.put_number(from.saturating_add(BUCKETS + 1), times.sum);
     }
 
-    /// Stores what the loop of a node measured. It replaces what was stored for it. If the node has no row on the board, nothing is stored.
-    /// Takes no memory and no lock.
+    /// Stores the measurements of a node's loop. They replace the ones that were stored for it. If the node has no row on the board, nothing
+    /// is stored. Takes no memory and no lock.
     pub fn put_times(&self, node: NodeId, times: &LoopTimes) {
         if let Some(place) = self.place(node) {
             let from = usize::from(place) * ALL_TIMES;
@@ -246,7 +246,7 @@ impl Board {
         }
     }
 
-    // Returns one of the numbers of what a node's loop measured.
+    // Returns one value of the measurements of a node's loop.
     fn number(&self, at: usize) -> u64 {
         match self.times.get(at) {
             Some(word) => word.load(Ordering::SeqCst),
@@ -254,7 +254,7 @@ impl Board {
         }
     }
 
-    // Returns the histogram that is stored from a place on.
+    // Returns the histogram that is stored from an index on.
     fn histogram(&self, from: usize) -> Times {
         let mut times = Times::new();
         for at in 0..BUCKETS {
@@ -265,7 +265,7 @@ impl Board {
         times
     }
 
-    /// Returns what the loop of a node measured, as it is stored. Nothing was measured if the node has no row on the board.
+    /// Returns the measurements of a node's loop, as they are stored. They are empty if the node has no row on the board.
     pub fn times(&self, node: NodeId) -> LoopTimes {
         let Some(place) = self.place(node) else {
             return LoopTimes::new();
@@ -277,7 +277,7 @@ impl Board {
         }
     }
 
-    /// Returns what the loop of each node that has a row on the board measured, by rising numbers of nodes. `Err` if there is no memory.
+    /// Returns the measurements of the loop of each node that has a row on the board, by rising numbers of nodes. `Err` if there is no memory.
     pub fn all_times(&self, alloc: Global) -> Result<Vec<NodeTimes>, OutOfMemory> {
         let mut all = Vec::new(alloc);
         for place in 0..self.count {
@@ -289,7 +289,7 @@ impl Board {
         Ok(all)
     }
 
-    /// Notes how many bytes were written to the record of a node. If the node has no row on the board, nothing is noted.
+    /// Stores the number of bytes that were written to the record of a node. If the node has no row on the board, nothing is stored.
     pub fn put_record(&self, node: NodeId, bytes: u64) {
         if let Some(place) = self.place(node)
             && let Some(word) = self.records.get(usize::from(place))
@@ -298,7 +298,7 @@ impl Board {
         }
     }
 
-    /// Returns how many bytes were written to the record of each node of which that was noted, by rising numbers of nodes. `Err` if there
+    /// Returns, for each node with a stored number of bytes of its record, that number, by rising numbers of nodes. `Err` if there
     /// is no memory.
     pub fn all_records(&self, alloc: Global) -> Result<Vec<NodeRecord>, OutOfMemory> {
         let mut all = Vec::new(alloc);

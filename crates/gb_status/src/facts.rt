@@ -1,5 +1,5 @@
-//! What a server says of itself beside the figures of its nodes: its version, its start, its process, which node has noticed which, how
-//! long its records are, and how long its loops took.
+//! A server's report about itself beside the figures of its nodes: its version, its start, its process, which node has noticed which, the
+//! lengths of its records, and the times of its loops.
 ghost use Rattle.std.specs.Prelude.{◌≡◌, ◌++◌, IfOk, OnOk, decimal};
 ghost use Rattle.gb_types.specs.Common.{rising};
 ghost use Rattle.gb_status.specs.Facts.{build_front, build_text, memory_front, noticed_line, noticed_text, number_line, processor_front, process_text, quoted, record_front, record_head, record_line, records_text, row_text, started_front, suspected_front, suspected_head, time_line};
@@ -11,21 +11,21 @@ use gb_types::memory::put_bytes;
 use gb_types::{NodeId, NodeSet, OutOfMemory};
 use std::alloc::Global;
 
-/// What a server says of itself.
+/// The facts that a server reports about itself.
 #[derive(Clone, Copy)]
 pub struct Facts<'a> {
     /// The version of the program.
     pub version: &'a [u8],
-    /// When it started, in seconds since the beginning of the year 1970.
+    /// The time of its start, in seconds since the beginning of the year 1970.
     pub started: u64,
-    /// What the system says of its process. `None` if it does not say.
+    /// The facts that the system reports about its process. `None` if it reports none.
     pub process: Option<Process>,
 }
 
-/// What the system says of a process.
+/// The facts that the system reports about a process.
 #[derive(Clone, Copy, Debug, PartialEq, Eq)]
 pub struct Process {
-    /// The bytes of its memory that are in the machine's.
+    /// The bytes of its memory that are resident in the machine's memory.
     pub memory: u64,
     /// The processor time that it took in all its threads, in microseconds.
     pub processor: u64,
@@ -38,14 +38,14 @@ pub struct NodeNoticed {
     pub noticed: NodeSet,
 }
 
-/// How many bytes the record of a node has grown by since the server's start.
+/// The number of bytes that the record of a node has grown by since the server's start.
 #[derive(Clone, Copy)]
 pub struct NodeRecord {
     pub node: NodeId,
     pub bytes: u64,
 }
 
-/// What a server says of each of its nodes, beside the figures.
+/// The facts that a server reports about each of its nodes, beside the figures.
 #[derive(Clone, Copy)]
 pub struct NodeRows<'a> {
     pub noticed: &'a [NodeNoticed],
@@ -53,7 +53,7 @@ pub struct NodeRows<'a> {
     pub times: &'a [NodeTimes],
 }
 
-// Returns what stands in front of the version.
+// Returns the text in front of the version.
 #[tactic(auto, unfolding(crate::specs::Facts::build_front))]
 fn build_front() -> &'static [u8]
     ensures { result.now ≡ build_front }
@@ -61,7 +61,7 @@ fn build_front() -> &'static [u8]
     b"# HELP foqradesh_build_info The version of the program; always 1.\n# TYPE foqradesh_build_info gauge\nfoqradesh_build_info{version="
 }
 
-// Returns what stands in front of the start.
+// Returns the text in front of the start.
 #[tactic(auto, unfolding(crate::specs::Facts::started_front))]
 fn started_front() -> &'static [u8]
     ensures { result.now ≡ started_front }
@@ -69,7 +69,7 @@ fn started_front() -> &'static [u8]
     b"# HELP process_start_time_seconds Start time of the process since unix epoch in seconds.\n# TYPE process_start_time_seconds gauge\nprocess_start_time_seconds "
 }
 
-// Returns what stands in front of the memory.
+// Returns the text in front of the memory.
 #[tactic(auto, unfolding(crate::specs::Facts::memory_front))]
 fn memory_front() -> &'static [u8]
     ensures { result.now ≡ memory_front }
@@ -77,7 +77,7 @@ fn memory_front() -> &'static [u8]
     b"# HELP process_resident_memory_bytes Resident memory size in bytes.\n# TYPE process_resident_memory_bytes gauge\nprocess_resident_memory_bytes "
 }
 
-// Returns what stands in front of the processor time.
+// Returns the text in front of the processor time.
 #[tactic(auto, unfolding(crate::specs::Facts::processor_front))]
 fn processor_front() -> &'static [u8]
     ensures { result.now ≡ processor_front }
@@ -93,7 +93,7 @@ fn record_head() -> &'static [u8]
     b"# HELP foqradesh_record_bytes_total Bytes written to the node's record.\n# TYPE foqradesh_record_bytes_total counter\n"
 }
 
-// Returns what stands in front of the number of a node with a record.
+// Returns the text in front of the number of a node with a record.
 #[tactic(auto, unfolding(crate::specs::Facts::record_front))]
 fn record_front() -> &'static [u8]
     ensures { result.now ≡ record_front }
@@ -109,7 +109,7 @@ fn suspected_head() -> &'static [u8]
     b"# HELP foqradesh_node_suspected 1 for each other node that the node has noticed as crashed.\n# TYPE foqradesh_node_suspected gauge\n"
 }
 
-// Returns what stands in front of the number of a node that has noticed another one.
+// Returns the text in front of the number of a node that has noticed another one.
 #[tactic(auto, unfolding(crate::specs::Facts::suspected_front))]
 fn suspected_front() -> &'static [u8]
     ensures { result.now ≡ suspected_front }
@@ -117,7 +117,7 @@ fn suspected_front() -> &'static [u8]
     b"foqradesh_node_suspected{node="
 }
 
-// Appends a number behind its front.
+// Appends the line of a number, behind the text in front of it.
 fn put_number_line(out: &mut Vec<u8>, front: &[u8], number: u64) -> Result<(), OutOfMemory>
     ensures { OnOk result (out.new.items ≡ out.old.items ++ number_line front.now number) }
 {
@@ -135,7 +135,7 @@ pub fn put_quoted(out: &mut Vec<u8>, word: &[u8]) -> Result<(), OutOfMemory>
     put_bytes(out, b"\"")
 }
 
-// Appends the version of the program.
+// Appends the lines of the program's version.
 fn put_build(out: &mut Vec<u8>, version: &[u8]) -> Result<(), OutOfMemory>
     ensures { OnOk result (out.new.items ≡ out.old.items ++ build_text version.now) }
 {
@@ -174,7 +174,7 @@ fn put_row(out: &mut Vec<u8>, node: u64, noticed: &NodeSet) -> Result<(), OutOfM
     Ok(())
 }
 
-// Appends the lines of the nodes that nodes have noticed.
+// Appends the lines of all nodes that each of the nodes has noticed.
 fn put_rows(out: &mut Vec<u8>, rows: &[NodeNoticed]) -> Result<(), OutOfMemory>
     ensures { OnOk result (out.new.items ≡ out.old.items ++ noticed_text rows.now) }
 {
@@ -184,7 +184,7 @@ fn put_rows(out: &mut Vec<u8>, rows: &[NodeNoticed]) -> Result<(), OutOfMemory>
     Ok(())
 }
 
-// Appends how long the record of a node is.
+// Appends the line of the length of a node's record.
 fn put_record(out: &mut Vec<u8>, node: u64, bytes: u64) -> Result<(), OutOfMemory>
     ensures { OnOk result (out.new.items ≡ out.old.items ++ record_line node bytes) }
 {
@@ -195,7 +195,7 @@ fn put_record(out: &mut Vec<u8>, node: u64, bytes: u64) -> Result<(), OutOfMemor
     put_bytes(out, b"\n")
 }
 
-// Appends how long records are.
+// Appends the lines of the lengths of records.
 fn put_records(out: &mut Vec<u8>, rows: &[NodeRecord]) -> Result<(), OutOfMemory>
     ensures { OnOk result (out.new.items ≡ out.old.items ++ records_text rows.now) }
 {
@@ -205,7 +205,7 @@ fn put_records(out: &mut Vec<u8>, rows: &[NodeRecord]) -> Result<(), OutOfMemory
     Ok(())
 }
 
-// Appends a time behind its front.
+// Appends the line of a time in microseconds, behind the text in front of it.
 fn put_time(out: &mut Vec<u8>, front: &[u8], micros: u64) -> Result<(), OutOfMemory>
     ensures { OnOk result (out.new.items ≡ out.old.items ++ time_line front.now micros) }
 {
@@ -214,7 +214,7 @@ fn put_time(out: &mut Vec<u8>, front: &[u8], micros: u64) -> Result<(), OutOfMem
     put_bytes(out, b"\n")
 }
 
-// Appends what the system says of the process.
+// Appends the lines of the facts that the system reports about the process.
 fn put_process(out: &mut Vec<u8>, process: Option<Process>) -> Result<(), OutOfMemory>
     ensures { OnOk result (out.new.items ≡ out.old.items ++ process_text process) }
 {
@@ -225,8 +225,8 @@ fn put_process(out: &mut Vec<u8>, process: Option<Process>) -> Result<(), OutOfM
     put_time(out, processor_front(), process.processor)
 }
 
-/// Returns what a server says of itself, which nodes each of its nodes has noticed, how long its records are and how long its loops took,
-/// as text that Prometheus reads, in its text exposition format 0.0.4. `Err` if there is no memory.
+/// Returns a server's report about itself: the nodes that each of its nodes has noticed, the version, the start, the process, the lengths
+/// of its records and the times of its loops, in Prometheus' text exposition format 0.0.4. `Err` if there is no memory.
 pub fn facts_text(
     alloc: Global,
     facts: &Facts<'_>,

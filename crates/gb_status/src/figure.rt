@@ -330,7 +330,7 @@ impl Figure {
     }
 
     /// Returns the labels of this figure behind the node's label in the text that Prometheus reads, such as `,kind="make"`. They are
-    /// empty if the figure's name says all.
+    /// empty if the figure's name needs no label.
     pub fn label(self) -> &'static [u8]
         ensures { result.now ≡ label_of self }
     {
@@ -395,7 +395,7 @@ impl Figure {
         }
     }
 
-    /// Returns the two lines, HELP and TYPE, that stand above the first figure with a name in the text that Prometheus reads. They are
+    /// Returns the two lines, HELP and TYPE, above the first figure with a name in the text that Prometheus reads. They are
     /// empty for the other figures with that name.
     pub fn head(self) -> &'static [u8]
         ensures { result.now ≡ head_of self }

@@ -1,4 +1,4 @@
-//! What a node counts: a number for each figure.
+//! The counts of a node: a number for each figure.
 ghost use Rattle.std.specs.Prelude.{◌≡◌, ◌+◌, slice_index, slice_set, replicate};
 ghost use Rattle.gb_status.specs.Figures.{value_of, capped};
 ghost use Rattle.gb_status.specs.Names.{place_of};
@@ -6,14 +6,14 @@ ghost use Rattle.gb_status.specs.Names.{place_of};
 use crate::figure::{COUNT, Figure};
 use gb_types::NodeId;
 
-/// What a node has counted: a number for each figure, at most 2^64 - 1.
+/// The counts of a node: a number for each figure, at most 2^64 - 1.
 #[derive(Clone, Copy)]
 pub struct Figures {
     /// The number of each figure, at the figure's index.
     pub numbers: [u64; COUNT],
 }
 
-/// What the node with a number has counted.
+/// The counts of the node with a number.
 #[derive(Clone, Copy)]
 pub struct NodeFigures {
     pub node: NodeId,

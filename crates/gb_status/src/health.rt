@@ -3,7 +3,7 @@ ghost use Rattle.std.specs.Prelude.{◌≡◌};
 ghost use Rattle.std.specs.List.{list_all, list_any};
 ghost use Rattle.gb_status.specs.Healths.{health_of, is_apart};
 
-/// How a server is.
+/// The health of a server.
 #[derive(Clone, Copy, Debug, PartialEq, Eq)]
 pub enum Health {
     /// All loops run and tick, and no node has noticed half of the others.
@@ -12,18 +12,18 @@ pub enum Health {
     Ended,
     /// The last tick of a loop is too old.
     Stalled,
-    /// A node has noticed half of the other nodes or more: it may be the one that is cut off.
+    /// A node has noticed half of the other nodes or more. It may be the node that is cut off.
     Apart,
 }
 
-/// What is known of a node.
+/// The facts about a node that determine the health of its server.
 #[derive(Clone, Copy, Debug, PartialEq, Eq)]
 pub struct NodeHealth {
     /// Its loop runs.
     pub is_running: bool,
     /// The last tick of its loop is too old.
     pub is_stalled: bool,
-    /// How many other nodes it has noticed.
+    /// The number of other nodes that it has noticed.
     pub noticed: u8,
 }
 
@@ -55,7 +55,7 @@ fn is_one_apart(rows: &[NodeHealth], others: u8) -> bool
     rows.iter().any(|row| is_apart(row.noticed, others))
 }
 
-/// Returns how a server of these nodes is, each of which has `others` other nodes in its cluster. `is_over` says that the server ends.
+/// Returns the health of a server of these nodes, each of which has `others` other nodes in its cluster. `is_over` means that the server ends.
 pub fn health_of(rows: &[NodeHealth], others: u8, is_over: bool) -> Health
     ensures { result ≡ health_of rows.now others is_over }
 {

@@ -1,4 +1,4 @@
-//! What is asked for by HTTP, and how it is answered.
+//! Requests by HTTP and the answers to them.
 ghost use Rattle.std.specs.Prelude.{◌≡◌, IfNone, IfOk, IfSome, true};
 ghost use Rattle.gb_status.specs.Http.{Asks, IsReply, answer_of, code_of, health_note, lines_of, note_of, place_asked, response_text};
 
@@ -18,14 +18,14 @@ pub const FIELDS: usize = 64;
 // Definitions cite this value.
 const _: () = prove!(FIELDS == 64);
 
-/// What the head of a request asks for.
+/// The page that the head of a request asks for.
 #[derive(Clone, Copy, Debug, PartialEq, Eq)]
 pub enum Asked {
     /// The figures.
     Metrics,
-    /// The state of the nodes: served or not.
+    /// The health of the server.
     Health,
-    /// By GET, something else.
+    /// Another page, by GET.
     OtherPlace,
     /// By another method than GET.
     OtherMethod,
@@ -50,7 +50,7 @@ pub enum Code {
     Unavailable,
 }
 
-// Returns what a request by GET asks for.
+// Returns the page that a GET with this target asks for.
 fn place_asked(target: &[u8]) -> Asked
     ensures { result ≡ place_asked target.now }
 {
@@ -63,9 +63,9 @@ fn place_asked(target: &[u8]) -> Asked
     }
 }
 
-/// Returns what the bytes of an HTTP request ask for: `Metrics` for `GET /metrics`, `Health` for `GET /healthz`, `OtherPlace` for
-/// another GET, `OtherMethod` for another method. `More` if the head of the request is not whole, and `NoRequest` if the bytes can be
-/// no head of at most 64 fields.
+/// Returns the page that the bytes of an HTTP request ask for: `Metrics` for `GET /metrics`, `Health` for `GET /healthz`, `OtherPlace`
+/// for another GET, `OtherMethod` for another method. `More` if the head of the request is not whole, and `NoRequest` if the bytes can
+/// be no head of at most 64 fields.
 pub fn asked_for(bytes: &[u8]) -> Asked
     ensures { Asks bytes.now result }
 {
@@ -84,7 +84,7 @@ pub fn asked_for(bytes: &[u8]) -> Asked
 }
 
 impl Code {
-    // Returns the lines of an answer's head, without the one of the length.
+    // Returns the lines of an answer's head, without the line of the length.
     fn lines(self) -> &'static [u8]
         ensures { result.now ≡ lines_of self }
     {
@@ -134,7 +134,7 @@ fn code_of(asked: Asked, health: Health) -> Code
     }
 }
 
-// Returns the line that tells how a server is.
+// Returns the line that reports the health of a server.
 fn health_note(health: Health) -> &'static [u8]
     ensures { result.now ≡ health_note health }
 {
@@ -160,8 +160,8 @@ fn note_of(asked: Asked, health: Health) -> &'static [u8]
     }
 }
 
-/// Returns the whole HTTP answer to what is asked for: 200 with the figures of all nodes and `facts` behind them; 200 or 503 for the health,
-/// 200 if the server is well; 404 for another place; 405 for another method; 400 for what is no whole request. `Err` if there is no memory.
+/// Returns the whole HTTP answer: 200 with the figures of all nodes and then `facts`; for the health 200 if the server is well, and else
+/// 503; 404 for another page; 405 for another method; 400 if the bytes are no whole request. `Err` if there is no memory.
 pub fn answer(
     alloc: Global,
     asked: Asked,

@@ -1,7 +1,7 @@
 //! The figures of a server's nodes, and how they are written: in a session's reply, and in the text that Prometheus reads, by HTTP.
-//! `figures::Figures` is what a node counts, `text` writes it, `board::Board` is where each node's thread puts its figures for
-//! other threads to read, `facts` writes what a server says of itself, `times` how long its loops took, `http` answers requests by HTTP, `health` says whether a server is
-//! well, and `news` and `misfit` write the lines of the log. Read `figure` first.
+//! The counts of a node are `figures::Figures`, and `text` writes them. On `board::Board` each node's thread stores its figures for other
+//! threads to read. Further, `facts` writes a server's report about itself, and `times` the times of its loops; `http` answers requests by
+//! HTTP, `health` determines whether a server is well, and `news` and `misfit` write the lines of the log. Read `figure` first.
 #![tactic(auto)]
 
 pub mod board;

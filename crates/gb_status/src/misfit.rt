@@ -6,7 +6,7 @@ use gb_spelling::number::put_number;
 use gb_types::OutOfMemory;
 use gb_types::memory::put_bytes;
 
-/// What does not fit in packets that come from a node's address.
+/// The reason why packets that come from a node's address do not fit.
 #[derive(Clone, Copy, Debug, PartialEq, Eq)]
 pub enum Misfit {
     /// Their tag is not right: they are made with other keys, or for another run.
@@ -15,7 +15,7 @@ pub enum Misfit {
     Node,
 }
 
-// Returns what a line says of a node that sends such packets.
+// Returns the words for a node that sends such packets.
 fn misfit_words(misfit: Misfit) -> &'static [u8]
     ensures { result.now ≡ misfit_words misfit }
 {
@@ -26,7 +26,7 @@ fn misfit_words(misfit: Misfit) -> &'static [u8]
     }
 }
 
-/// Appends to `out` the log's line that says of the node `other` that packets from its address, which come to `node`, do not fit. The line
+/// Appends to `out` the line of the log that packets which come to `node` from the address of the node `other` do not fit. The line
 /// begins with `name`, the name of the program. `Err` if there is no memory; then a part of it may be there.
 pub fn put_misfit(
     out: &mut Vec<u8>,

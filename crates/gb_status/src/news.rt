@@ -1,4 +1,4 @@
-//! What the log tells of a node, by its figures and the nodes that it noticed.
+//! The log's news of a node, by its figures and the nodes that it noticed.
 ghost use Rattle.std.specs.Prelude.{◌≡◌, ◌++◌, ◌||◌, OnOk, decimal, false};
 ghost use Rattle.std.specs.FinSet as set;
 ghost use Rattle.gb_types.specs.Common.{rising};
@@ -11,19 +11,19 @@ use gb_spelling::number::put_number;
 use gb_types::memory::put_bytes;
 use gb_types::{NodeId, NodeSet, OutOfMemory};
 
-/// What the log has told of a node.
+/// The facts about a node that the log has reported.
 #[derive(Drop)]
 pub struct Told {
-    /// The noticed nodes that were told.
+    /// The noticed nodes that the log has reported.
     pub noticed: NodeSet,
-    /// True if it was told that the node has as many connections as are allowed.
+    /// True if the log has reported that the node has as many connections as are allowed.
     pub is_full: bool,
-    /// True if it was told that the node lacked memory.
+    /// True if the log has reported that the node lacked memory.
     pub is_short: bool,
 }
 
 impl Told {
-    /// Returns the record of a node of which the log has told nothing.
+    /// Returns the record of a node about which the log has reported nothing.
     pub fn new() -> Told
         ensures noticed { result.noticed ≡ set.empty }
         ensures others { (result.is_full ≡ false) × (result.is_short ≡ false) }
@@ -35,7 +35,7 @@ impl Told {
         }
     }
 
-    /// Records here that the log has told what is new by these figures: the nodes `noticed`, which are held for crashed (noticed as
+    /// Records that the log has reported the news in these figures: the nodes `noticed`, which are held for crashed (noticed as
     /// crashed), that the node closes connections since it has as many as are allowed, and that it lacked memory.
     pub fn note(&mut self, figures: &Figures, noticed: &NodeSet)
         ensures noticed { self.new.noticed ≡ set.union self.old.noticed noticed.now }
@@ -62,7 +62,7 @@ fn is_short(figures: &Figures) -> bool
     figures.value(Figure::Lost) > 0 || figures.value(Figure::RefusedOutOfMemory) > 0
 }
 
-// Appends words and a number.
+// Appends the words and then the number.
 fn put_numbered(out: &mut Vec<u8>, words: &[u8], number: u64) -> Result<(), OutOfMemory>
     ensures { OnOk result (out.new.items ≡ out.old.items ++ (words.now ++ decimal number)) }
 {
@@ -70,7 +70,7 @@ fn put_numbered(out: &mut Vec<u8>, words: &[u8], number: u64) -> Result<(), OutO
     put_number(out, number)
 }
 
-// Appends words and the end of the line.
+// Appends the words and the end of the line.
 fn put_last(out: &mut Vec<u8>, words: &[u8]) -> Result<(), OutOfMemory>
     ensures { OnOk result (out.new.items ≡ out.old.items ++ (words.now ++ line_feed)) }
 {
@@ -78,7 +78,7 @@ fn put_last(out: &mut Vec<u8>, words: &[u8]) -> Result<(), OutOfMemory>
     put_bytes(out, b"\n")
 }
 
-// Appends the front of a line that tells of a node: the name of the program, and the node's number.
+// Appends the beginning of a line about a node: the name of the program, and the node's number.
 fn put_front(out: &mut Vec<u8>, name: &[u8], node: u64) -> Result<(), OutOfMemory>
     ensures { OnOk result (out.new.items ≡ out.old.items ++ front_of name.now node) }
 {
@@ -95,7 +95,7 @@ fn put_noticed(out: &mut Vec<u8>, name: &[u8], node: u64, other: u64) -> Result<
     put_last(out, b" as crashed")
 }
 
-// Appends the line of a noticed node, unless it was told before.
+// Appends the line of a noticed node, unless the log has reported it before.
 fn put_notice(
     out: &mut Vec<u8>,
     name: &[u8],
@@ -111,7 +111,7 @@ fn put_notice(
     put_noticed(out, name, node, u64::from(other.number))
 }
 
-// Appends the lines of the noticed nodes that were not told before.
+// Appends the lines of the noticed nodes that the log has not reported before.
 fn put_notices(
     out: &mut Vec<u8>,
     name: &[u8],
@@ -127,7 +127,7 @@ fn put_notices(
     Ok(())
 }
 
-// Appends a line that tells of a node, if `is_so` and it was not told before.
+// Appends a line about a node, if `is_so` is true and the log has not reported it before.
 fn put_once(
     out: &mut Vec<u8>,
     name: &[u8],
@@ -148,7 +148,7 @@ fn put_once(
     put_last(out, words)
 }
 
-// Appends that a node has as many connections as are allowed, once.
+// Appends the line that a node has as many connections as are allowed, unless the log has reported it before.
 fn put_full(
     out: &mut Vec<u8>,
     name: &[u8],
@@ -168,7 +168,7 @@ fn put_full(
     )
 }
 
-// Appends that a node lacked memory, once.
+// Appends the line that a node lacked memory, unless the log has reported it before.
 fn put_short(
     out: &mut Vec<u8>,
     name: &[u8],
@@ -188,10 +188,10 @@ fn put_short(
     )
 }
 
-/// Appends to `out` the log's lines of what is new of the node with this number: for each node of `noticed` that was not told, that it
-/// is held for crashed (noticed as crashed); and, once each, that the node closes connections since it has as many as are allowed, and
-/// that it lacked memory. `told` says what the log told before. Each line begins with `name`, the name of the program. `Err` if there
-/// is no memory; then a part of them may be there.
+/// Appends to `out` the log's lines with the news of the node with this number. For each node of `noticed` that was not reported, the
+/// line is that it is held for crashed (noticed as crashed). Once each, a line is that the node closes connections since it has as many
+/// as are allowed, or that it lacked memory. `told` has the facts that the log reported before. Each line begins with `name`, the name
+/// of the program. `Err` if there is no memory; then a part of them may be there.
 pub fn put_news(
     out: &mut Vec<u8>,
     name: &[u8],

@@ -1,4 +1,4 @@
-//! How figures are written: as the text that Prometheus reads, and as the reply to a session's `status`.
+//! The text of figures: in the format that Prometheus reads, and in the reply to a session's `status`.
 ghost use Rattle.std.specs.Prelude.{◌≡◌, ◌++◌, IfOk, OnOk};
 ghost use Rattle.std.specs.List.{flat_map};
 ghost use Rattle.gb_status.specs.Figures.{figure_text, front_text, line_text, metrics_text, status_text, word_text, words_text};
@@ -31,7 +31,7 @@ fn put_line(out: &mut Vec<u8>, figure: Figure, node: u64, number: u64) -> Result
     put_bytes(out, b"\n")
 }
 
-// Appends the lines of a figure, one for each node, with those that stand above them.
+// Appends the lines of a figure, one for each node, below the head of the figure.
 fn put_figure(out: &mut Vec<u8>, figure: Figure, all: &[NodeFigures]) -> Result<(), OutOfMemory>
     ensures { OnOk result (out.new.items ≡ out.old.items ++ figure_text all.now figure) }
 {
@@ -43,7 +43,7 @@ fn put_figure(out: &mut Vec<u8>, figure: Figure, all: &[NodeFigures]) -> Result<
     Ok(())
 }
 
-// Appends figures of all nodes.
+// Appends these figures of all nodes.
 fn put_figures(
     out: &mut Vec<u8>,
     figures: &[Figure],
@@ -76,7 +76,7 @@ fn put_word(out: &mut Vec<u8>, figure: Figure, number: u64) -> Result<(), OutOfM
     put_number(out, number)
 }
 
-// Appends figures of a node.
+// Appends these figures of a node.
 fn put_words(out: &mut Vec<u8>, list: &[Figure], figures: &Figures) -> Result<(), OutOfMemory>
     ensures { OnOk result (out.new.items ≡ out.old.items ++ words_text figures.now list.now) }
 {

@@ -1,4 +1,4 @@
-//! How long something took at a node, as a histogram, and its text.
+//! The times of a node's loop, as histograms, and their text.
 ghost use Rattle.std.specs.Prelude.{◌≡◌, ◌++◌, OnOk};
 ghost use Rattle.gb_status.specs.Facts.{quoted, seconds_text};
 ghost use Rattle.gb_status.specs.Times.{all_times_text, bucket_line, bucket_lines, count_line, family_of, help_of, histogram_head, last_lines, rows_text, series_front, sum_line, times_lines, times_of, times_text, whole_line};
@@ -14,44 +14,44 @@ pub const BUCKETS: usize = 8;
 // docs/FORMATS.md names the bounds.
 const _: () = prove!(BUCKETS == 8);
 
-/// How many took at most a bound.
+/// The number of times that are at most a bound.
 #[derive(Clone, Copy)]
 pub struct Bucket {
     /// The bound, in microseconds.
     pub bound: u64,
-    /// How many took at most that long.
+    /// The number of times that are at most the bound.
     pub count: u64,
 }
 
-/// How long things took.
+/// A histogram of times.
 #[derive(Clone, Copy)]
 pub struct Times {
     /// The buckets, by rising bounds.
     pub buckets: [Bucket; BUCKETS],
-    /// How many were measured, at most 2^64 - 1.
+    /// The number of times, at most 2^64 - 1.
     pub count: u64,
-    /// How long they took in all, in microseconds, at most 2^64 - 1.
+    /// The sum of the times in microseconds, at most 2^64 - 1.
     pub sum: u64,
 }
 
-/// What is measured at a node's loop.
+/// The measurements of a node's loop.
 #[derive(Clone, Copy, Debug, PartialEq, Eq)]
 pub enum Measured {
-    /// A round, without the time that it waits.
+    /// The time of each round, without its wait.
     Rounds,
-    /// The replies that a client gets at once, from the moment when the loop sees that there is something to read of its connection. A
-    /// request that waits for something to fetch is not among them.
+    /// The time of each reply that a client gets at once, from the moment when the loop sees that there is something to read of its
+    /// connection. A request that waits for something to fetch is not among them.
     Replies,
 }
 
-/// What a node's loop has measured.
+/// The times that a node's loop has measured.
 #[derive(Clone, Copy)]
 pub struct LoopTimes {
     pub rounds: Times,
     pub replies: Times,
 }
 
-/// What the loop of the node with a number has measured.
+/// The times that the loop of the node with a number has measured.
 #[derive(Clone, Copy)]
 pub struct NodeTimes {
     pub node: NodeId,
@@ -59,7 +59,7 @@ pub struct NodeTimes {
 }
 
 impl Times {
-    /// Returns the times of nothing. The bounds are 0.1, 0.3, 1, 3, 10, 30, 100 and 1,000 milliseconds.
+    /// Returns an empty histogram. The bounds are 0.1, 0.3, 1, 3, 10, 30, 100 and 1,000 milliseconds.
     pub fn new() -> Times {
         let bounds: [u64; BUCKETS] = [100, 300, 1_000, 3_000, 10_000, 30_000, 100_000, 1_000_000];
         let mut buckets = [Bucket { bound: 0, count: 0 }; BUCKETS];
@@ -73,7 +73,7 @@ impl Times {
         }
     }
 
-    /// Counts one more, which took this number of microseconds.
+    /// Adds a time of this number of microseconds.
     pub fn note(&mut self, micros: u64) {
         for bucket in &mut self.buckets {
             if micros <= bucket.bound {
@@ -86,7 +86,7 @@ impl Times {
 }
 
 impl LoopTimes {
-    /// Returns what a loop has measured that has not begun.
+    /// Returns the times of a loop that has not begun: two empty histograms.
     pub fn new() -> LoopTimes {
         LoopTimes {
             rounds: Times::new(),
@@ -94,7 +94,7 @@ impl LoopTimes {
         }
     }
 
-    /// Returns the times of what is measured.
+    /// Returns the histogram of one measurement.
     pub fn of(&self, measured: Measured) -> &Times
         ensures { result.now ≡ times_of self.now measured }
     {
@@ -106,7 +106,7 @@ impl LoopTimes {
 }
 
 impl Measured {
-    /// Returns the name under which Prometheus reads it.
+    /// Returns the name of this measurement in the text that Prometheus reads.
     fn family(self) -> &'static [u8]
         ensures { result.now ≡ family_of self }
     {
@@ -116,7 +116,7 @@ impl Measured {
         }
     }
 
-    /// Returns what it is, in a sentence.
+    /// Returns the help for this measurement, in a sentence.
     fn help(self) -> &'static [u8]
         ensures { result.now ≡ help_of self }
     {
@@ -213,7 +213,7 @@ fn put_buckets(
     Ok(())
 }
 
-// Appends the bucket of all.
+// Appends the line of the bucket without a bound: the number of all times.
 fn put_whole(
     out: &mut Vec<u8>,
     measured: Measured,
@@ -230,7 +230,7 @@ fn put_whole(
     put_bytes(out, b"\n")
 }
 
-// Appends how long they took in all.
+// Appends the line of the sum of all times.
 fn put_sum(out: &mut Vec<u8>, measured: Measured, node: u64, sum: u64) -> Result<(), OutOfMemory>
     ensures { OnOk result (out.new.items ≡ out.old.items ++ sum_line measured node sum) }
 {
@@ -240,7 +240,7 @@ fn put_sum(out: &mut Vec<u8>, measured: Measured, node: u64, sum: u64) -> Result
     put_bytes(out, b"\n")
 }
 
-// Appends how many there were.
+// Appends the line of the number of all times.
 fn put_count(
     out: &mut Vec<u8>,
     measured: Measured,
@@ -299,7 +299,7 @@ fn put_rows(out: &mut Vec<u8>, measured: Measured, rows: &[NodeTimes]) -> Result
     Ok(())
 }
 
-// Appends what was measured of one kind, with the lines above it.
+// Appends the histograms of one measurement for all nodes, with the lines above them.
 fn put_measured(
     out: &mut Vec<u8>,
     measured: Measured,
@@ -311,7 +311,7 @@ fn put_measured(
     put_rows(out, measured, rows)
 }
 
-/// Appends what the loops of nodes have measured, in the text exposition format 0.0.4 of Prometheus. `Err` if there is no memory.
+/// Appends the times that the loops of nodes have measured, in the text exposition format 0.0.4 of Prometheus. `Err` if there is no memory.
 pub fn put_all_times(out: &mut Vec<u8>, rows: &[NodeTimes]) -> Result<(), OutOfMemory>
     ensures { OnOk result (out.new.items ≡ out.old.items ++ all_times_text rows.now) }
 {

@@ -11,7 +11,7 @@ use Rattle.gb_table.specs.Places.{slot_under, row_of, place_at, addr_at, vacant_
 use Rattle.gb_table.proofs.SlotsLemmas.{no_entry_at, leads_within, row_is, made_of, row_made, counters_changed, short_changed}
 use Rattle.gb_rules.proofs.AddressLemmas.{addr_is, addr_same}
 
--- where a place stands in a list that has one more
+-- the element at an index of a list that has one more
 unfoldable pub AtEnd : {A : Type 0} → List A → A → A → ℕ → Type 0
 AtEnd xs x d q =
     ((q < length xs) × (get_or (xs ++ x ∷ []) q d ≡ get_or xs q d)) ⊎ (((q ≡ length xs) × (get_or (xs ++ x ∷ []) q d ≡ x)) ⊎ ((length xs < q) × (get_or (xs ++ x ∷ []) q d ≡ d)))
@@ -194,7 +194,7 @@ place_put es p key addr l = ap (λ (e : Addr × Place). e.1) (get_or-set_same es
 place_still : (es : List (Addr × Place)) (p q key : ℕ) (addr : Addr) → q ≢ p → place_at (set es p (addr, Key key)) q ≡ place_at es q
 place_still es p q key addr ne = ap (λ (e : Addr × Place). e.1) (get_or-set_other es p q (addr, Key key) no_entry_at ne)
 
--- which place leads to a key
+-- the place that leads to a key
 old_or_new : (es : List (Addr × Place)) (p q key k : ℕ) (addr : Addr) → p < length es → place_at (set es p (addr, Key key)) q ≡ Key k → ((q ≢ p) × (place_at es q ≡ Key k)) ⊎ ((q ≡ p) × (key ≡ k))
 old_or_new es p q key k addr l m =
     elim (cases_eq q p) [
@@ -233,7 +233,7 @@ vacant_put rows p row all l some = record {
   ];
 }
 
--- what a new slot at a place makes of the groups
+-- the groups after a new slot at a place
 pub record Placed (addr : Addr) (es : List (Addr × Place)) (old new : Slab SlotState) (p key : ℕ) (v : SlotState) : Type 0 where
   pub kept : AreKept (set es p (addr, Key key)) new
   pub rows : map (row_of new) (set es p (addr, Key key)) ≡ set (map (row_of old) es) p (record { addr = addr; slot = Some v })
@@ -283,7 +283,7 @@ insert-last : (eq : Addr → Addr → Bool) (addr : Addr) (place : Place) (es : 
 insert-last eq addr place [] h = refl
 insert-last eq addr place (e ∷ es) h = rw (h zero (omega arith)) (ap (λ xs. e ∷ xs) (insert-last eq addr place es (λ p l. h (suc p) (omega arith))))
 
--- an address that no place has goes last
+-- an address that no place has is inserted as the last
 pub insert-new : (eq : Addr → Addr → Bool) (addr : Addr) (place : Place) (es : List (Addr × Place)) → ((a : Addr) → eq addr a ≡ is_addr addr a) → AreOthers addr es → insert_entry eq es addr place ≡ es ++ (addr, place) ∷ []
 insert-new eq addr place es same none = insert-last eq addr place es (λ p l. same (get_or es p no_entry_at).0 ∙ none p l)
 
@@ -300,7 +300,7 @@ get_last : {X : Type 0} (xs : List X) (y d : X) → get_or (xs ++ y ∷ []) (len
 get_last [] y d = refl
 get_last (x ∷ xs) y d = get_last xs y d
 
--- the last entry takes the place of another, which goes
+-- the last entry is moved to the place of another entry, which is removed
 pub swap-last : (es : List (Addr × Place)) (p : ℕ) (e d : Addr × Place) → p < length es → swap_remove (es ++ e ∷ []) p d ≡ set es p e
 swap-last es p e d l =
     let n = length-append es (e ∷ []) in
@@ -333,7 +333,7 @@ entries_vacant slots es kept p l none =
     let at = addr_is_at slots es p in
     at ∙ kept.vacant.each p (omega arith) (sym (ap (λ (a : Addr). a.tenant) at) ∙ none)
 
--- more room among the slots changes nothing
+-- more capacity for slots changes nothing
 pub kept_same : (es now : List (Addr × Place)) (slots new : Slab SlotState) (capacity : ℕ) → now ≡ es → new ≡ record slots { capacity = capacity } → AreKept es slots → AreKept now new
 kept_same es now slots new capacity e f kept =
     subst (λ (xs : List (Addr × Place)). AreKept xs new) (sym e)

@@ -1,4 +1,4 @@
--- A step at one address leaves the others alone.
+-- A step at one address does not change the other groups.
 use Rattle.gb_types.specs.Common.{◌≡◌, ◌≢◌, ℕ, ◌<◌, true, false, List, length, refl, ap, sym, ◌∙◌, arith, ◌%◌, if◌then◌else◌, Bool, ◌&&◌, not, cond, nat_lt, Option, Some, None, option_map, position, position_or_len, set, length-set, get_or-set_other, position_or_len-set, lt-ltb}
 use Rattle.std.proofs.lemmas.List.Quantifiers.{position-Some}
 use Rattle.gb_types.specs.declared.{address.Addr.Addr, limits.TheConstants.NODES, version.Version.Version, node.NodeId.NodeId}
@@ -11,7 +11,7 @@ use Rattle.gb_types.proofs.SameLemmas.{same_number}
 use Rattle.gb_frame.specs.declared.item.Item.{Item}
 use Rattle.gb_rules.proofs.AddressLemmas.{addr_is, addr_same}
 
--- the place of an address is within, and the group there has it
+-- the place of an address is within the rows, and the group there has the address
 pub place_is : (addr : Addr) (rows : List Row) (p : ℕ) → Some p ≡ place_of addr rows → (p < length rows) × (is_addr addr (row_at rows p).addr ≡ true)
 place_is addr rows p e = let h = position-Some (λ (row : Row). is_addr addr row.addr) rows p no_row (sym e) in (h.0, h.1)
 

@@ -18,13 +18,13 @@ get_or-ahead from lap at b i [] = sym (drop_all (visits from lap at (b + i)) [] 
 get_or-ahead from lap at b zero (q ∷ qs) = let e : b + 0 ≡ b = omega arith in rw e refl
 get_or-ahead from lap at b (suc i) (q ∷ qs) = let e : b + suc i ≡ suc b + i = omega arith in rw e (get_or-ahead from lap at (suc b) i qs)
 
--- at the beginning everything is left
+-- at the beginning all items are left
 pub ahead-start : (from b : ℕ) (qs : List (List Entry)) → ahead from 0 from b qs ≡ qs
 unfolding ahead visits
 ahead-start from b [] = refl
 ahead-start from b (q ∷ qs) = let e : (0 + min 1 (from - b)) - min 1 (from - b) ≡ 0 = omega arith in rw (e, ahead-start from (suc b) qs) refl
 
--- behind the last place the next round begins
+-- after the last place the next round begins
 pub ahead-wrap : (from lap n b : ℕ) (qs : List (List Entry)) → b + length qs ≤ n → ahead from lap n b qs ≡ ahead from (lap + 1) 0 b qs
 unfolding ahead visits
 ahead-wrap from lap n b [] h = refl
@@ -64,7 +64,7 @@ look_step from lap at qs h l =
 take-drop : {A : Type 0} (k : ℕ) (q : List A) (d : A) → k < length q → take 1 (drop k q) ≡ get_or q k d ∷ []
 take-drop k q d h = ap (λ r. take 1 r) (drop-cons q k d h)
 
--- a place that has more gives its next one
+-- a place with more items gives its next item
 pub look_gives : (dest from lap at nth : ℕ) (rows : List Row) (row : Row) → at < length rows → (at < from → 0 < lap) → nth ≡ visits from lap at at → row ≡ get_or rows at row → nth < length (queue dest row) →
     walk at (ahead from lap at 0 (queues dest rows)) ≡ visit at (get_or (queue dest row) nth no_entry) ∷ walk (at + 1) (ahead from lap (at + 1) 0 (queues dest rows))
 look_gives dest from lap at nth rows row h l v e z =
@@ -86,7 +86,7 @@ pub fit-none : (version : Version) (room : ℕ) → fit version room [] ≡ []
 unfolding fit
 fit-none version room = refl
 
--- so many items of a batch were counted, and so many bytes of the room are left for the rest
+-- this many items of a batch were counted, and this many bytes of the room are left for the rest
 pub record Measured (version : Version) (room left many : ℕ) (here batch : List Visit) : Type 0 where
   pub count : many + length (fit version left here) ≡ length batch
   pub bytes : sum_by (size version) (fit version left here) + room ≡ sum_by (size version) batch + left
@@ -94,7 +94,7 @@ pub record Measured (version : Version) (room left many : ℕ) (here batch : Lis
 pub measured_start : (version : Version) (room : ℕ) (vs : List Visit) → Measured version room room 0 vs (fit version room vs)
 measured_start version room vs = record { count = omega arith; bytes = refl }
 
--- nothing more fits
+-- no more item fits
 measured_whole : (version : Version) (room left many : ℕ) (here batch : List Visit) → Measured version room left many here batch → fit version left here ≡ [] → (many ≡ length batch) × (room ≡ sum_by (size version) batch + left)
 measured_whole version room left many here batch m f =
     let n : length (fit version left here) ≡ 0 = ap length f in

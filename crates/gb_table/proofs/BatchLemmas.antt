@@ -17,7 +17,7 @@ unfolding fit
 fit-front version room [] = (omega arith, refl)
 fit-front version room (v ∷ vs) = let r = fit-front version (room - size version v) vs in fit-step version (ltb room (size version v)) room v vs r.0 r.1
 
--- a group after its share is that group
+-- a group after its share was taken
 pub get_or-gave : (dest b i : ℕ) (vs : List Visit) (rows : List Row) (d : Row) → i < length rows → get_or (gave dest b vs rows) i d ≡ took dest (share (b + i) vs) (get_or rows i d)
 unfolding gave
 get_or-gave dest b i vs [] d h = absurd (omega arith)

@@ -29,7 +29,7 @@ skip-by (suc d) from q qs e h f =
     skip-by d (suc from) q qs (omega arith) h (λ p l m. f p (omega arith) m)
     ∙ sym (walk_idle from qs (omega arith) (f from (omega arith) (omega arith)))
 
--- places with nothing are passed by
+-- places without items are skipped
 pub skip : (from q : ℕ) (qs : List (List Entry)) → from ≤ q → q ≤ length qs → ((p : ℕ) → from ≤ p → p < q → get_or qs p [] ≡ []) → walk q qs ≡ walk from qs
 skip from q qs h l f = skip-by (q - from) from q qs (omega arith) l f
 
@@ -54,7 +54,7 @@ same_early dest from q words rows b h late x =
 pub none_next : (dest from : ℕ) (words : List ℕ) (rows : List Row) → IsBusy dest words rows → ((p : ℕ) → 0 ≤ p → has words p ≡ 0) → None ≡ first_place (walk from (queues dest rows))
 none_next dest from words rows b f = sym (ap first_place (walk_none from (queues dest rows) (λ p. idle_at dest words rows p b (f p (omega arith)))))
 
--- the index after one item was given
+-- the index after one item was taken
 pub index_taken : (dest p : ℕ) (words new : List ℕ) (rows : List Row) (row : Row) → dest < counters row → IsBusy dest words rows → p < length rows → has new p ≡ min 1 (length (queue dest (took dest 1 row))) → ((q : ℕ) → q ≢ p → has new q ≡ has words q) → IsBusy dest new (set rows p (took dest 1 row))
 index_taken dest p words new rows row d b h here others =
     let m = length-set rows p (took dest 1 row) in
@@ -85,7 +85,7 @@ ahead-skip-by (suc d) from lap at q qs e h l f =
     ahead-step from lap 0 at at qs (omega arith) (omega arith) l ∙ ap (λ r. set A at (drop 1 r)) none ∙ ap (λ r. set A at r) (sym none) ∙ set-get_or A at [] in
     ahead-skip-by d from lap (suc at) q qs (omega arith) h (λ m. l (omega arith)) (λ p a b. ap (λ L. get_or L p []) one ∙ f p (omega arith) b) ∙ one
 
--- places that have nothing left are passed by
+-- places without items left are skipped
 pub ahead-skip : (from lap at q : ℕ) (qs : List (List Entry)) → at ≤ q → q ≤ length qs → (at < from → 0 < lap) → ((p : ℕ) → at ≤ p → p < q → get_or (ahead from lap at 0 qs) p [] ≡ []) → ahead from lap q 0 qs ≡ ahead from lap at 0 qs
 ahead-skip from lap at q qs a h l f = ahead-skip-by (q - at) from lap at q qs (omega arith) h l f
 
@@ -116,7 +116,7 @@ reaches from lap at q words qs b l x =
       left_is = left;
     }
 
--- none is left in this round: the next round begins
+-- no item is left in this round: the next round begins
 pub next_round : (from lap at : ℕ) (words : List ℕ) (qs : List (List Entry)) → IsActive words (ahead from lap at 0 qs) → at ≤ length qs → (at < from → 0 < lap) → ((p : ℕ) → at ≤ p → has words p ≡ 0) → Reaches from lap at (lap + 1) 0 qs
 next_round from lap at words qs b h l f =
     let A = ahead from lap at 0 qs in
@@ -147,7 +147,7 @@ turn_next dest from lap at q words rows b l x =
     let a = x.after in
     record { within = omega arith; begun = λ h. l (omega arith); near = omega arith; walk_is = r.walk_is; left_is = r.left_is; some = turn_some dest from lap at lap q words rows b x.here r }
 
--- none there: the first place of the set is the next visit, a round on
+-- the set has no such place: its first place is the next visit, one round later
 pub turn_early : (dest from lap at q : ℕ) (words : List ℕ) (rows : List Row) → IsActive words (ahead from lap at 0 (queues dest rows)) → at ≤ length rows → (at < from → 0 < lap) → ((p : ℕ) → at ≤ p → has words p ≡ 0) → IsNext words 0 q → IsTurn dest from lap at rows (lap + 1) q
 turn_early dest from lap at q words rows b h l f x =
     let W = queues dest rows in
@@ -164,7 +164,7 @@ turn_early dest from lap at q words rows b h l f x =
 pub turn_none : (dest from lap at : ℕ) (words : List ℕ) (rows : List Row) → IsActive words (ahead from lap at 0 (queues dest rows)) → ((p : ℕ) → 0 ≤ p → has words p ≡ 0) → walk at (ahead from lap at 0 (queues dest rows)) ≡ []
 turn_none dest from lap at words rows b f = walk_none at (ahead from lap at 0 (queues dest rows)) (λ p. idle_left words (ahead from lap at 0 (queues dest rows)) p b (f p (omega arith)))
 
--- the visit's item is there
+-- the visit has an item
 pub turn_item : (dest from lap at to q nth : ℕ) (rows : List Row) (row : Row) → IsTurn dest from lap at rows to q → nth ≡ visits from to q q → row ≡ get_or rows q row → (nth < length (queue dest row)) × (length (get_or (ahead from to q 0 (queues dest rows)) q []) ≡ length (queue dest row) - nth)
 turn_item dest from lap at to q nth rows row t v e =
     let w = queues_at dest rows q row t.within e in
@@ -221,7 +221,7 @@ pub turn_taken : (version : Version) (dest from lap at to q nth room left many :
 turn_taken version dest from lap at to q nth room left many rows batch t v m s =
     measured_more version room left many (walk at (ahead from lap at 0 (queues dest rows))) (walk (q + 1) (ahead from to (q + 1) 0 (queues dest rows))) batch (visit q (get_or (queue dest (row_at rows q)) nth no_entry)) m (turn_gives dest from lap at to q nth rows (row_at rows q) t v (row_here rows q t.within)) s
 
--- at the beginning the busy places are those with something left
+-- at the beginning the busy places are those with items left
 pub active_start : (dest from : ℕ) (words : List ℕ) (rows : List Row) → IsBusy dest words rows → IsActive words (ahead from 0 from 0 (queues dest rows))
 active_start dest from words rows b =
     let n = length-ahead from 0 from 0 (queues dest rows) in
@@ -229,7 +229,7 @@ active_start dest from words rows b =
     let e = ahead-start from 0 (queues dest rows) in
     record { few = let f = b.few in omega arith; each = λ p. b.each p ∙ ap (λ L. min 1 (length (get_or L p []))) (sym e) }
 
--- where the walk visits no place, nothing fits
+-- if the walk visits no place, nothing fits
 pub nothing_fits : (version : Version) (room : ℕ) (vs : List Visit) → first_place vs ≡ None → (0 ≡ length (fit version room vs)) × (0 ≡ sum_by (size version) (fit version room vs))
 unfolding fit
 nothing_fits version room [] none = (refl, refl)

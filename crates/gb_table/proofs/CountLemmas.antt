@@ -4,7 +4,7 @@ use Rattle.gb_types.specs.declared.{address.Addr.Addr, spec.TenantRow.TenantRow}
 use Rattle.gb_rules.specs.Common.{is_addr, row_of, reserved}
 use Rattle.gb_table.specs.Within.{IsReserved}
 
--- each name stands at most once
+-- each name is in the list at most once
 abbrev pub AreDistinct : List Addr → Type 0
 AreDistinct names = (name : Addr) → count_by (is_addr name) names ≤ 1
 
@@ -87,7 +87,7 @@ few_below tenant (suc n) names h =
     let o = h (record { tenant = tenant; group = n; generation = 0 }) in
     omega arith
 
--- how many names are a tenant's own
+-- the number of names that are a tenant's own
 abbrev owned : List Addr → TenantRow → ℕ
 owned names row = count_by (is_below row.tenant row.groups) names
 

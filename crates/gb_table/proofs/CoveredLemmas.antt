@@ -48,7 +48,7 @@ word_one to place members sets words l ok here = record {
   ];
 }
 
--- a node that is no member needs none
+-- the set of a node that is no member needs no word
 pub word_skip : (to place : ℕ) (members : nodes.FinSet nat_cmp) (sets : List (List ℕ)) → nodes.contains members to ≡ false → HaveWord to place members sets → HaveWord (to + 1) place members sets
 word_skip to place members sets none ok = record {
   each = λ who h m. elim (cases_eq who to) [
@@ -63,7 +63,7 @@ word_below bound place members sets h = record { each = λ who l m. absurd (omeg
 pub word_nobody : (bound place : ℕ) (sets : List (List ℕ)) → HaveWord bound place nodes.empty sets
 word_nobody bound place sets = record { each = λ who l m. let both : true ≡ false = sym m ∙ nodes.contains-empty nat_cmp who in absurd (cc) }
 
--- what grown sets say is as before
+-- grown sets have the same places as before
 
 pub index_grown_words : (rows : List Row) (old new : List (List ℕ)) → IsIndex rows old → HaveGrown old new → IsIndex rows new
 index_grown_words rows old new ok w = record {
@@ -114,7 +114,7 @@ member_flag : (d : ℕ) (slot : Option SlotState) → nodes.contains (members_of
 member_flag d None m = let both : true ≡ false = sym m ∙ nodes.contains-empty nat_cmp d in absurd (cc)
 member_flag d (Some s) m = ap (λ b. if b then 1 else 0) m
 
--- also after a step that keeps its spec
+-- the same after a step that keeps the group's spec
 pub word_stepped : (f : SlotState → SlotState) (rows : List Row) (sets busy : List (List ℕ)) (p : ℕ) → p < length rows → ((s : SlotState) → (f s).spec ≡ s.spec) → AreMemberships rows sets → AreCovered sets busy → HaveWord NODES p (members_of (row_at (set rows p (on_slot f (row_at rows p))) p).slot) busy
 word_stepped f rows sets busy p h same ok covered = record {
   each = λ d l m.

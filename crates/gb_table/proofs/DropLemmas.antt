@@ -41,7 +41,7 @@ place_gone [] p = refl
 place_gone (e ∷ es) zero = refl
 place_gone (e ∷ es) (suc p) = place_gone es p
 
--- which places still lead to a key
+-- the places that still lead to a key
 still_there : (es : List (Addr × Place)) (p q k : ℕ) → place_at (set_value_at es p Gone) q ≡ Key k → (q ≢ p) × (place_at es q ≡ Key k)
 still_there es p q k m =
     let ne : q ≢ p = λ s. let n : Gone ≡ Key k = sym (ap (place_at (set_value_at es p Gone)) s ∙ place_gone es p) ∙ m in absurd (cc) in
@@ -71,7 +71,7 @@ pub record Dropped (es : List (Addr × Place)) (old new : Slab SlotState) (p : �
   pub kept : AreKept (set_value_at es p Gone) new
   pub rows : map (row_of new) (set_value_at es p Gone) ≡ set (map (row_of old) es) p (gone (row_at (map (row_of old) es) p))
 
--- each slot that is left stands where it stood
+-- each remaining slot is at its place from before
 placed_still : (es : List (Addr × Place)) (old new : Slab SlotState) (p key k : ℕ) → Without old new key → AreKept es old → place_at es p ≡ Key key → IsSome (get new k) → (q : ℕ) × (place_at (set_value_at es p Gone) q ≡ Key k)
 placed_still es old new p key k w kept here some =
     elim (cases_eq k key) [
@@ -104,7 +104,7 @@ dropped es old new p key w kept here =
       rows = rows;
     }
 
--- the reply where the group lives
+-- the reply if the group lives
 pub reply_here : (addr : Addr) (t : GroupsValue) (p : ℕ) → Some p ≡ living_place addr t.rows → Done ≡ group_reply drop_answer addr t
 reply_here addr t p lives = by (row_at t.rows p).slot refl
   where

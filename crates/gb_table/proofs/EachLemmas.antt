@@ -1,4 +1,4 @@
--- What holds of each place holds after each step that keeps it.
+-- A property of each place is kept by each step that keeps it.
 use Rattle.gb_types.specs.Common.{◌≡◌, ℕ, zero, suc, List, [], ◌∷◌, ◌++◌, length, map, sym, subst, true, false, inl, inr, ◌&&◌, not, nat_lt, Option, Some, None, if◌then◌else◌, set, cases_Bool, not-true}
 use Rattle.gb_types.specs.declared.{address.Addr.Addr, limits.TheConstants.NODES, node.NodeId.NodeId, version.Version.Version}
 use Rattle.gb_types.proofs.BoolLemmas.{and_right}
@@ -15,7 +15,7 @@ use Rattle.gb_table.specs.SlotsValue.{Row, row_at, on_slot, gone, vacant, with_v
 abbrev pub Each : (Row → Type 0) → List Row → Type 0
 Each P rows = (p : ℕ) → P (row_at rows p)
 
--- a step of a slot keeps what holds of its place
+-- a step of a slot keeps a property of its place
 abbrev pub KeptBy : (Row → Type 0) → (SlotState → SlotState) → Type 0
 KeptBy P f = (row : Row) → P row → P (on_slot f row)
 

@@ -13,7 +13,7 @@ use Rattle.gb_rules.proofs.AddressLemmas.{addr_is}
 same_addr : (g a b : Addr) → is_addr g a ≡ true → is_addr g b ≡ true → a ≡ b
 same_addr g a b e f = sym (addr_is g a e) ∙ addr_is g b f
 
--- where no two groups have one address, the one with this address is found
+-- if no two groups have the same address, the one with this address is found
 is_place : (addr : Addr) (rows : List Row) (p : ℕ) → AreApart rows → p < length rows → is_addr addr (row_at rows p).addr ≡ true → Some p ≡ position (λ (row : Row). is_addr addr row.addr) rows
 is_place addr rows p apart within has =
     let test = λ (row : Row). is_addr addr row.addr in
@@ -29,7 +29,7 @@ has_addr addr [] p b m t = let no : true ≡ false = sym t ∙ m in absurd (cc)
 has_addr addr (e ∷ es) zero b m t = (omega arith, sym m ∙ t)
 has_addr addr (e ∷ es) (suc p) b m t = let h = has_addr addr es p b m t in (let l = h.0 in omega arith, h.1)
 
--- a test of the place tells where the group is
+-- a test of the place shows if the group is there
 pub found_at : (addr : Addr) (slots : Slab SlotState) (es : List (Addr × Place)) (p : ℕ) (b : Bool) → AreKept es slots → MatchOption (slice_get es p) (b ≡ false) (λ e. b ≡ is_addr addr e.0) → b ≡ true → Some p ≡ position (λ (row : Row). is_addr addr row.addr) (map (row_of slots) es)
 found_at addr slots es p b kept m t =
     let h = has_addr addr es p b m t in

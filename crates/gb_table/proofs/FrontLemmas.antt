@@ -12,7 +12,7 @@ use Rattle.gb_table.proofs.BatchLemmas.{fit-front, get_or-gave}
 use Rattle.gb_rules.proofs.AddressLemmas.{addr_is, addr_same}
 use Rattle.gb_rules.specs.Common.{is_addr}
 
--- ---- queues whose items all pass a test, or none
+-- ---- queues whose items all pass a test, or all fail it
 
 abbrev pub Const : {A : Type 0} → (A → Bool) → Bool → List A → Type 0
 Const f b [] = Unit {0}
@@ -22,7 +22,7 @@ abbrev pub NonePass : {A : Type 0} → (A → Bool) → List (List A) → Type 0
 NonePass f [] = Unit {0}
 NonePass f (q ∷ qs) = Const f false q × NonePass f qs
 
--- only the items of one queue pass
+-- only the items of one queue pass the test
 abbrev pub Solo : {A : Type 0} → (A → Bool) → List (List A) → List A → Type 0
 Solo f [] q = q ≡ []
 Solo f (r ∷ qs) q = ((r ≡ q) × (Const f true r × NonePass f qs)) ⊎ (Const f false r × Solo f qs q)
@@ -79,7 +79,7 @@ solo-longest f [] q h = let e = ap length h in omega arith
 solo-longest f (r ∷ L) q (inl h) = let e = ap length h.0 in omega arith
 solo-longest f (r ∷ L) q (inr h) = let e = solo-longest f L q h.1 in omega arith
 
--- what passes in the turns is that queue
+-- the items of the turns that pass the test are that queue
 pub solo-turns : {A : Type 0} (f : A → Bool) (L : List (List A)) (q : List A) → Solo f L q → filter f (in_turns L) ≡ q
 unfolding in_turns
 solo-turns f L q h = solo-rounds f (longest L) L q h ∙ take_all (longest L) q (solo-longest f L q h)
@@ -150,7 +150,7 @@ solo-take p b (suc i) (suc c) (q ∷ qs) e h l =
     let ne : b ≡ p → ⊥ = omega arith in
     inr (const-visits p b false q (ne_eqb b p ne), solo-take p (suc b) i c qs (omega arith) (omega arith) (omega arith))
 
--- the items of a place in the walk are what waits there, in order
+-- the items of a place in the walk are its waiting items, in order
 pub walk_of : (p c : ℕ) (qs : List (List Entry)) → p < length qs → filter (is_at p) (walk c qs) ≡ map (visit p) (get_or qs p [])
 unfolding walk
 walk_of p c qs h =
@@ -159,7 +159,7 @@ walk_of p c qs h =
       | inr l ↦ solo-turns (is_at p) (from_place c (placed 0 qs)) _ (solo-left (is_at p) (drop c (placed 0 qs)) (take c (placed 0 qs)) _ (solo-drop p 0 p c qs (zero-add p) l h) (none-take p 0 c qs (omega arith)))
     ]
 
--- what passes of a front is a front of what passes
+-- the elements of a front that pass a test are a front of those of the list that pass
 pub filter_front : {A : Type 0} (f : A → Bool) (n : ℕ) (xs : List A) → filter f (take n xs) ≡ take (count_by f (take n xs)) (filter f xs)
 filter_front f n xs =
     sym (ap (λ ys. take (count_by f (take n xs)) (filter f ys)) (sym (take-append-drop n xs))
@@ -234,7 +234,7 @@ unfolding placed
 placed-below n b [] h = tt
 placed-below n b (q ∷ qs) h = (const-below n b q (omega arith), placed-below n (suc b) qs (omega arith))
 
--- a walk visits what its queues hold
+-- a walk visits the items of its queues
 pub walk_passes : (f : Visit → Bool) (c : ℕ) (qs : List (List Entry)) → AllPass f (placed 0 qs) → Const f true (walk c qs)
 unfolding walk in_turns
 walk_passes f c qs ok =
@@ -262,7 +262,7 @@ pub filter-map : {A B : Type 0} (f : B → Bool) (g : A → B) (xs : List A) →
 filter-map f g [] = refl
 filter-map f g (x ∷ xs) = ap (λ ys. cond (f (g x)) (g x ∷ ys) ys) (filter-map f g xs) ∙ map-cond g (f (g x)) x (filter (λ y. f (g y)) xs)
 
--- within the table, an item names the group at a place where it is of that place
+-- within the table, an item names the group at a place if and only if it is from that place
 pub same_test : (t : GroupsValue) (p : ℕ) → AreApart t.rows → p < length t.rows → (v : Visit) → is_below (length t.rows) v ≡ true → is_of (row_at t.rows p) (item_at t.rows v) ≡ is_at p v
 same_test t p ok h v b =
     let l = ltb-true v.place (length t.rows) b in
@@ -289,7 +289,7 @@ items_front version dest room t p ok h =
     ∙ ap (map (item_at t.rows)) (agree (is_below (length t.rows)) (λ v. is_of (row_at t.rows p) (item_at t.rows v)) (is_at p) (same_test t p ok h) (batch version dest room t) (batch_below version dest room t) ∙ batch_of version dest room p t h)
     ∙ map-item t p (take (share p (batch version dest room t)) (queue dest (row_at t.rows p)))
 
--- what a packing does to each group
+-- the effect of a packing on each group
 pub is_front : (version : Version) (dest room : ℕ) (t : GroupsValue) → dest < NODES → AreApart t.rows → HaveCounters t.rows → (p : ℕ) → p < length t.rows → IsFront version dest room t p
 is_front version dest room t d ok all p h =
     let k = share p (batch version dest room t) in

@@ -15,7 +15,7 @@ use Rattle.gb_table.proofs.InRoomsLemmas.{living_passed, rooms_stepped, rooms_dr
 use Rattle.gb_table.proofs.OthersLemmas.{others_stepped, others_all, others_gave, others_arrived, others_dropped}
 use Rattle.gb_table.proofs.MadeLemmas.{group_made, stay_made, count_made}
 
--- a step of the slot at an address is one of the group
+-- a step of the slot at an address is a step of the group
 or_stepped : (p b : Bool) (step : SlotState → SlotState) (o : Option (Option SlotState)) → or_passed p (where_so b (stepped step) o) ≡ where_so b (stepped step) (or_passed p o)
 or_stepped p false step o = refl
 or_stepped true true step None = refl
@@ -37,7 +37,7 @@ or_waiting true (Some None) dest = refl
 or_waiting false (Some None) dest = refl
 or_waiting p (Some (Some s)) dest = refl
 
--- a group that lives was passed; so one that is dropped can be made no more
+-- a group that lives was passed; so a dropped group can no longer be made
 or_dropped : (p b : Bool) (o : Option (Option SlotState)) → ((s : SlotState) → o ≡ Some (Some s) → p ≡ true) → or_passed p (where_so b dropped o) ≡ where_so b dropped (or_passed p o)
 or_dropped p false o h = refl
 or_dropped true true None h = refl

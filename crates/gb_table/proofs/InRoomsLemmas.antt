@@ -1,4 +1,4 @@
--- Each place is one of its room.
+-- Each place is in its room.
 use Rattle.gb_types.specs.Common.{◌≡◌, ℕ, zero, suc, ◌+◌, ◌*◌, ◌<◌, ◌≤◌, List, [], ◌∷◌, length, map, refl, ap, sym, ◌∙◌, subst, true, false, arith, inl, inr, ◌⊎◌, ◌/◌, ◌&&◌, Bool, count_by, take, drop, not, nat_lt, Option, Some, None, is_some, option_map, if◌then◌else◌, set, cases_Bool, cases_eq, get_or-drop, get_or-take, get_or-set_same, get_or-set_other, length-drop, length-take, length-set, length-map}
 use Rattle.std.proofs.Math.ListN.{get_or-map}
 use Rattle.gb_types.specs.declared.address.Addr.{Addr}
@@ -19,7 +19,7 @@ use Rattle.gb_table.proofs.OneGroupLemmas.{changed, change_first, step_is, gone_
 use Rattle.gb_table.proofs.OthersLemmas.{count_block, count_none, count_same}
 use Rattle.gb_table.proofs.RoomLemmas.{rank_below, rank_as, same_rank}
 
--- A step that keeps addresses and what is vacant.
+-- A step that keeps addresses and vacant places.
 
 -- the step keeps the address, and brings no group to a place without one
 pub record IsStep (change : Row → Row) : Type 0 where
@@ -140,7 +140,7 @@ none_here addr t ok can p l =
       | inr e ↦ e
     ]
 
--- a group that lives was made, if its place is one of its room
+-- a group that lives was made, if its place is in its room
 pub living_passed : (g : Addr) (s : SlotState) (rooms : List (Addr × ℕ)) (rows : List Row) → AreInRooms rooms rows → slot_for g rows ≡ Some (Some s) → is_passed g rooms ≡ true
 living_passed g s rooms rows ok e = at (place_of g rows) refl e
   where
@@ -154,9 +154,9 @@ living_passed g s rooms rows ok e = at (place_of g rows) refl e
           | inr w ↦ let no : Some s ≡ None = sym slot ∙ ap (λ (r : Row). r.slot) w in absurd (cc)
         ]
 
--- Those who live in a room.
+-- The living groups of a room.
 
--- a place that counts is one of the room
+-- a place that counts is in the room
 counted_rank : (addr : Addr) (rooms : List (Addr × ℕ)) (rows : List Row) (p : ℕ) → AreInRooms rooms rows → p < length rows → is_living_other addr (row_at rows p) ≡ true → rank_of addr rooms ≡ Some (p / GENERATIONS)
 counted_rank addr rooms rows p ok l e =
     let row = row_at rows p in
@@ -170,7 +170,7 @@ counted_rank addr rooms rows p ok l e =
     in_room_of true false c h = absurd (cc)
     in_room_of false b c h = absurd (cc)
 
--- the same test, given that the place is one of the room
+-- the same test, if the place is in the room
 room_test : (addr : Addr) (row : Row) → (is_some row.slot ≡ true → is_same_room addr row.addr ≡ true) → is_living_other addr row ≡ (is_some row.slot && not (is_addr addr row.addr))
 room_test addr row h =
     elim (cases_Bool (is_some row.slot)) [
@@ -178,7 +178,7 @@ room_test addr row h =
       | inr e ↦ ap (λ b. b && is_other_generation addr row.addr) e ∙ sym (ap (λ b. b && not (is_addr addr row.addr)) e)
     ]
 
--- the other generations that live are those at the room's places
+-- the other generations that live are at the room's places
 pub block_counts : (addr : Addr) (r : ℕ) (rooms : List (Addr × ℕ)) (rows : List Row) → AreInRooms rooms rows → rank_of addr rooms ≡ Some r → others_living addr rows ≡ count_by (λ (row : Row). is_some row.slot && not (is_addr addr row.addr)) (take GENERATIONS (drop (GENERATIONS * r) rows))
 block_counts addr r rooms rows ok e =
     let t = is_living_other addr in
@@ -206,7 +206,7 @@ block_counts addr r rooms rows ok e =
     let at = get_or-take GENERATIONS (drop (GENERATIONS * r) rows) k no_row (omega arith) ∙ get_or-drop (GENERATIONS * r) rows k no_row in
     ap t at ∙ (same k (omega arith) ∙ sym (ap u at)))
 
--- nobody lives in a room that was not begun
+-- no group lives in a room that was not begun
 pub none_counts : (addr : Addr) (rooms : List (Addr × ℕ)) (rows : List Row) → AreInRooms rooms rows → rank_of addr rooms ≡ None → others_living addr rows ≡ 0
 none_counts addr rooms rows ok e =
     count_none (is_living_other addr) rows no_row (λ k l. elim (cases_Bool (is_living_other addr (row_at rows k))) [

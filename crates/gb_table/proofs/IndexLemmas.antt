@@ -1,4 +1,4 @@
--- The index of the groups where something waits, over all nodes.
+-- The index of the groups with waiting items, over all nodes.
 use Rattle.gb_types.specs.Common.{zero, suc, ◌∷◌, ◌++◌, refl, length-append, ◌≡◌, ◌≢◌, ℕ, ◌<◌, ◌≤◌, min, List, [], length, get_or, ap, sym, subst, ◌∙◌, arith, inl, inr, set, cases_eq, get_or_default, get_or-set_same, get_or-set_other, length-set, length-map, map-set, map-append, map-set_same}
 use Rattle.gb_types.specs.declared.{limits.TheConstants.NODES, limits.TheConstants.PLACES, entry.Entry.Entry}
 use Rattle.gb_table.specs.SlotsValue.{Row, row_at, no_row}
@@ -22,7 +22,7 @@ busy_same d words rows new ok n e = record {
   each = λ p. let h = ok.each p in let m = ap (λ (qs : List (List Entry)). length (get_or qs p [])) e in omega arith;
 }
 
--- the index after the set of one node was written, where nothing that waits for other nodes changed
+-- the index after the set of one node was written, if no items that wait for other nodes changed
 pub index_changed : (rows new : List Row) (busy : List (List ℕ)) (to d : ℕ) (words : List ℕ) → IsIndex rows busy → to ≡ d → IsBusy d words new → length new ≡ length rows → ((e : ℕ) → e ≢ d → queues e new ≡ queues e rows) → d < NODES → IsIndex new (set busy to words)
 index_changed rows new busy to d words ok s here n others h = record {
   size = length-set busy to words ∙ ok.size;
@@ -37,14 +37,14 @@ index_changed rows new busy to d words ok s here n others h = record {
   ];
 }
 
--- a group changes and nothing that waits in it
+-- a group changes, but not its waiting items
 pub index_unchanged : (rows : List Row) (busy : List (List ℕ)) (p : ℕ) (row : Row) → IsIndex rows busy → ((d : ℕ) → queue d row ≡ queue d (row_at rows p)) → IsIndex (set rows p row) busy
 index_unchanged rows busy p row ok same = record {
   size = ok.size;
   each = λ d h. busy_same d (get_or busy d []) rows (set rows p row) (ok.each d h) (length-set rows p row) (map-set_same (queue d) rows p row no_row (same d));
 }
 
--- as many items wait in a group's place
+-- as many items wait at a group's place
 as_many : (d : ℕ) (rows : List Row) (p : ℕ) (row : Row) → p < length rows → length (queue d row) ≡ length (queue d (row_at rows p)) → (q : ℕ) → length (get_or (queues d (set rows p row)) q []) ≡ length (get_or (queues d rows) q [])
 as_many d rows p row h same q =
     let changed : queues d (set rows p row) ≡ set (queues d rows) p (queue d row) = map-set (queue d) rows p row in
@@ -86,7 +86,7 @@ index_but rows busy p row ok = record {
       ∙ sym (ap (λ (qs : List (List Entry)). min 1 (length (get_or qs q []))) (map-set (queue d) rows p row) ∙ ap (λ (x : List Entry). min 1 (length x)) (get_or-set_other (queues d rows) p q (queue d row) [] ne));
 }
 
--- a node's set says rightly whether something waits at a place
+-- a node's set has the place if and only if an item waits there for the node
 abbrev pub IsRight : List Row → List (List ℕ) → ℕ → ℕ → Type 0
 IsRight rows busy p d = has (get_or busy d []) p ≡ min 1 (length (get_or (queues d rows) p []))
 
@@ -109,7 +109,7 @@ get_or-none [] (suc p) = refl
 get_or-none (q ∷ qs) zero = refl
 get_or-none (q ∷ qs) (suc p) = get_or-none qs p
 
--- a group is added in which nothing waits
+-- a group without waiting items is added
 pub index_grown : (rows : List Row) (busy : List (List ℕ)) (row : Row) → IsIndex rows busy → length rows < PLACES → ((d : ℕ) → queue d row ≡ []) → IsIndex (rows ++ row ∷ []) busy
 index_grown rows busy row ok few none = record {
   size = ok.size;

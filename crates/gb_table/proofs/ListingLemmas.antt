@@ -14,7 +14,7 @@ flag_most false = omega arith
 
 -- Used places.
 
--- the used places from one on
+-- the used places from an index on
 pub used_here : (rows : List Row) (p : ℕ) → p < length rows → is_used (row_at rows p) ≡ true → used (drop p rows) ≡ row_at rows p ∷ used (drop (suc p) rows)
 used_here rows p l e = ap used (drop-cons rows p no_row l) ∙ ap (λ b. cond b (row_at rows p ∷ used (drop (suc p) rows)) (used (drop (suc p) rows))) e
 

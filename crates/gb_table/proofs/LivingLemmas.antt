@@ -12,7 +12,7 @@ use Rattle.gb_table.specs.GroupsValue.{GroupsValue}
 use Rattle.gb_table.specs.OneGroup.{slot_for, or_passed, answer_in, group_reply}
 use Rattle.gb_table.specs.Rooms.{rank_from, rank_of, is_passed}
 
--- a place where a group lives is that of its address
+-- a place at which a group lives is that of its address
 pub lives_at : (addr : Addr) (rows : List Row) (p : ℕ) → Some p ≡ living_place addr rows → (Some p ≡ place_of addr rows) × (is_some (row_at rows p).slot ≡ true)
 lives_at addr rows p e = by (place_of addr rows) e
   where
@@ -28,7 +28,7 @@ none_slot : (o : Option SlotState) → is_some o ≡ false → o ≡ None
 none_slot None e = refl
 none_slot (Some s) e = absurd (cc)
 
--- what is known where no group lives with an address: there is no place, or the place has no slot
+-- the cases in which no group lives with an address: there is no place, or the place has no slot
 absent_row : (rows : List Row) (p : ℕ) → None ≡ if_living rows (Some p) → (row_at rows p).slot ≡ None
 absent_row rows p e =
     elim (cases_Bool (is_some (row_at rows p).slot)) [
@@ -82,13 +82,13 @@ absent_group addr rows b e = by (place_of addr rows) e
 pub reply_absent : (answer : Shown → Reply) (addr : Addr) (t : GroupsValue) → None ≡ living_place addr t.rows → absent_answer (is_passed addr t.rooms) ≡ group_reply answer addr t
 reply_absent answer addr t e = absent_reply answer (is_passed addr t.rooms) ∙ sym (ap (answer_in answer) (absent_group addr t.rows (is_passed addr t.rooms) e))
 
--- and on one that lives
+-- the reply on a group that lives
 pub reply_living : (answer : Shown → Reply) (addr : Addr) (t : GroupsValue) (p : ℕ) (s : SlotState) → Some p ≡ place_of addr t.rows → (row_at t.rows p).slot ≡ Some s → answer (shown s) ≡ group_reply answer addr t
 reply_living answer addr t p s at there =
     let passed = is_passed addr t.rooms in
     sym (ap (λ o. answer_in answer (or_passed passed (option_map (λ (row : Row). row.slot) (option_map (row_at t.rows) o)))) (sym at) ∙ ap (λ o. answer_in answer (or_passed passed (Some o))) there)
 
--- What the map of rooms answers.
+-- The look-ups in the map of rooms.
 
 pub passed_some : (test : Addr → Bool) (g : Addr) (n : ℕ) (rooms : List (Addr × ℕ)) → ((a : Addr) → test a ≡ is_addr (name_of g) a) → Some n ≡ lookup test rooms → nat_le g.generation n ≡ is_passed g rooms
 passed_some test g n [] same e = absurd (cc)

@@ -17,7 +17,7 @@ use Rattle.gb_table.proofs.RoomLemmas.{rank_below, same_rank, rank_kept, rank_ne
 
 -- The places with those of a new room.
 
--- what the places are after a vacant one was added behind them
+-- the places after a vacant one was added at the end
 abbrev pub Extends : List Row → List Row → Type 0
 Extends rows more = (length rows ≤ length more) × ((p : ℕ) → p < length rows → row_at more p ≡ row_at rows p) × ((p : ℕ) → length rows ≤ p → p < length more → row_at more p ≡ vacant p)
 
@@ -101,7 +101,7 @@ pub record TakesPlace (addr : Addr) (t : GroupsValue) (place : ℕ) : Type 0 whe
   pub rank : rank_of addr (with_made addr t.rooms) ≡ Some (place / GENERATIONS)
   pub size : length (with_room place t.rows) ≡ GENERATIONS * length (with_made addr t.rooms)
 
--- a group lives at each of four places: they are of other generations of the room
+-- if a group lives at each of four places, these are of other generations of the room
 four_live : (addr : Addr) (r : ℕ) (t : GroupsValue) → AreInRooms t.rooms t.rows → CanBeMade addr t → rank_of addr t.rooms ≡ Some r → ((k : ℕ) → k < GENERATIONS → is_some (row_at t.rows (GENERATIONS * r + k)).slot ≡ true) → ⊥
 four_live addr r t ok can e all =
     let below = rank_below r addr t.rooms e in
@@ -355,7 +355,7 @@ passed_living true None = refl
 passed_living false None = refl
 passed_living b (Some s) = refl
 
--- what a make makes of another group
+-- the effect of a make on another group
 other_made : (g addr : Addr) (t : GroupsValue) (o : Option SlotState) → CanBeMade addr t → or_living (is_passed g (with_made addr t.rooms)) o ≡ where_so (is_reached_by g addr) passed (or_living (is_passed g t.rooms) o)
 other_made g addr t o can =
     elim (cases_Bool (is_same_room g addr)) [

@@ -53,7 +53,7 @@ enrolled to place members old sets words other l ok others here n =
       ];
     }
 
--- what is at a place was changed
+-- the content of a place was changed
 pub memberships_put : (rows : List Row) (old new : List (List ℕ)) (place : ℕ) (row : Row) (members : nodes.FinSet nat_cmp) → AreMemberships rows old → place < length rows → IsEnrolled NODES place members old new → ((who : ℕ) → (if nodes.contains members who then 1 else 0) ≡ member_in who row) → AreMemberships (set rows place row) new
 memberships_put rows old new place row members ok l w is = record {
   size = w.size ∙ ok.size;
@@ -101,7 +101,7 @@ found who from (Some q) words rows few at next = record {
 pub next_member : (to who from : ℕ) (r : Option ℕ) (rows : List Row) (sets : List (List ℕ)) (words other : List ℕ) → length rows ≤ PLACES → AreMemberships rows sets → to ≡ who → who < NODES → words ≡ get_or sets to other → MatchOption r ((p : ℕ) → from ≤ p → has words p ≡ 0) (λ q. IsNext words from q) → MatchOption r ((p : ℕ) → from ≤ p → has_member who (row_at rows p).slot ≡ 0) (λ q. IsNextMember who from rows q)
 next_member to who from r rows sets words other few ok e h at next = found who from r words rows few (members_at rows sets to who words other ok e h at) next
 
--- a group without the node among its members is as it was after a notice
+-- a notice does not change a group without the node among its members
 
 abbrev flag : Bool → ℕ
 flag b = if b then 1 else 0

@@ -1,4 +1,4 @@
--- Packets of the node's version name each group, whatever step it takes.
+-- Packets of the node's version can name each group, whatever step it takes.
 use Rattle.gb_types.specs.Common.{◌≡◌, ℕ, List, map, true, Option, Some, None, option_map}
 use Rattle.gb_types.specs.declared.{address.Addr.Addr, node.NodeId.NodeId, version.Version.Version}
 use Rattle.gb_frame.specs.declared.item.Item.{Item}

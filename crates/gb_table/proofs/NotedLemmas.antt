@@ -84,7 +84,7 @@ no_member members from e d le lt =
       | inr first ↦ let both : first.0 ∷ _ ≡ [] = sym first.1.parts ∙ e in absurd (cc)
     ]
 
--- a member is reached where it is not passed over
+-- a member is reached if and only if it is not skipped
 pub reached_member : (s : SlotState) (d : ℕ) → nodes.contains s.spec.members d ≡ true → reaches s d ≡ not (nodes.contains (nodes.insert s.noticed s.me.number) d)
 reached_member s d member = (λ i. (member i && not (nat_eq d s.me.number)) && not (nodes.contains s.noticed d)) ∙ neither (nat_eq d s.me.number) (nodes.contains s.noticed d) ∙ sym (ap not (contains-insert s.noticed s.me.number d))
   where
@@ -101,7 +101,7 @@ abbrev pub members_of : Option SlotState → nodes.FinSet nat_cmp
 members_of None = nodes.empty
 members_of (Some s) = s.spec.members
 
--- the group's items are put out to the node; those of a dropped group to no node
+-- the group queues items for the node; a dropped group queues none
 abbrev pub is_reached : ℕ → Option SlotState → Bool
 is_reached dest None = false
 is_reached dest (Some s) = reaches s dest
@@ -111,12 +111,12 @@ unreached_none : (d : ℕ) (slot : Option SlotState) → is_reached d slot ≡ f
 unreached_none d None e = refl
 unreached_none d (Some s) e = λ i. if e i then map (entry_in s.store) (drop (taken_for s d) s.outgoing) else []
 
--- nor for one that is no member
+-- no item waits for a node that is no member
 waiting_outside : (d : ℕ) (slot : Option SlotState) → nodes.contains (members_of slot) d ≡ false → queue_of d slot ≡ []
 waiting_outside d None e = refl
 waiting_outside d (Some s) e = unreached_none d (Some s) (reached_outside s d e)
 
--- what waits at a place
+-- the items that wait at a place
 queue_at : (d : ℕ) (rows : List Row) (p : ℕ) → p < length rows → get_or (queues d rows) p [] ≡ queue d (row_at rows p)
 queue_at d rows p h = queues_at d rows p (row_at rows p) h (get_or_default rows p no_row (row_at rows p) h)
 
@@ -131,14 +131,14 @@ index_written rows old busy p picks value h ok w picked others =
       | false ↦ λ m. w.stay d m ∙ others d l m ∙ sym (ap (λ (q : List Entry). min 1 (length q)) (queue_at d rows p h))
     ] refl)
 
--- the sets of its members, by what waits there
+-- the sets of the group's members, by the items that wait there
 pub index_noted : (rows : List Row) (old busy : List (List ℕ)) (p : ℕ) (s : SlotState) → p < length rows → (row_at rows p).slot ≡ Some s → IsIndexBut p rows old → ((d : ℕ) → d < NODES → nodes.contains (members_of (row_at rows p).slot) d ≡ false → has (get_or old d []) p ≡ 0) → IsNoted NODES p s old busy → IsIndex rows busy
 index_noted rows old busy p s h is ok outside w =
     index_written rows old busy p (nodes.contains s.spec.members) (λ d. min 1 (length (waiting s d))) h ok w
     (λ d l m. sym (ap (λ o. min 1 (length (queue_of d o))) is))
     (λ d l m. let no = ap (λ o. nodes.contains (members_of o) d) is ∙ m in outside d l no ∙ sym (ap (λ (q : List Entry). min 1 (length q)) (waiting_outside d (row_at rows p).slot no)))
 
--- the sets of the nodes to which its items are put out, where something was put out
+-- the sets of the nodes for which the group queues items, after it queued some
 pub index_put_out : (rows : List Row) (old busy : List (List ℕ)) (p : ℕ) (s : SlotState) → p < length rows → (row_at rows p).slot ≡ Some s → IsIndexBut p rows old → WaitsForEach s → ((d : ℕ) → d < NODES → is_reached d (row_at rows p).slot ≡ false → has (get_or old d []) p ≡ 0) → IsPlaced NODES p s old busy → IsIndex rows busy
 index_put_out rows old busy p s h is ok waits unreached w =
     index_written rows old busy p (reaches s) (λ _. 1) h ok w
@@ -150,7 +150,7 @@ pub members_stepped : (f : SlotState → SlotState) (d : ℕ) (slot : Option Slo
 members_stepped f d None same = refl
 members_stepped f d (Some s) same = ap (λ (x : Spec). nodes.contains x.members d) (same s)
 
--- no set has the place of a group whose slot fails a test, after a step that keeps the test, where nothing waits before it
+-- no set has the place of a group whose slot fails a test, after a step that keeps the test, if no item waited there before
 failed_stepped : (f : SlotState → SlotState) (rows : List Row) (busy : List (List ℕ)) (p d : ℕ) (test : Option SlotState → Bool) → p < length rows → ((slot : Option SlotState) → test (option_map f slot) ≡ test slot) → ((slot : Option SlotState) → test slot ≡ false → queue_of d slot ≡ []) → IsIndex rows busy → d < NODES
     → test (row_at (set rows p (on_slot f (row_at rows p))) p).slot ≡ false → has (get_or busy d []) p ≡ 0
 failed_stepped f rows busy p d test h same none ok l out =
@@ -158,7 +158,7 @@ failed_stepped f rows busy p d test h same none ok l out =
     let before = sym (same (row_at rows p).slot) ∙ sym now ∙ out in
     (ok.each d l).each p ∙ ap (λ (q : List Entry). min 1 (length q)) (queue_at d rows p h ∙ none (row_at rows p).slot before)
 
--- that the node is a member, where the spec is kept
+-- the test that the node is a member, if the spec is kept
 pub outside_stepped : (f : SlotState → SlotState) (rows : List Row) (busy : List (List ℕ)) (p : ℕ) → p < length rows → ((s : SlotState) → (f s).spec ≡ s.spec) → IsIndex rows busy → (d : ℕ) → d < NODES → nodes.contains (members_of (row_at (set rows p (on_slot f (row_at rows p))) p).slot) d ≡ false → has (get_or busy d []) p ≡ 0
 outside_stepped f rows busy p h same ok d l = failed_stepped f rows busy p d (λ slot. nodes.contains (members_of slot) d) h (λ slot. members_stepped f d slot same) (waiting_outside d) ok l
 
@@ -166,11 +166,11 @@ reached_stepped : (f : SlotState → SlotState) (d : ℕ) (slot : Option SlotSta
 reached_stepped f d None same = refl
 reached_stepped f d (Some s) same = same s
 
--- that items are put out to the node, where it is reached as before
+-- the test that the group queues items for the node, if it is reached as before
 pub unreached_stepped : (f : SlotState → SlotState) (rows : List Row) (busy : List (List ℕ)) (p : ℕ) → p < length rows → ((d : ℕ) (s : SlotState) → reaches (f s) d ≡ reaches s d) → IsIndex rows busy → (d : ℕ) → d < NODES → is_reached d (row_at (set rows p (on_slot f (row_at rows p))) p).slot ≡ false → has (get_or busy d []) p ≡ 0
 unreached_stepped f rows busy p h same ok d l = failed_stepped f rows busy p d (is_reached d) h (λ slot. reached_stepped f d slot (same d)) (unreached_none d) ok l
 
--- the index after a group was dropped and taken out of each set
+-- the index after a group was dropped and removed from each set
 pub index_dropped : (rows : List Row) (old busy : List (List ℕ)) (p : ℕ) → p < length rows → IsIndex rows old → IsEnrolled NODES p nodes.empty old busy → IsIndex (set rows p (gone (row_at rows p))) busy
 index_dropped rows old busy p h ok w =
     let row = gone (row_at rows p) in

@@ -23,7 +23,7 @@ abbrev pub first_with : Addr → List Row → Option (Option SlotState)
 first_with g [] = None
 first_with g (r ∷ rows) = if is_addr g r.addr then Some r.slot else first_with g rows
 
--- the first place after one that is not it
+-- the first place behind one that is not the group's
 place_later : (n size : ℕ) → cond (ltb (1 + n) (suc size)) (Some (1 + n)) None ≡ option_map suc (cond (ltb n size) (Some n) None)
 place_later n size =
     elim (cases_lt n size) [
@@ -91,7 +91,7 @@ pub gone_is : (rows : List Row) (o : Option ℕ) → gone_at rows o ≡ change_a
 gone_is rows None = refl
 gone_is rows (Some p) = refl
 
--- one address is another: then both tests are the same
+-- if one address equals another, both tests are the same
 through : (g addr a : Addr) → is_addr g addr ≡ true → is_addr g a ≡ is_addr addr a
 through g addr a e = ap (λ x. is_addr x a) (addr_is g addr e)
 
@@ -148,7 +148,7 @@ dropped_in g addr rows =
     ap (slot_for g) (gone_is rows (place_of addr rows) ∙ change_first addr gone rows)
     ∙ each g addr gone (λ s. None) (λ r. refl) (λ r. refl) rows
 
--- A step of all.
+-- A step of all groups.
 
 first_all : (g : Addr) (step : SlotState → SlotState) (rows : List Row) → first_with g (map (on_slot step) rows) ≡ stepped step (first_with g rows)
 first_all g step [] = refl
@@ -244,7 +244,7 @@ module _ (g : Addr) (version : Version) (dest room : ℕ) (t : GroupsValue) (apa
       filter-map (names g) (item_at t.rows) vs
       ∙ (ap (map (item_at t.rows)) (agree (is_below (length t.rows)) (λ v. names g (item_at t.rows v)) (λ v. false) off vs (batch_below version dest room t)) ∙ ap (map (item_at t.rows)) (filter-never vs))
 
-  -- those of a group at a place are a front of what waits there
+  -- the items of a group at a place are the first of its waiting items
   present : (p : ℕ) → Some p ≡ place_of g t.rows → items_for g is ≡ map (item_for g) (take (share p vs) (queue dest (row_at t.rows p)))
   present p e =
       let there = place_is g t.rows p e in
@@ -309,7 +309,7 @@ unfolding gave
 addrs_gave dest b visits [] = refl
 addrs_gave dest b visits (r ∷ rows) = ap (λ (addresses : List Addr). r.addr ∷ addresses) (addrs_gave dest (suc b) visits rows)
 
--- No two places have one address after a step.
+-- No two places have the same address after a step.
 
 pub apart_stepped : (addr : Addr) (step : SlotState → SlotState) (rows : List Row) → AreApart rows → AreApart (on_address addr step rows)
 apart_stepped addr step rows ok =

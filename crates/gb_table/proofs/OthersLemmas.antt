@@ -26,7 +26,7 @@ living_stepped g step r = ap (λ b. b && is_other_generation g r.addr) (some_ste
 others_cons : (g : Addr) (r : Row) (rows : List Row) → others_living g (r ∷ rows) ≡ flag (is_living_other g r) + others_living g rows
 others_cons g r rows = count_by-cons (is_living_other g) r rows
 
--- a step of the first row that keeps who lives there
+-- a step of the first row that keeps whether it lives
 others_head : (g : Addr) (r new : Row) (rows : List Row) → is_living_other g new ≡ is_living_other g r → others_living g (new ∷ rows) ≡ others_living g (r ∷ rows)
 others_head g r new rows e = others_cons g new rows ∙ (ap (λ b. flag b + others_living g rows) e ∙ sym (others_cons g r rows))
 
@@ -104,7 +104,7 @@ others_dropped g addr s rows e =
 
 -- A group is made at a free place.
 
--- nobody lives at a place without a slot
+-- no group lives at a place without a slot
 nobody_lives : (g : Addr) (r : Row) → r.slot ≡ None → is_living_other g r ≡ false
 nobody_lives g r e = ap (λ o. is_some o && is_other_generation g r.addr) e
 
@@ -163,7 +163,7 @@ pub count_none : {X : Type 0} (t : X → Bool) (xs : List X) (d : X) → ((k : �
 count_none t [] d none = refl
 count_none t (x ∷ xs) d none = count_by-cons t x xs ∙ (ap (λ b. flag b + count_by t xs) (none 0 (omega arith)) ∙ zero-add (count_by t xs) ∙ count_none t xs d (λ k l. none (suc k) (omega arith)))
 
--- where only a block's elements may pass, those of the block are counted
+-- if only a block's elements can pass, those of the block are counted
 pub count_block : {X : Type 0} (t : X → Bool) (xs : List X) (from n : ℕ) (d : X) → ((k : ℕ) → k < length xs → (k < from) ⊎ (from + n ≤ k) → t (get_or xs k d) ≡ false) → count_by t xs ≡ count_by t (take n (drop from xs))
 count_block t [] zero zero d off = refl
 count_block t [] (suc from) zero d off = refl

@@ -1,4 +1,4 @@
--- What steps leave unchanged: the node at which groups are, and the limit on the length of the messages that they know.
+-- Steps keep the node at which groups are, and the limit on the length of the messages that they know.
 use Rattle.gb_types.specs.Common.{◌≡◌, ◌≤◌, ℕ, List, map, refl, ap, sym, ◌∙◌, true, false, arith, Bool, not, length, nat_eq, Option, Some, None, option_map, if◌then◌else◌, nat_cmp, set, set-get_or, message_of, limits_of}
 use Rattle.std.specs.FinSet as nodes
 use Rattle.gb_types.specs.declared.{address.Addr.Addr, entry.Entry.Entry, message.MsgId.MsgId, node.NodeId.NodeId, spec.Spec.Spec, version.Version.Version, reply.Reply.Reply, new_message.NewMessage.NewMessage}
@@ -19,7 +19,7 @@ use Rattle.gb_table.specs.TableValue.{TableValue, with_rows, table_done}
 use Rattle.gb_table.specs.OwnNode.{IsOwn, AreOwn}
 use Rattle.gb_table.proofs.EachLemmas.{KeptBy, each_address, each_dropped, each_came, each_stepped, each_gave, each_made}
 
--- what steps leave of a slot's node
+-- the node of a slot after steps
 
 me-came : (from : NodeId) (x : Entry) (s : SlotState) → (slot_came from x s).me ≡ s.me
 me-came from x s = elim (falls from x s) as (λ b. (if b then s else slot_called (Came from (message_of x)) (with_new s.store x) s).me ≡ s.me) [ true ↦ refl | false ↦ refl ]
@@ -33,7 +33,7 @@ me-moved phase (Said seq) s = refl
 me-moved phase (Log entries) s = refl
 me-moved phase (Refused why) s = refl
 
--- a step keeps what holds of each slot
+-- a step keeps a property of each slot
 
 abbrev pub Keeps : NodeId → Version → (SlotState → SlotState) → Type 0
 Keeps me version f = (s : SlotState) → IsOwn me version (Some s) → IsOwn me version (Some (f s))
@@ -41,7 +41,7 @@ Keeps me version f = (s : SlotState) → IsOwn me version (Some s) → IsOwn me 
 pub own-moved : (me : NodeId) (version : Version) (phase : Phase) (reply : Reply) → Keeps me version (slot_moved phase reply)
 own-moved me version phase reply s own = (me-moved phase reply s ∙ own.0, short-moved (limits_of version).payload phase reply s own.1)
 
--- what is said is within the limit where it gets a number
+-- a message that is said and gets a number is within the limit
 pub own-said : (me : NodeId) (version : Version) (payload : List ℕ) (reply : Reply) → ((seq : ℕ) → reply ≡ Said seq → length payload ≤ (limits_of version).payload) → Keeps me version (slot_said payload reply)
 own-said me version payload Done fits s own = own
 own-said me version payload (Said seq) fits s own = (own.0, short-own (limits_of version).payload payload seq s (fits seq refl) own.1)
@@ -72,7 +72,7 @@ own-took me version dest count s own = (own.0, short-took (limits_of version).pa
 own_new : (me : NodeId) (version : Version) (spec : Spec) (noticed : nodes.FinSet nat_cmp) → IsOwn me version (Some (new_slot spec me noticed))
 own_new me version spec noticed = (refl, λ m. omega arith)
 
--- what holds of a place
+-- the property of a place
 abbrev IsOwnRow : NodeId → Version → Row → Type 0
 IsOwnRow me version row = IsOwn me version row.slot
 
@@ -113,7 +113,7 @@ step_unchanged me version dest m rows None other are = refl
 step_unchanged me version dest m rows (Some p) other are =
     ap (λ (slot : Option SlotState). set rows p (record (row_at rows p) { slot = slot })) (acknowledgement_unchanged me version dest m (row_at rows p).slot other (are.each p)) ∙ set-get_or rows p no_row
 
--- the test says that another node said it
+-- the test that another node said the message
 test_false : (b : Bool) → true ≡ not b → b ≡ false
 test_false true e = absurd (cc)
 test_false false e = refl
@@ -122,7 +122,7 @@ pub table_unchanged : (dest : NodeId) (addr : Addr) (m : MsgId) (t : TableValue)
 table_unchanged dest addr m t other are =
     ap (λ (rows : List Row). with_rows rows t) (sym (step_unchanged t.me t.version dest m t.groups.rows (place_of addr t.groups.rows) (test_false (nat_eq m.origin.number t.me.number) other) are))
 
--- What groups know is within the version's limit.
+-- The messages that groups know are within the version's limit.
 
 own_short : (me : NodeId) (version : Version) (slot : Option SlotState) → IsOwn me version slot → IsShort (limits_of version).payload slot
 own_short me version None own = tt

@@ -18,7 +18,7 @@ bit_from w k i h l =
 bit_below : (w k i : ℕ) → i < k → bit_at (from_bit w k) i ≡ 0
 bit_below w k i h = bit_at_and w (2 ^ 64 - 2 ^ k) i ∙ ap (min (bit_at w i)) (bit_at_mask_below k 64 i h) ∙ let c : min (bit_at w i) 0 ≡ 0 = omega arith in c
 
--- what the lowest set bit of a word says, from a bit on
+-- the lowest set bit of a word, from a bit on
 pub record Lowest (w k t : ℕ) : Type 0 where
   pub small : t < 64
   pub after : k ≤ t
@@ -56,7 +56,7 @@ pub has-zero : (words : List ℕ) (p : ℕ) → get_or words (p / 64) 0 ≡ 0 �
 unfolding has
 has-zero words p e = ap (λ n. bit_at n (p % 64)) e ∙ bit_at-zero (p % 64)
 
--- the first word: none there
+-- the first word has no such place
 pub none_there : (words : List ℕ) (from p w : ℕ) → w ≡ get_or words (from / 64) 0 → from_bit w (from % 64) ≡ 0 → from ≤ p → p / 64 ≤ from / 64 → has words p ≡ 0
 none_there words from p w e z h l =
     let a : p / 64 ≡ from / 64 = omega arith in
@@ -64,7 +64,7 @@ none_there words from p w e z h l =
     let c : p % 64 < 64 = omega arith in
     has-at words p (from / 64) (p % 64) a refl ∙ ap (λ n. bit_at n (p % 64)) (sym e) ∙ none_from w (from % 64) (p % 64) z b c
 
--- found in a word: all words before have none at or after the place
+-- the place is found in a word: all words before have none at or after `from`
 pub found_in : (words : List ℕ) (from a k w t : ℕ) → w ≡ get_or words a 0 → Lowest w k t → from ≤ a * 64 + k → (a * 64 + k ≤ from ⊎ k ≡ 0) → ((p : ℕ) → from ≤ p → p / 64 < a → has words p ≡ 0) → IsNext words from (a * 64 + t)
 found_in words from a k w t e low h kk before =
     let s = low.small in
@@ -140,7 +140,7 @@ next_word words summary first f is z s =
       none = λ i h l. let m : i < 64 = omega (arith, l, low.small) in omega (arith, low.none i (omega (arith, h)) l, other i m h);
     }
 
--- no place in a word behind one, where the summary says so
+-- no word behind one has a place, if the summary says so
 pub none_behind : (words : List ℕ) (summary first M a : ℕ) → length words ≤ 64 → IsSummary words summary → first < 64 → M ≡ 2 ^ 64 - 2 ^ first → bit_and (without summary first) M ≡ 0 → first < a → get_or words a 0 ≡ 0
 none_behind words summary first M a few is f m e h = elim (cases_lt a 64) [
   | inl l ↦
@@ -204,7 +204,7 @@ none_of zero i = refl
 none_of (suc n) zero = refl
 none_of (suc n) (suc i) = none_of n i
 
--- a word of so many, where zeros follow those of a set
+-- a word of the first n, if zeros follow the words of a set
 pub padded_word : (words front : List ℕ) (n : ℕ) → front ≡ words → (a : ℕ) → get_or (front ++ drop (length words) (replicate {A = ℕ} n 0)) a 0 ≡ get_or words a 0
 padded_word words front n is a =
     let m = length words in
@@ -215,7 +215,7 @@ padded_word words front n is a =
       | inr l ↦ get_or-append_right words (drop m zeros) m a 0 refl l ∙ (get_or-drop m zeros (a - m) 0 ∙ (none_of n (m + (a - m)) ∙ sym (get_or_past words a 0 l)))
     ]
 
--- words that differ in nothing but zeros behind the last have the same places
+-- words that differ only in zeros behind the last have the same places
 pub has-same : (words other : List ℕ) (p : ℕ) → ((a : ℕ) → get_or other a 0 ≡ get_or words a 0) → has other p ≡ has words p
 unfolding has
 has-same words other p same = ap (λ w. bit_at w (p % 64)) (same (p / 64))

@@ -22,7 +22,7 @@ room_of_name g addr e =
     let groups : g.group ≡ addr.group = ap (λ (a : Addr). a.group) e in
     grind (arith, nat_tests, tenants, groups)
 
--- a room has both names
+-- one room has both names
 one_name : (g addr name : Addr) → is_addr (name_of g) name ≡ true → is_addr (name_of addr) name ≡ true → is_same_room g addr ≡ true
 one_name g addr name e f = room_of_name g addr (addr_is (name_of g) name e ∙ sym (addr_is (name_of addr) name f))
 
@@ -45,7 +45,7 @@ rank_within n r g (room ∷ rooms) e =
 pub rank_below : (r : ℕ) (g : Addr) (rooms : List (Addr × ℕ)) → rank_of g rooms ≡ Some r → r < length rooms
 rank_below r g rooms e = let w = (rank_within 0 r g rooms e).1 in omega arith
 
--- groups with one rank are in one room
+-- groups with the same rank are in the same room
 pub same_rank : (n r : ℕ) (g addr : Addr) (rooms : List (Addr × ℕ)) → rank_from n g rooms ≡ Some r → rank_from n addr rooms ≡ Some r → is_same_room g addr ≡ true
 same_rank n r g addr [] e f = absurd (cc)
 same_rank n r g addr (room ∷ rooms) e f =
@@ -111,7 +111,7 @@ size_kept n r addr (room ∷ rooms) e =
       | inr h ↦ let rest = sym (ap (λ b. if b then Some n else rank_from (n + 1) addr rooms) h) ∙ e in rw h (ap suc (size_kept (n + 1) r addr rooms rest))
     ]
 
--- Which groups were passed.
+-- The groups that were passed.
 
 pub passed_own : (addr : Addr) (rooms : List (Addr × ℕ)) → is_passed addr (with_made addr rooms) ≡ true
 passed_own addr [] = ap (λ b. if b then nat_le addr.generation addr.generation else false) (own_name addr) ∙ grind (arith, nat_tests)
@@ -121,7 +121,7 @@ passed_own addr (room ∷ rooms) =
       | inr h ↦ rw h (ap (λ b. if b then nat_le addr.generation room.1 else is_passed addr (with_made addr rooms)) h ∙ passed_own addr rooms)
     ]
 
--- in the room of a group that was just made, those up to its generation
+-- in the room of a group that was just made: those up to its generation
 pub passed_same : (g addr : Addr) (rooms : List (Addr × ℕ)) → is_same_room g addr ≡ true → is_passed g (with_made addr rooms) ≡ nat_le g.generation addr.generation
 passed_same g addr [] e = ap (λ b. if b then nat_le g.generation addr.generation else false) (has_name g addr (name_of addr) e ∙ own_name addr)
 passed_same g addr (room ∷ rooms) e =
@@ -130,7 +130,7 @@ passed_same g addr (room ∷ rooms) e =
       | inr h ↦ rw h (ap (λ b. if b then nat_le g.generation room.1 else is_passed g (with_made addr rooms)) (has_name g addr room.0 e ∙ h) ∙ passed_same g addr rooms e)
     ]
 
--- in other rooms, those of before
+-- in other rooms: those from before
 pub passed_other : (g addr : Addr) (rooms : List (Addr × ℕ)) → is_same_room g addr ≡ false → is_passed g (with_made addr rooms) ≡ is_passed g rooms
 passed_other g addr [] e =
     elim (cases_Bool (is_addr (name_of g) (name_of addr))) [

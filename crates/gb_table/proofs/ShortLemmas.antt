@@ -18,7 +18,7 @@ use Rattle.gb_table.proofs.StepLemmas.{waiting_fits}
 use Rattle.gb_table.proofs.WalkLemmas.{length-queues, queues_at}
 use Rattle.gb_table.proofs.FrontLemmas.{Const, AllPass, is_below, walk_below, walk_of, walk_passes, batch_passes}
 
--- what waits in a group whose messages are short is short
+-- the waiting items of a group whose messages are short are short
 first_short : (dest : ℕ) (o : Option SlotState) → IsShort PAYLOAD o → (x : Entry) (xs : List Entry) → queue_of dest o ≡ x ∷ xs → length x.payload ≤ PAYLOAD
 first_short dest None short x xs e = absurd (cc)
 first_short dest (Some s) short x xs e = waiting_fits PAYLOAD s dest 0 x short (ap (λ ys. slice_get ys 0) e)
@@ -30,7 +30,7 @@ module _ (version : Version) (dest room : ℕ) (t : GroupsValue) (short : AreSho
       walk_of p (cursor_for dest t) (queues dest t.rows) (omega (arith, l, within))
       ∙ ap (map (visit p)) (queues_at dest t.rows p (row_at t.rows p) within (get_or_default t.rows p no_row (row_at t.rows p) within))
 
-  -- the first of the walk has room
+  -- the first item of the walk has room
   fits : (v : Visit) (vs : List Visit) → walk_to dest t ≡ v ∷ vs → size version v ≤ room
   fits v vs e =
       let below : Const (is_below (length (queues dest t.rows))) true (v ∷ vs) = (rw e at (walk_below (cursor_for dest t) (queues dest t.rows))) in

@@ -10,14 +10,14 @@ use Rattle.gb_table.specs.declared.{places.Place.Place, places.Place.TheVariants
 use Rattle.gb_table.specs.SlotsValue.{Row, row_at, on_slot, counters, counters_of, HaveCounters, IsShort, AreShort, no_row}
 use Rattle.gb_table.specs.Places.{slot_under, row_of, place_at, AreKept}
 
--- what stands past the end of the entries
+-- the default entry past the end of the entries
 abbrev pub no_entry_at : Addr × Place
 no_entry_at = record { 0 = record { tenant = 0; group = 0; generation = 0 }; 1 = Gone }
 
 past_gone : (es : List (Addr × Place)) (p : ℕ) → length es ≤ p → place_at es p ≡ Gone
 past_gone es p h = ap (λ (e : Addr × Place). e.1) (get_or_past es p no_entry_at h)
 
--- a place that leads to a key is one of these
+-- a place that leads to a key is within the entries
 pub leads_within : (es : List (Addr × Place)) (p k : ℕ) → place_at es p ≡ Key k → p < length es
 leads_within es p k here =
     elim (cases_lt p (length es)) [
@@ -25,7 +25,7 @@ leads_within es p k here =
       | inr h ↦ let n : Gone ≡ Key k = sym (past_gone es p h) ∙ here in absurd (cc)
     ]
 
--- a slot that is there stands within the slab
+-- the key of a slot is within the slab
 pub some_within : (slots : Slab SlotState) (k : ℕ) (v : SlotState) → Some v ≡ get slots k → k < length slots.slots
 some_within slots k v e =
     elim (cases_lt k (length slots.slots)) [
@@ -37,7 +37,7 @@ under-other : (slots : Slab SlotState) (k : ℕ) (new : SlotState) (place : Plac
 under-other slots k new Gone h = refl
 under-other slots k new (Key j) h = get_or-set_other slots.slots k j (Some new) None (λ e. h (ap Key e))
 
--- what is made of a group by its address and its slot
+-- a function of a group's address and slot, at an entry
 abbrev pub made_of : {X : Type 0} → (Addr → Option SlotState → X) → Slab SlotState → Addr × Place → X
 made_of f slots e = f e.0 (slot_under slots e.1)
 
@@ -63,11 +63,11 @@ row_is slots es p = get_or-map (row_of slots) es p no_entry_at
 pub slot_is : (slots : Slab SlotState) (es : List (Addr × Place)) (p k : ℕ) (v : SlotState) → place_at es p ≡ Key k → Some v ≡ get slots k → (row_at (map (row_of slots) es) p).slot ≡ Some v
 slot_is slots es p k v here at = ap (λ (r : Row). r.slot) (row_is slots es p) ∙ ap (slot_under slots) here ∙ sym at
 
--- and after it was written under that key
+-- the slot at a place after it was written under that key
 pub slot_written : (slots : Slab SlotState) (es : List (Addr × Place)) (p k : ℕ) (v new : SlotState) → place_at es p ≡ Key k → Some v ≡ get slots k → (row_at (map (row_of (with_value slots k new)) es) p).slot ≡ Some new
 slot_written slots es p k v new here at = slot_is (with_value slots k new) es p k new here (sym (get_or-set_same slots.slots k (Some new) None (some_within slots k v at)))
 
--- what a write of a slot's value makes of the groups
+-- the groups after a write of a slot's value
 pub record Changed (f : SlotState → SlotState) (es : List (Addr × Place)) (slots : Slab SlotState) (p k : ℕ) (new : SlotState) : Type 0 where
   pub kept : AreKept es (with_value slots k new)
   pub rows : map (row_of (with_value slots k new)) es ≡ set (map (row_of slots) es) p (on_slot f (row_at (map (row_of slots) es) p))
@@ -150,7 +150,7 @@ position-rows test addr slots es h =
     let m = length-map es (λ (e : Addr × Place). e.0) ∙ sym (length-map es (row_of slots)) in
     ap (λ i. cond (nat_lt i (length (keys_of es))) (Some i) None) n ∙ ap (λ l. cond (nat_lt (position_or_len (λ (row : Row). is_addr addr row.addr) (map (row_of slots) es)) l) (Some (position_or_len (λ (row : Row). is_addr addr row.addr) (map (row_of slots) es))) None) m
 
--- what a kept slot knows is within the limit
+-- the messages of a kept slot are within the limit
 pub short_is : (slots : Slab SlotState) (es : List (Addr × Place)) (p k : ℕ) → AreKept es slots → place_at es p ≡ Key k → IsShort PAYLOAD (get slots k)
 short_is slots es p k kept here = subst (IsShort PAYLOAD) (ap (λ (r : Row). r.slot) (row_is slots es p) ∙ ap (slot_under slots) here) (kept.short.each p)
 

@@ -31,7 +31,7 @@ taken-noticed q s = elim (is_other s.spec s.me.number q.number) as (λ b. (if b 
 pub taken-done : (b : NodeId) (m : MsgId) (s : SlotState) → (slot_done b m s).taken ≡ s.taken
 taken-done b m s = refl
 
--- What steps leave of the payloads that are known.
+-- The known payloads after steps.
 
 payload-more : (limit : ℕ) (store : List Entry) (x : Entry) (m : MsgId) → length (payload_in store m) ≤ limit → length x.payload ≤ limit → length (payload_in (store ++ x ∷ []) m) ≤ limit
 payload-more limit [] x m h l = elim (same (message_of x) m) as (λ b. length (if b then x.payload else []) ≤ limit) [ true ↦ l | false ↦ omega arith ]
@@ -64,11 +64,11 @@ short-noticed limit q s h = elim (is_other s.spec s.me.number q.number) as (λ b
 pub short-came : (limit : ℕ) (from : NodeId) (x : Entry) (s : SlotState) → length x.payload ≤ limit → IsShort limit (Some s) → IsShort limit (Some (slot_came from x s))
 short-came limit from x s l h = elim (falls from x s) as (λ b. IsShort limit (Some (if b then s else slot_called (Came from (message_of x)) (with_new s.store x) s))) [ true ↦ h | false ↦ λ m. payload-new limit s.store x m (h m) l ]
 
--- what is said is within the limit
+-- a message that is said is within the limit
 pub said_fits : (version : Version) (s : Shown) (message : NewMessage) (seq : ℕ) → Said seq ≡ say_answer version s message → length message.payload ≤ (limits_of version).payload
 said_fits version s message seq e = within_limit version message.payload (said_is version s message seq (sym e)).short
 
--- what is said grows what is known by its payload
+-- a message that is said adds its payload to the known ones
 pub short-own : (limit : ℕ) (payload : List ℕ) (seq : ℕ) (s : SlotState) → length payload ≤ limit → IsShort limit (Some s) → IsShort limit (Some (slot_said payload (Said seq) s))
 short-own limit payload seq s l h = λ m. payload-more limit s.store (own_entry s payload) m (h m) l
 
@@ -85,7 +85,7 @@ known_fits limit store [] nth e h f = absurd (cc)
 known_fits limit store (m ∷ ms) zero e h f = let same_entry : entry_in store m ≡ e = cc in subst (λ (x : Entry). length x.payload ≤ limit) same_entry (h m)
 known_fits limit store (m ∷ ms) (suc nth) e h f = known_fits limit store ms nth e h f
 
--- what waits is within the limit
+-- a waiting message is within the limit
 pub waiting_fits : (limit : ℕ) (s : SlotState) (d nth : ℕ) (e : Entry) → IsShort limit (Some s) → slice_get (waiting s d) nth ≡ Some e → length e.payload ≤ limit
 waiting_fits limit s d nth e h =
     elim (is_other s.spec s.me.number d && not (nodes.contains s.noticed d)) as
@@ -94,7 +94,7 @@ waiting_fits limit s d nth e h =
       | false ↦ λ f. let none : None ≡ Some e = f in absurd (cc)
     ]
 
--- and it is what waits in its group
+-- the waiting messages are those of the slot's group
 pub waiting_bytes : (d nth : ℕ) (row : Row) (s : SlotState) (e none : Entry) → row.slot ≡ Some s → slice_get (waiting s d) nth ≡ Some e → length e.payload ≡ length (get_or (queue d row) nth none).payload
 waiting_bytes d nth row s e none is at =
     ap (λ (x : Entry). length x.payload) (sym (get_or_from_slice_get (waiting s d) nth e none at))

@@ -1,4 +1,4 @@
--- A step of the slot at a place, among all that a node's groups keep.
+-- A step of the slot at a place, among all groups of a node.
 use Rattle.gb_types.specs.Common.{◌≡◌, ◌≢◌, ℕ, ◌<◌, ◌≤◌, min, List, refl, length, map, get_or, ap, sym, subst, ◌∙◌, true, false, arith, Some, None, is_some, set, length-map, length-set, map-set_same, limits_are_within}
 use Rattle.slab.specs.Slab.{get, with_value}
 use Rattle.gb_types.specs.declared.{address.Addr.Addr, limits.TheConstants.NODES, limits.TheConstants.PAYLOAD, entry.Entry.Entry, message.MsgId.MsgId, new_message.NewMessage.NewMessage, node.NodeId.NodeId, reply.Reply.Reply, version.Version.Version}
@@ -102,7 +102,7 @@ quiet f h p k new ok s same = indexed f h p k new h.busy ok s (index_as_many (ro
 pub word_there : (f : SlotState → SlotState) (h : Inside) (p k : ℕ) (new : SlotState) → AreGroups h → Stepped f h p k new → HaveWord NODES p new.spec.members h.busy
 word_there f h p k new ok s = subst (λ o. HaveWord NODES p (members_of o) h.busy) s.slot (word_stepped f (rows_in h) h.memberships h.busy p s.within s.spec ok.1.members ok.1.covered)
 
--- something was put out in the group
+-- the group queued items
 pub put_out : (f : SlotState → SlotState) (h : Inside) (p k : ℕ) (new : SlotState) (busy : List (List ℕ)) → AreGroups h → Stepped f h p k new → ((d : ℕ) (s : SlotState) → reaches (f s) d ≡ reaches s d) → WaitsForEach new → IsPlaced NODES p new h.busy busy
     → AreIndexed h.rooms.entries (map (row_of (with_value h.slots k new)) h.places.entries) h.cursors busy h.memberships
 put_out f h p k new busy ok s same waits placed =
@@ -112,7 +112,7 @@ put_out f h p k new busy ok s same waits placed =
     (index_put_out now h.busy busy p new (within_set rows p (on_slot f (row_at rows p)) s.within) s.slot (index_but rows h.busy p (on_slot f (row_at rows p)) ok.1.index) waits (unreached_stepped f rows h.busy p s.within same ok.1.index) placed)
     (covered_kept h.memberships h.busy busy ok.1.covered placed.words)
 
--- what waits in the group was looked at for each member
+-- the items that wait in the group were checked for each member
 pub noted : (f : SlotState → SlotState) (h : Inside) (p k : ℕ) (new : SlotState) (busy : List (List ℕ)) → AreGroups h → Stepped f h p k new → IsNoted NODES p new h.busy busy
     → AreIndexed h.rooms.entries (map (row_of (with_value h.slots k new)) h.places.entries) h.cursors busy h.memberships
 noted f h p k new busy ok s w =
@@ -136,7 +136,7 @@ others_are f addr h now p k new e s at =
 pub slot_here : (h : Inside) (now : GroupsValue) (p k : ℕ) (v : SlotState) → groups_of h ≡ now → place_at h.places.entries p ≡ Key k → Some v ≡ get h.slots k → (row_at now.rows p).slot ≡ Some v
 slot_here h now p k v e here at = ap (λ (w : GroupsValue). (row_at w.rows p).slot) (sym e) ∙ slot_is h.slots h.places.entries p k v here at
 
--- a dropped group has none
+-- a dropped group has no slot
 pub slot_gone : (h : Inside) (now : GroupsValue) (p : ℕ) → groups_of h ≡ now → place_at h.places.entries p ≡ Gone → (row_at now.rows p).slot ≡ None
 slot_gone h now p e here = ap (λ (w : GroupsValue). (row_at w.rows p).slot) (sym e) ∙ ap (λ (r : Row). r.slot) (row_is h.slots h.places.entries p) ∙ ap (slot_under h.slots) here
 
@@ -148,7 +148,7 @@ lives_nowhere addr h now p e here lives =
 pub slot_there : (h : Inside) (p k : ℕ) → AreGroups h → place_at h.places.entries p ≡ Key k → None ≡ get h.slots k → ⊥
 slot_there h p k ok here none = not_free (get h.slots k) (ok.0.there p k here) (sym none)
 
--- nothing waits in a dropped group
+-- no item waits in a dropped group
 pub nothing_there : (h : Inside) (now : GroupsValue) (p d : ℕ) → groups_of h ≡ now → place_at h.places.entries p ≡ Gone → length (queue d (row_at now.rows p)) ≡ 0
 nothing_there h now p d e here = ap (λ o. length (queue_of d o)) (slot_gone h now p e here)
 
@@ -157,7 +157,7 @@ nothing_there h now p d e here = ap (λ o. length (queue_of d o)) (slot_gone h n
 pub busy_now : (h : Inside) (now : GroupsValue) (dest : NodeId) (to : ℕ) (words other : List ℕ) → AreGroups h → groups_of h ≡ now → to ≡ dest.number → words ≡ get_or h.busy to other → IsBusy dest.number words now.rows
 busy_now h now dest to words other ok e is at = subst (λ (v : GroupsValue). IsBusy dest.number words v.rows) e (index_at (rows_in h) h.busy to dest.number words other ok.1.index is dest.below at)
 
--- a copy of it says the same
+-- a copy of the set has the same places
 pub busy_copied : (d : ℕ) (words copied : List ℕ) (rows : List Row) → IsBusy d words rows → ((p : ℕ) → has copied p ≡ has words p) → IsBusy d copied rows
 busy_copied d words copied rows ok same = record { few = ok.few; each = λ p. same p ∙ ok.each p }
 
@@ -165,7 +165,7 @@ busy_copied d words copied rows ok same = record { few = ok.few; each = λ p. sa
 pub cursor_now : (h : Inside) (now : GroupsValue) (dest : NodeId) (to : ℕ) → groups_of h ≡ now → to ≡ dest.number → get_or h.cursors to 0 ≡ cursor_for dest.number now
 cursor_now h now dest to e is = ap (λ i. get_or h.cursors i 0) is ∙ ap (cursor_for dest.number) e
 
--- its place, where something waits for it
+-- the place, if an item waits there for the node
 pub busy_there : (h : Inside) (dest : NodeId) (p to : ℕ) (other : List ℕ) → AreGroups h → to ≡ dest.number → p < length (rows_in h) → 0 < length (queue dest.number (row_at (rows_in h) p)) → has (get_or h.busy to other) p ≡ 1
 busy_there h dest p to other ok is within some =
     let d = dest.number in

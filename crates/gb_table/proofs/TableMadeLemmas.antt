@@ -8,7 +8,7 @@ use Rattle.gb_table.specs.Rooms.{with_made}
 use Rattle.gb_table.specs.Within.{IsReserved, IsWithin, names_of}
 use Rattle.gb_table.proofs.CountLemmas.{AreDistinct, few_rooms}
 
--- another name stands as often as before
+-- another name is in the list as often as before
 count_other : (addr name : Addr) (rooms : List (Addr × ℕ)) → is_addr name (name_of addr) ≡ false → count_by (is_addr name) (names_of (with_made addr rooms)) ≡ count_by (is_addr name) (names_of rooms)
 count_other addr name [] off =
     let x = sum_by-cons (λ x. cond (is_addr name x) 1 0) (name_of addr) [] in
@@ -24,7 +24,7 @@ count_other addr name (room ∷ rooms) off =
           omega arith
     ]
 
--- the room's own stands once
+-- the room's own name is in the list once
 count_own : (addr name : Addr) (rooms : List (Addr × ℕ)) → is_addr name (name_of addr) ≡ true → AreDistinct (names_of rooms) → count_by (is_addr name) (names_of (with_made addr rooms)) ≤ 1
 count_own addr name [] own alone =
     let x = sum_by-cons (λ x. cond (is_addr name x) 1 0) (name_of addr) [] in

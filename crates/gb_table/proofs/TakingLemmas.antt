@@ -11,7 +11,7 @@ use Rattle.gb_table.proofs.WalkLemmas.{nowhere, walk_gives, length-queues, queue
 pub has_next : (k : ℕ) (vs : List Visit) → k < length vs → first_place (drop k vs) ≡ Some (get_or vs k nowhere).place
 has_next k vs h = ap first_place (drop-cons vs k nowhere h)
 
--- what waits after k were taken
+-- the items that wait after k were taken
 waiting-took : (dest k : ℕ) (s : SlotState) → dest < length s.taken → waiting (slot_took dest k s) dest ≡ drop k (waiting s dest)
 waiting-took dest k s h =
     let more : taken_for (slot_took dest k s) dest ≡ taken_for s dest + k = get_or-set_same s.taken dest (taken_for s dest + k) 0 h in
@@ -30,7 +30,7 @@ queue_of-took dest k (Some s) h = waiting-took dest k s h
 pub queue-took : (dest k : ℕ) (row : Row) → dest < counters row → queue dest (took dest k row) ≡ drop k (queue dest row)
 queue-took dest k row h = queue_of-took dest k row.slot h
 
--- what waits for other nodes is as it was
+-- the items that wait for other nodes do not change
 queue_of-other : (dest e k : ℕ) (slot : Option SlotState) → e ≢ dest → queue_of e (option_map (slot_took dest k) slot) ≡ queue_of e slot
 queue_of-other dest e k None ne = refl
 queue_of-other dest e k (Some s) ne =
@@ -42,7 +42,7 @@ queue-other dest e k row ne = queue_of-other dest e k row.slot ne
 pub queues-set : (dest p : ℕ) (rows : List Row) (row : Row) → dest < counters row → queues dest (set rows p (took dest 1 row)) ≡ set (queues dest rows) p (drop 1 (queue dest row))
 queues-set dest p rows row h = map-set (queue dest) rows p (took dest 1 row) ∙ ap (λ q. set (queues dest rows) p q) (queue-took dest 1 row h)
 
--- what one step of the walk leaves
+-- the walk after one step
 pub record WalkStep (p : ℕ) (v : Visit) (here there : List Visit) : Type 0 where
   pub place : v.place ≡ p
   pub rest : here ≡ there
@@ -161,7 +161,7 @@ gave_step dest p k rows rows0 row vs e h at l pl =
     ∙ sym (gave_more dest 0 p (take k vs) (get_or vs k nowhere) rows0 row pl0 (omega arith))
     ∙ ap (λ us. gave dest 0 us rows0) (sym (take_more vs k nowhere l))
 
--- where a next item stands, it gives the cursor
+-- if there is a next item, it determines the cursor
 pub cursor_next : (n from k p : ℕ) (vs : List Visit) → Some p ≡ first_place (drop k vs) → p ≡ new_cursor n from k vs
 unfolding new_cursor
 cursor_next n from k p vs e =
@@ -180,13 +180,13 @@ none_is_past k vs e =
       | inr h ↦ h
     ]
 
--- where nothing waits, the cursor stays
+-- if no item waits, the cursor does not change
 pub cursor_idle : (n from : ℕ) (vs : List Visit) → None ≡ first_place vs → from ≡ new_cursor n from 0 vs
 unfolding new_cursor
 cursor_idle n from [] e = refl
 cursor_idle n from (v ∷ vs) e = absurd (cc)
 
--- where none is left, the cursor is the first place of the room after the last item's
+-- if no item is left, the cursor is the first place of the room after the last item's
 pub cursor_last : (n from k at : ℕ) (vs : List Visit) → None ≡ first_place (drop k vs) → k ≤ length vs → 0 < k → (0 < k → at ≡ suc (get_or vs (k - 1) nowhere).place) → new_cursor n from k vs ≡ room_after n (at - 1)
 unfolding new_cursor
 cursor_last n from k at vs e l hk h =

@@ -30,7 +30,7 @@ rows-lookup test tenant (e ∷ es) h keyed =
     let t : test e.0 ≡ nat_eq e.1.tenant tenant = h e.0 ∙ eq-sym tenant e.0 ∙ ap (λ n. nat_eq n tenant) k in
     ap (λ b. cond b (Some e.1) (lookup test es)) t ∙ ap (λ o. cond (nat_eq e.1.tenant tenant) (Some e.1) o) (rows-lookup test tenant es h (λ k d l. keyed (suc k) d (omega arith)))
 
--- nobody is found: the first is another, and nobody is found among the rest
+-- no row is found: the first is another, and none is found among the rest
 first_other : (b : Bool) (row : TenantRow) (rest : Option TenantRow) → cond b (Some row) rest ≡ None → (b ≡ false) × (rest ≡ None)
 first_other true row rest h = absurd (cc)
 first_other false row rest h = (refl, h)
@@ -52,7 +52,7 @@ rows-more row es = map-append (λ e. e.1) es ((row.tenant, row) ∷ [])
 pub reserved-more : (rows : List TenantRow) (row : TenantRow) → reserved (rows ++ row ∷ []) ≡ reserved rows + row.groups
 reserved-more rows row = sum_by-append (λ (r : TenantRow). r.groups) rows (row ∷ []) ∙ omega arith
 
--- who is found is found among more
+-- a row that is found is found among more rows
 found-more : (tenant : ℕ) (rows : List TenantRow) (more row : TenantRow) → row_of tenant rows ≡ Some row → row_of tenant (rows ++ more ∷ []) ≡ Some row
 found-more tenant [] more row e = absurd (cc)
 found-more tenant (r ∷ rs) more row e =
@@ -73,7 +73,7 @@ found_within P tenant (r ∷ rs) row all e =
     ] in
     step e
 
--- what a row that is taken in is like
+-- a row that is added is within the limits, and new
 tenant_by : (over there full : Bool) → Done ≡ (if over then Refused OverReserve else (if there then Refused TenantThere else (if full then Refused NoRoom else Done))) → (over ≡ false) × ((there ≡ false) × (full ≡ false))
 tenant_by false false false e = (refl, (refl, refl))
 tenant_by true there full e = absurd (cc)
@@ -94,7 +94,7 @@ within_added places tenants names row w over room = record {
   alone = w.alone;
 }
 
--- what a group that is made is like
+-- the conditions under which a group is made
 pub record IsMade (version : Version) (me : ℕ) (addr : Addr) (made : Bool) (living : ℕ) (spec : Spec) (reserve : Reserve) : Type 0 where
   pub below : addr.group < reserve.groups
   pub fresh : made ≡ false
@@ -179,7 +179,7 @@ within_limits row spec h e =
       window = omega arith;
     }
 
--- the tokens of members stay those when a tenant is added
+-- the tokens of members do not change when a tenant is added
 pub tokens_more : (me : NodeId) (tenants : List TenantRow) (row : TenantRow) (es : List (Addr × List ℕ)) → AreMemberTokens me tenants es → AreMemberTokens me (tenants ++ row ∷ []) es
 tokens_more me tenants row es are k d l = let h = are k d l in (h.0, found-more (get_or es k d).0.tenant tenants row h.0 h.1, h.2)
 
@@ -187,7 +187,7 @@ tokens_more me tenants row es are k d l = let h = are k d l in (h.0, found-more 
 pub token_admits : (me : NodeId) (tenants : List TenantRow) (addr : Addr) (own token : List ℕ) → IsMemberToken me tenants addr own → bytes_eq token own ≡ is_by_row (Member addr.tenant addr.group me) token (row_of addr.tenant tenants)
 token_admits me tenants addr own token is = ap (bytes_eq token) is.2 ∙ sym (ap (is_by_row (Member addr.tenant addr.group me) token) is.1)
 
--- the token that the key of a tenant gives, where the tenant is here
+-- the token that the key of a tenant gives, if the tenant is here
 pub token_made : (me : NodeId) (tenants : List TenantRow) (addr : Addr) (token : List ℕ) → Some token ≡ option_map (λ row. token_of row.key (Member addr.tenant addr.group me)) (row_of addr.tenant tenants) → IsMemberToken me tenants addr token
 token_made me tenants addr token is = by (row_of addr.tenant tenants) refl is
   where

@@ -7,7 +7,7 @@ unfolding heads
 heads-append [] rs = refl
 heads-append (q ∷ qs) rs = ap (λ t. take 1 q ++ t) (heads-append qs rs) ∙ sym (append_assoc (take 1 q) (heads qs) (heads rs))
 
--- a queue is empty where it has length at most 0
+-- a queue of length at most 0 is empty
 none-take : {A : Type 0} (q : List A) → length q ≤ 0 → take 1 q ≡ []
 none-take [] h = refl
 none-take (x ∷ q) h = absurd (omega arith)
@@ -28,7 +28,7 @@ longest-tails k ([] ∷ qs) h =
 longest-tails k ((x ∷ q) ∷ qs) h =
     let b = longest-tails k qs (omega arith) in omega arith
 
--- one round more changes nothing, where there were enough
+-- one round more changes nothing, if there were enough rounds
 pub enough : {A : Type 0} (k : ℕ) (qs : List (List A)) → longest qs ≤ k → rounds (suc k) qs ≡ rounds k qs
 unfolding rounds
 enough zero qs h = rw (none-heads qs h) (append-nil [])

@@ -31,14 +31,14 @@ take1-map : {A B : Type 0} (f : A → B) (xs : List A) → take 1 (map f xs) ≡
 take1-map f [] = refl
 take1-map f (x ∷ xs) = refl
 
--- round from a place, for lists of any kind
+-- the round from a place, for lists of any kind
 around : {A : Type 0} (c : ℕ) (L : List (List A)) → c < length L → in_turns (from_place c L) ≡ take 1 (get_or L c []) ++ in_turns (from_place (suc c) (set L c (drop 1 (get_or L c []))))
 around c L h =
     let d = drop 1 (get_or L c []) in
     rw (drop-cons L c [], drop-set-lt (suc c) L c d (omega arith), take-suc-set L c d h)
     (turn (get_or L c []) (drop (suc c) L ++ take c L) ∙ ap (λ t. take 1 (get_or L c []) ++ in_turns t) (append_assoc (drop (suc c) L) (take c L) (d ∷ [])))
 
--- the walk from a place: what waits there gives its first, and the walk goes on behind it
+-- the walk from a place: the first waiting item there, and then the walk behind it
 pub walk_step : (c : ℕ) (qs : List (List Entry)) → c < length qs → walk c qs ≡ map (visit c) (take 1 (get_or qs c [])) ++ walk (suc c) (set qs c (drop 1 (get_or qs c [])))
 unfolding walk
 walk_step c qs h =
@@ -60,13 +60,13 @@ walk_wrap qs =
     let l = length-placed 0 qs in
     rw (drop_all (length qs) (placed 0 qs) (omega arith), take_all (length qs) (placed 0 qs) (omega arith)) (ap in_turns (sym (append-nil (placed 0 qs))))
 
--- a place with nothing is passed by
+-- a place without items is skipped
 pub walk_idle : (c : ℕ) (qs : List (List Entry)) → c < length qs → get_or qs c [] ≡ [] → walk c qs ≡ walk (suc c) qs
 walk_idle c qs h e =
     let same : set qs c (drop 1 (get_or qs c [])) ≡ qs = ap (λ q. set qs c (drop 1 q)) e ∙ ap (λ q. set qs c q) (sym e) ∙ set-get_or qs c [] in
     walk_step c qs h ∙ ap (λ q. map (visit c) (take 1 q) ++ walk (suc c) (set qs c (drop 1 (get_or qs c [])))) e ∙ ap (λ t. walk (suc c) t) same
 
--- what waits at a place gives its first
+-- a place with waiting items gives the first
 pub walk_gives : (c : ℕ) (x : Entry) (q : List Entry) (qs : List (List Entry)) → c < length qs → get_or qs c [] ≡ x ∷ q → walk c qs ≡ visit c x ∷ walk (suc c) (set qs c q)
 walk_gives c x q qs h e = walk_step c qs h ∙ ap (λ r. map (visit c) (take 1 r) ++ walk (suc c) (set qs c (drop 1 r))) e
 
@@ -86,7 +86,7 @@ take-none zero L = omega arith
 take-none (suc c) [] = omega arith
 take-none (suc c) (q ∷ L) = let r = take-none c L in omega arith
 
--- nothing waits: the walk is over
+-- no item waits: the walk is over
 pub walk_none : (c : ℕ) (qs : List (List Entry)) → ((i : ℕ) → get_or qs i [] ≡ []) → walk c qs ≡ []
 unfolding walk in_turns rounds
 walk_none c qs h =
@@ -107,7 +107,7 @@ get_or-map' f [] i d e h = absurd (omega arith)
 get_or-map' f (x ∷ xs) zero d e h = refl
 get_or-map' f (x ∷ xs) (suc i) d e h = get_or-map' f xs i d e (omega arith)
 
--- what waits at a place is what waits in its group
+-- the items that wait at a place are those that wait in its group
 pub queues_at : (dest : ℕ) (rows : List Row) (p : ℕ) (row : Row) → p < length rows → row ≡ get_or rows p row → get_or (queues dest rows) p [] ≡ queue dest row
 queues_at dest rows p row h e = get_or-map' (queue dest) rows p row [] h ∙ ap (queue dest) (sym e)
 

@@ -14,7 +14,7 @@ use Rattle.gb_table.proofs.TakingLemmas.{length-gave}
 pub sum-more : (version : Version) (k : ℕ) (vs : List Visit) → k < length vs → sum_by (size version) (take (k + 1) vs) ≡ sum_by (size version) (take k vs) + size version (get_or vs k nowhere)
 sum-more version k vs l = let v = get_or vs k nowhere in ap (sum_by (size version)) (take_more vs k nowhere l) ∙ sum_by-append (size version) (take k vs) (v ∷ []) ∙ omega arith
 
--- the first k items were written behind a text
+-- the first k items were written after a text
 pub record Wrote (version : Version) (rows : List Row) (vs : List Visit) (len0 : ℕ) (text0 : List ℕ) (k len : ℕ) (text : List ℕ) : Type 0 where
   pub size : len ≡ len0 + sum_by (size version) (take k vs)
   pub written : text ≡ text0 ++ items_text version (items rows (take k vs))
@@ -46,6 +46,6 @@ item_here dest p k rows rows0 vs x e h v =
     let addr : (row_at rows p).addr ≡ (row_at rows0 p).addr = ap (λ (rs : List Row). (row_at rs p).addr) e ∙ ap (λ (r : Row). r.addr) (get_or-gave dest 0 p (take k vs) rows0 no_row (omega arith)) in
     ap (λ (a : Addr). item_for a x) addr ∙ ap (item_at rows0) (sym v)
 
--- the bytes of fewer items are no more
+-- fewer items have no more bytes
 pub sum-fewer : (version : Version) (k n : ℕ) (vs : List Visit) → k ≤ n → sum_by (size version) (take k vs) ≤ sum_by (size version) (take n vs)
 sum-fewer version k n vs h = subst (λ us. sum_by (size version) us ≤ sum_by (size version) (take n vs)) (take-take k n vs h) (sum_by-take-le (size version) (take n vs) k)

@@ -1,4 +1,4 @@
--- A walk that takes nothing: what is left after a number of visits.
+-- A walk that takes nothing: the queues that are left after a number of visits.
 use Rattle.std.specs.Prelude.{ℕ, suc, ◌+◌, ◌-◌, ◌≡◌, ◌<◌, ◌≤◌, min, List, [], ◌∷◌, length, drop, slice_index_or}
 use Rattle.gb_types.specs.declared.{entry.Entry.Entry, limits.TheConstants.PLACES}
 use Rattle.gb_table.specs.SlotsValue.{Row}
@@ -14,7 +14,7 @@ unfoldable pub ahead : ℕ → ℕ → ℕ → ℕ → List (List Entry) → Lis
 ahead from lap at b [] = []
 ahead from lap at b (q ∷ qs) = drop (visits from lap at b) q ∷ ahead from lap at (suc b) qs
 
--- a place is in the set if and only if something is left to visit there
+-- a place is in the set if and only if an item is left to visit there
 pub record IsActive (words : List ℕ) (left : List (List Entry)) : Type 0 where
   pub few : length left ≤ PLACES
   pub each : (p : ℕ) → has words p ≡ min 1 (length (slice_index_or left p []))

@@ -32,11 +32,11 @@ gone_at rows (Some p) = slice_set rows p (gone (row_at rows p))
 abbrev pub drop_at : Addr → List Row → List Row
 drop_at addr rows = gone_at rows (place_of addr rows)
 
--- every other group is as it was
+-- every other group does not change
 pub record OthersKept (addr : Addr) (old new : List Row) : Type 0 where
   pub others : (g : Addr) → is_addr g addr ≡ false → row_for g new ≡ row_for g old
 
--- the groups after an item came from a node to one that sends this version; the item is let fall if its origin is no node, or if it is longer than a message may be there
+-- the groups after an item came from a node to one of this version; it is discarded if its origin is no node, or if it is too long for a message
 abbrev pub item_came : Version → NodeId → Item → List Row → List Row
 item_came version from i rows = if nat_lt i.origin NODES && not (is_too_long version i.payload) then on_address (address_of i) (slot_came from (entry_of i)) rows else rows
 
@@ -45,6 +45,6 @@ abbrev pub if_living : List Row → Option ℕ → Option ℕ
 if_living rows None = None
 if_living rows (Some p) = if is_some (row_at rows p).slot then Some p else None
 
--- the place where the group with an address lives
+-- the place at which the group with an address lives
 abbrev pub living_place : Addr → List Row → Option ℕ
 living_place addr rows = if_living rows (place_of addr rows)

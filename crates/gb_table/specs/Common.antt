@@ -1,4 +1,4 @@
--- The names that files of crates above cite, passed on from one place. Declares nothing.
+-- The names that files of crates above cite, passed on in one file. Declares nothing.
 pub use Rattle.gb_table.specs.Admission.{command_need, has_group_token, has_token, is_by_row, is_token}
 pub use Rattle.gb_table.specs.AtAddress.{item_came}
 pub use Rattle.gb_table.specs.GroupRows.{used}

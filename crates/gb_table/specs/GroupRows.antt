@@ -1,4 +1,4 @@
--- The rows in which a list shows a node's groups.
+-- The rows of a node's groups in a list.
 use Rattle.std.specs.Prelude.{ℕ, List, map, take, drop, filter, length, Option, None, Some, option_map}
 use Rattle.gb_rules.specs.declared.{phase.Phase.Phase, phase.Phase.TheVariants.Gone}
 use Rattle.gb_slot.specs.Common.{SlotState}
@@ -10,7 +10,7 @@ abbrev pub phase_of : Option SlotState → Phase
 phase_of None = Gone
 phase_of (Some s) = s.phase
 
--- the number of messages that it has delivered
+-- the number of messages that the group has delivered
 abbrev pub delivered : Option SlotState → ℕ
 delivered None = 0
 delivered (Some s) = length s.log
@@ -18,10 +18,10 @@ delivered (Some s) = length s.log
 abbrev pub listed : Row → GroupRow
 listed row = record { address = row.addr; spec = option_map (λ s. s.spec) row.slot; phase = phase_of row.slot; log = delivered row.slot }
 
--- the places where a group was made
+-- the places at which a group was made
 abbrev pub used : List Row → List Row
 used rows = filter is_used rows
 
--- of these, at most `most` from a given number on
+-- at most `most` rows of these, from index `from` on
 abbrev pub listed_from : List Row → ℕ → ℕ → List GroupRow
 listed_from rows from most = map listed (take most (drop from (used rows)))

@@ -48,12 +48,12 @@ packed version dest room t =
       cursors = slice_set t.cursors dest (new_cursor (length t.rows) (cursor_for dest t) (length vs) (walk_to dest t));
     }
 
--- there is a cursor for each node, and each is at a place or behind the last
+-- there is a cursor for each node, and each is at a place or after the last
 pub record ArePlaces (rows : List Row) (cursors : List ℕ) : Type 0 where
   pub size : length cursors ≡ NODES
   pub within : (d : ℕ) → slice_index_or cursors d 0 ≤ length rows
 
--- for each node, the places where something waits for it
+-- for each node, the places with items that wait for it
 pub record IsIndex (rows : List Row) (busy : List (List ℕ)) : Type 0 where
   pub size : length busy ≡ NODES
   pub each : (d : ℕ) → d < NODES → IsBusy d (slice_index_or busy d []) rows

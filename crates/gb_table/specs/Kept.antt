@@ -1,5 +1,5 @@
--- How the tenants of a node are kept: a map from their numbers to their rows, in the order in which they were added. The tokens of the groups'
--- members are kept in a map from the names of the groups' rooms.
+-- The representation of a node's tenants: a map from their numbers to their rows, in the order in which they were added. The tokens of the groups'
+-- members are in a map from the names of the groups' rooms.
 use Rattle.std.specs.Prelude.{ℕ, ◌≡◌, List, map, All, Some}
 use Rattle.gb_types.specs.declared.{address.Addr.Addr, node.NodeId.NodeId, spec.TenantRow.TenantRow}
 use Rattle.gb_cap.specs.Token.{token_of}
@@ -10,7 +10,7 @@ use Rattle.gb_rules.specs.Common.{row_of}
 abbrev pub rows_of : List (ℕ × TenantRow) → List TenantRow
 rows_of entries = map (λ e. e.1) entries
 
--- each row stands under its tenant's number
+-- each row is under its tenant's number
 abbrev pub AreKeyed : List (ℕ × TenantRow) → Type 0
 AreKeyed entries = All (λ e. e.0 ≡ e.1.tenant) entries
 

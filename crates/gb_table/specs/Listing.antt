@@ -1,4 +1,4 @@
--- What a node tells its administrator about its groups.
+-- The list of a node's groups for its administrator.
 use Rattle.std.specs.Prelude.{ℕ, ◌||◌, List, length, nat_lt, Result, Ok, Err, if◌then◌else◌}
 use Rattle.gb_types.specs.declared.{refusal.Refusal.Refusal, refusal.Refusal.TheVariants.Denied, refusal.Refusal.TheVariants.BadPlace}
 use Rattle.gb_cap.specs.declared.token.Need.TheVariants.{Admin}
@@ -7,7 +7,7 @@ use Rattle.gb_table.specs.declared.{group_row.GroupRow.GroupRow, listing.TheCons
 use Rattle.gb_table.specs.Admission.{is_token}
 use Rattle.gb_table.specs.TableValue.{TableValue}
 
--- the groups from a place on, at most `most` and at most as many as one list names, if the token is the administrator's
+-- for the administrator's token, at most `most` groups from index `from` on; refused if there are fewer than `from`, or if `most` is above 64
 abbrev pub list_answer : List ℕ → ℕ → ℕ → TableValue → Result (List GroupRow) Refusal
 list_answer token from most t =
     if is_token t.admin_key Admin token then

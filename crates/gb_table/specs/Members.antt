@@ -8,7 +8,7 @@ use Rattle.gb_slot.specs.Common.{SlotState}
 use Rattle.gb_table.specs.PlaceSet.{has}
 use Rattle.gb_table.specs.SlotsValue.{Row, row_at}
 
--- 1 if the group was not dropped and has the node among its members, else 0
+-- 1 if the group was not dropped and has the node among its members, otherwise 0
 abbrev pub has_member : ℕ → Option SlotState → ℕ
 has_member who None = 0
 has_member who (Some s) = if is_member s.spec who then 1 else 0

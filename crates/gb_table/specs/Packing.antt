@@ -1,4 +1,4 @@
--- The items that one packing takes: the walk round the groups, the batch, and where the next walk begins.
+-- The items that one packing takes: the walk round the groups, the batch, and the place at which the next walk begins.
 use Rattle.std.specs.Prelude.{ℕ, suc, ◌+◌, ◌-◌, ◌*◌, ◌/◌, ◌==◌, nat_lt, Bool, if◌then◌else◌, List, [], ◌∷◌, ◌++◌, length, take, drop, map, Option, Some, None, option_map, slice_get, slice_index_or, count_by, ltb}
 use Rattle.gb_types.specs.Common.{limits_of}
 use Rattle.gb_types.specs.declared.{entry.Entry.Entry, version.Version.Version}
@@ -43,7 +43,7 @@ fit version room (v ∷ vs) = if ltb room (size version v) then [] else v ∷ fi
 abbrev pub room_after : ℕ → ℕ → ℕ
 room_after places p = let next = GENERATIONS * (p / GENERATIONS + 1) in if nat_lt next places then next else 0
 
--- the place of the next item of the walk after the first n; if there is no such item, the first place of the room after that of the last item taken
+-- the place of the next item of the walk after the first n; if there is none, the first place of the room after that of the last item taken
 abbrev pub after_last : ℕ → ℕ → Option Visit → ℕ
 after_last places cursor None = cursor
 after_last places cursor (Some v) = room_after places v.place
@@ -58,11 +58,11 @@ new_cursor places cursor taken vs = next_place places cursor vs (slice_get vs ta
 abbrev pub is_at : ℕ → Visit → Bool
 is_at p v = v.place == p
 
--- the number of the items that are of the group at a place
+-- the number of items of the group at a place
 abbrev pub share : ℕ → List Visit → ℕ
 share p vs = count_by (is_at p) vs
 
--- the items that wait for a node in a group; none if it was dropped
+-- the items that wait for a node in a group; none if the group was dropped
 abbrev pub queue_of : ℕ → Option SlotState → List Entry
 queue_of dest None = []
 queue_of dest (Some s) = waiting s dest
@@ -78,7 +78,7 @@ first_entry dest row = slice_index_or (queue dest row) 0 no_entry
 abbrev pub queues : ℕ → List Row → List (List Entry)
 queues dest rows = map (queue dest) rows
 
--- the group after its first k items were taken for a node
+-- the group after its first k waiting items were taken for a node
 abbrev pub took : ℕ → ℕ → Row → Row
 took dest k row = record row { slot = option_map (slot_took dest k) row.slot }
 

@@ -2,7 +2,7 @@
 use Rattle.std.specs.Prelude.{ℕ, ◌/◌, ◌%◌, ◌≡◌, ◌≤◌, ◌<◌, min, List, slice_index_or}
 use Rattle.std.specs.Int.{bit_at}
 
--- 1 if the place is in the set, else 0
+-- 1 if the place is in the set, otherwise 0
 unfoldable pub has : List ℕ → ℕ → ℕ
 has words p = bit_at (slice_index_or words (p / 64) 0) (p % 64)
 

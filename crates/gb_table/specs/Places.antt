@@ -22,15 +22,15 @@ row_of slots e = record { addr = e.0; slot = slot_under slots e.1 }
 abbrev pub groups_of : Inside → GroupsValue
 groups_of h = record { rooms = h.rooms.entries; rows = map (row_of h.slots) h.places.entries; cursors = h.cursors }
 
--- what the place of a group names
+-- the content of the place of a group
 abbrev pub place_at : List (Addr × Place) → ℕ → Place
 place_at entries p = (slice_index_or entries p (record { 0 = record { tenant = 0; group = 0; generation = 0 }; 1 = Gone })).1
 
--- what is at a place where no group was made
+-- the entry of a place at which no group was made
 abbrev pub vacant_entry : ℕ → Addr × Place
 vacant_entry p = ((vacant p).addr, Gone)
 
--- the entries, with a vacant one more
+-- the entries, with one more vacant entry
 abbrev pub with_vacant_entry : List (Addr × Place) → List (Addr × Place)
 with_vacant_entry entries = entries ++ vacant_entry (length entries) ∷ []
 
@@ -50,7 +50,7 @@ AreVacantEntries entries = (p : ℕ) → p < length entries → (addr_at entries
 abbrev pub AreOthers : Addr → List (Addr × Place) → Type 0
 AreOthers addr entries = (p : ℕ) → p < length entries → is_addr addr (addr_at entries p) ≡ false
 
--- each key has a slot, no two places have one key, and each slot is named by some place; the messages of the slots are within the limits
+-- each key has a slot, no two places have the same key, and each slot is named by some place; the messages of the slots are within the limits
 pub record AreKept (entries : List (Addr × Place)) (slots : Slab SlotState) : Type 0 where
   pub there : (p k : ℕ) → place_at entries p ≡ Key k → IsSome (get slots k)
   pub alone : (p q k : ℕ) → place_at entries p ≡ Key k → place_at entries q ≡ Key k → p ≡ q
@@ -60,7 +60,7 @@ pub record AreKept (entries : List (Addr × Place)) (slots : Slab SlotState) : T
   pub apart : AreApart (map (row_of slots) entries)
   pub vacant : AreVacant (map (row_of slots) entries)
 
--- packing continues at places, the sets of each node say rightly where something waits for it and which groups have it among their members, and each room has its places
+-- cursors are at places, each node's sets are the places with items that wait for it and with groups that have it as member, rooms have their places
 pub record AreIndexed (rooms : List (Addr × ℕ)) (rows : List Row) (cursors : List ℕ) (busy memberships : List (List ℕ)) : Type 0 where
   pub places : ArePlaces rows cursors
   pub index : IsIndex rows busy

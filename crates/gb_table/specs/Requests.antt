@@ -1,4 +1,4 @@
--- What a node's table answers to requests, and what they change.
+-- The replies of a node's table to requests, and the changes that they make.
 use Rattle.std.specs.Prelude.{◌≡◌, ◌⊎◌, ℕ, Bool, true, false, List, [], ◌∷◌, ◌++◌, Option, None, is_some, if◌then◌else◌}
 use Rattle.std.specs.Ordering.{nat_cmp}
 use Rattle.std.specs.FinSet as set
@@ -23,7 +23,7 @@ is_by_tenant tenant need token t = is_by_row need token (row_of tenant t.tenants
 abbrev pub is_admitted : Request → TableValue → Bool
 is_admitted request t = has_token t.admin_key t.me t.tenants request
 
--- the place of the group that a member's say or fetch is for
+-- the place of the group of a member's say or fetch
 abbrev pub place_for : Action → TableValue → Option ℕ
 place_for (Group addr (Say message)) t = living_place addr t.groups.rows
 place_for (Group addr (Fetch from most)) t = living_place addr t.groups.rows
@@ -51,15 +51,15 @@ asks_memory (Group addr (Make spec)) = true
 asks_memory (Group addr (Fetch from most)) = true
 asks_memory what = false
 
--- the request takes memory, where it should have this reply
+-- the request takes memory, if its right reply is this one
 abbrev pub TakesMemory : Action → Reply → Type 0
 TakesMemory what should = (asks_memory what ≡ true) × (takes_memory should ≡ true)
 
--- the reply is what it should be, or OutOfMemory if the request takes memory
+-- the reply is the right one, or OutOfMemory if the request takes memory
 abbrev pub IsReplyTo : Action → Reply → Reply → Type 0
 IsReplyTo what should reply = ((reply ≡ Refused OutOfMemory) × TakesMemory what should) ⊎ (reply ≡ should)
 
--- what a command that is done changes in the groups of the node me, which has noticed these nodes
+-- the groups of the node me, which has noticed these nodes, after a command is done
 abbrev pub groups_done : NodeId → set.FinSet nat_cmp → Addr → GroupCommand → GroupsValue → GroupsValue
 groups_done me noticed addr (Make spec) groups = made addr (new_slot spec me noticed) groups
 groups_done me noticed addr Open groups = record groups { rows = on_address addr (slot_moved Opened Done) groups.rows }
@@ -67,17 +67,17 @@ groups_done me noticed addr Shut groups = record groups { rows = on_address addr
 groups_done me noticed addr Drop groups = record groups { rows = drop_at addr groups.rows }
 groups_done me noticed addr command groups = groups
 
--- what a request that is done changes
+-- the table after a request is done
 abbrev pub request_done : set.FinSet nat_cmp → Action → TableValue → TableValue
 request_done noticed (AddTenant row) t = record t { tenants = t.tenants ++ row ∷ [] }
 request_done noticed (Group addr command) t = record t { groups = groups_done t.me noticed addr command t.groups }
 
--- what a say under this number changes in the groups
+-- the groups after a say under this number
 abbrev pub groups_said : ℕ → Action → GroupsValue → GroupsValue
 groups_said seq (Group addr (Say message)) groups = record groups { rows = on_address addr (slot_said message.payload (Said seq)) groups.rows }
 groups_said seq what groups = groups
 
--- what a request with this reply changes, at a node that has noticed these nodes
+-- the table after a request with this reply, at a node that has noticed these nodes
 abbrev pub table_did : set.FinSet nat_cmp → Reply → Action → TableValue → TableValue
 table_did noticed Done what t = request_done noticed what t
 table_did noticed (Said seq) what t = record t { groups = groups_said seq what t.groups }

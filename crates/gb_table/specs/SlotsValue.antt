@@ -5,8 +5,8 @@ use Rattle.gb_types.specs.declared.{address.Addr.Addr, entry.Entry.Entry, limits
 use Rattle.gb_rules.specs.Common.{payload_in, can_name}
 use Rattle.gb_slot.specs.Common.{SlotState}
 
--- A place of a room: the address of the group that was last made there, and its slot unless it was dropped. A place where no group was made has no slot, and the
--- address of no tenant.
+-- A place of a room: the address of the group that was last made there, and its slot unless it was dropped. A place at which no group was made has no
+-- slot, and the address of no tenant.
 pub record Row : Type 0 where
   pub addr : Addr
   pub slot : Option SlotState
@@ -14,18 +14,18 @@ pub record Row : Type 0 where
 pub zero_is_node : 0 < NODES
 zero_is_node = omega arith
 
--- the value past the end of a list of entries, or of groups
+-- the default value past the end of a list of entries, or of groups
 abbrev pub no_entry : Entry
 no_entry = record { origin = record { number = 0; below = zero_is_node }; seq = 0; payload = [] }
 
 abbrev pub no_row : Row
 no_row = record { addr = record { tenant = 0; group = 0; generation = 0 }; slot = None }
 
--- a place where no group was made; the number of the place stands as the generation, so that no two places have one address
+-- a place at which no group was made; its generation is the number of the place, so that no two places have the same address
 abbrev pub vacant : ℕ → Row
 vacant p = record { addr = record { tenant = 0; group = 0; generation = p }; slot = None }
 
--- the places, with a vacant one more
+-- the places, with one more vacant place
 abbrev pub with_vacant : List Row → List Row
 with_vacant rows = rows ++ vacant (length rows) ∷ []
 
@@ -41,7 +41,7 @@ is_used row = nat_lt 0 row.addr.tenant
 abbrev pub row_at : List Row → ℕ → Row
 row_at rows p = slice_index_or rows p no_row
 
--- the group after a step of its slot; a dropped one stays as it is
+-- the group after a step of its slot; a dropped group does not change
 abbrev pub on_slot : (SlotState → SlotState) → Row → Row
 on_slot step row = record row { slot = option_map step row.slot }
 
@@ -69,7 +69,7 @@ IsShort limit (Some s) = (m : MsgId) → length (payload_in s.store m) ≤ limit
 pub record AreShort (limit : ℕ) (rows : List Row) : Type 0 where
   pub each : (p : ℕ) → IsShort limit (row_at rows p).slot
 
--- no two groups have one address
+-- no two groups have the same address
 pub record AreApart (rows : List Row) : Type 0 where
   pub apart : (p q : ℕ) → p < length rows → q < length rows → (row_at rows p).addr ≡ (row_at rows q).addr → p ≡ q
 
@@ -77,7 +77,7 @@ pub record AreApart (rows : List Row) : Type 0 where
 pub record AreVacant (rows : List Row) : Type 0 where
   pub each : (p : ℕ) → p < length rows → (row_at rows p).addr.tenant ≡ 0 → (row_at rows p).addr ≡ (vacant p).addr
 
--- packets of the version name the group; a group that was dropped is in none
+-- packets of the version can name the group; a group that was dropped is in none
 abbrev pub IsNamed : Version → Addr → Option SlotState → Type 0
 IsNamed version addr None = Unit {0}
 IsNamed version addr (Some s) = can_name version addr ≡ true

@@ -9,8 +9,8 @@ use Rattle.gb_table.specs.SlotsValue.{Row, on_slot}
 use Rattle.gb_table.specs.AtAddress.{on_address, item_came}
 use Rattle.gb_table.specs.GroupsValue.{GroupsValue, no_groups, packed}
 
--- The table of a node in a cluster of `nodes` nodes: the administrator's key, the tenants in the order in which they were added, which may reserve `places`
--- rooms in all, and the groups.
+-- The table of a node in a cluster of `nodes` nodes: the administrator's key, the tenants in the order in which they were added, which may reserve
+-- `places` rooms in all, and the groups.
 pub record TableValue : Type 0 where
   pub me : NodeId
   pub nodes : ℕ
@@ -29,22 +29,22 @@ new_table me nodes version places admin_key = record { me = me; nodes = nodes; v
 abbrev pub with_rows : List Row → TableValue → TableValue
 with_rows rows t = record t { groups = record t.groups { rows = rows } }
 
--- what a tenant may have, or None if the tenant is not here
+-- the reserve of a tenant, or None if the tenant is not here
 abbrev pub reserve_for : ℕ → TableValue → Option Reserve
 reserve_for tenant t = option_map reserve_of (row_of tenant t.tenants)
 
--- after an item came from a node
+-- the table after an item came from a node
 abbrev pub table_came : NodeId → Item → TableValue → TableValue
 table_came from item t = with_rows (item_came t.version from item t.groups.rows) t
 
--- after a node acknowledged a message of the group with this address
+-- the table after a node acknowledged a message of the group with this address
 abbrev pub table_done : NodeId → Addr → MsgId → TableValue → TableValue
 table_done dest addr m t = with_rows (on_address addr (slot_done dest m) t.groups.rows) t
 
--- after a node was noticed
+-- the table after a node was noticed
 abbrev pub table_noticed : NodeId → TableValue → TableValue
 table_noticed who t = with_rows (map (on_slot (slot_noticed who)) t.groups.rows) t
 
--- after a batch of what waits for a node was packed
+-- the table after a batch of items that wait for a node was packed
 abbrev pub table_packed : ℕ → ℕ → TableValue → TableValue
 table_packed dest room t = record t { groups = packed t.version dest room t.groups }

@@ -12,7 +12,7 @@ names_of rooms = map (λ room. room.0) rooms
 abbrev pub IsReserved : List TenantRow → Addr → Type 0
 IsReserved tenants addr = (row : TenantRow) × (row_of addr.tenant tenants ≡ Some row) × (addr.group < row.groups) × (addr.generation ≡ 0)
 
--- The tenants are within the limits and there are rooms for their groups; each room has a name of its tenant's, and no other room has it. So there are at most as many rooms as the tenants reserve.
+-- The tenants are within the limits and there are rooms for their groups; each room has a name of its tenant's, and no other room has that name.
 pub record IsWithin (places : ℕ) (tenants : List TenantRow) (names : List Addr) : Type 0 where
   pub limits : All (λ row. is_over_limits row ≡ false) tenants
   pub sum : reserved tenants ≤ places

@@ -1,9 +1,9 @@
-//! A node's groups as a list shows them to an administrator.
+//! The rows of a node's groups in the list for an administrator.
 use gb_rules::Phase;
 use gb_types::{Addr, Spec};
 
-/// A group that was made at a node and lives there, or was dropped and its place was not taken since. A dropped group has only its
-/// address and the phase `Gone`.
+/// A group that was made at a node and lives there, or was dropped and its place was not taken since. A dropped group has only its address
+/// and the phase `Gone`.
 #[derive(Drop)]
 pub struct GroupRow {
     pub address: Addr,

@@ -1,4 +1,4 @@
-//! All groups of a node, with an index of the groups where something waits.
+//! All groups of a node, with an index of the groups that have waiting items.
 ghost use Rattle.std.specs.Prelude.{◌≡◌, ◌≤◌, ◌<◌, true, map, slice_set, ℕ, length, OnOk, OnErr, MatchOption};
 ghost use Rattle.gb_frame.specs.Packet.{item_of as view_item};
 ghost use Rattle.gb_rules.specs.Common.{is_member, open_answer, shut_answer, drop_answer, say_answer, fetch_answer, IsReply, done_reply};
@@ -30,9 +30,9 @@ use std::marker::Model;
 // The limits of docs/FORMATS.md.
 const _: () = prove!(GENERATIONS == 4 && ROOMS == 1_024);
 
-/// All groups of a node. A group is a slot there: its messages, its log and what waits to be sent. It is found at a place of its
-/// room. Each room has four places, and the rooms stand in the order in which they were begun. A dropped group keeps its address at
-/// its place until another generation of its room takes the place.
+/// All groups of a node. A group is a slot there: its messages, its log and the items that wait to be sent. It is found at a place of its
+/// room. Each room has four places, and the rooms are in the order in which they were begun. A dropped group keeps its address at its place
+/// until another generation of its room takes the place.
 pub struct Groups {
     pub(crate) alloc: Global,
     /// The name of each room, and the greatest generation that was made of it here, in the order in which the rooms were begun.
@@ -40,11 +40,11 @@ pub struct Groups {
     /// The address of each place. A place where no group was made has the address of no tenant.
     pub(crate) places: IndexMap<Addr, Place>,
     pub(crate) slots: Slab<Slot>,
-    /// The place of the last group that was said something in, or that received an item or an acknowledgement. It only saves a
-    /// search: the address at the place is compared.
+    /// The place of the last group in which a message was said, or that received an item or an acknowledgement. It only saves a search: the
+    /// address at the place is compared.
     pub(crate) recent: usize,
-    /// For each node, the places of the groups where something waits for it. The set has words for the places of all groups that
-    /// have the node among their members. So only `make` takes memory for it.
+    /// For each node, the places of the groups with items that wait for it. The set has words for the places of all groups that have the
+    /// node among their members. So only `make` takes memory for it.
     pub(crate) busy: [PlaceSet; NODES],
     /// For each node, the place where packing for it continues.
     pub(crate) cursors: [usize; NODES],
@@ -52,7 +52,7 @@ pub struct Groups {
     pub(crate) memberships: [PlaceSet; NODES],
 }
 
-// Not derived: what is derived is proved anew in each crate that ends one.
+// Not derived: a derived impl is proved anew in each crate that ends one.
 impl Drop for Groups {
     fn drop(self) {
         let Groups {
@@ -157,8 +157,8 @@ impl Groups {
         slot.done(dest, m);
     }
 
-    /// Makes a group, at the lowest free place of its room, at the node `me`. `noticed` are the nodes that `me` holds for crashed.
-    /// The first group of a room begins the room, behind the others. `Err` if memory is refused; then nothing has changed.
+    /// Makes a group, at the lowest free place of its room, at the node `me`. `noticed` are the nodes that `me` has noticed as crashed. The
+    /// first group of a room begins the room, behind the others. `Err` if memory is refused; then nothing has changed.
     ///
     /// It takes the group's own memory, memory for the room, and for each member two sets with 8 bytes for every 64 places. No
     /// other call takes memory for the sets.
@@ -193,7 +193,7 @@ impl Groups {
         Ok(())
     }
 
-    /// Opens the group with this address. Returns `Done`, or a refusal: `Spent` if the group was dropped or can be made no more,
+    /// Opens the group with this address. Returns `Done`, or a refusal: `Spent` if the group was dropped or can no longer be made,
     /// `NoGroup` if it was not made yet, `WrongPhase` if it was opened before. After a refusal nothing has changed.
     pub fn open_group(&mut self, addr: Addr) -> Reply
         ensures reply { result ≡ group_reply open_answer addr self.old }
@@ -214,7 +214,7 @@ impl Groups {
         replied(slot.open_group())
     }
 
-    /// Shuts the group with this address. Returns `Done`, or a refusal: `Spent` if the group was dropped or can be made no more,
+    /// Shuts the group with this address. Returns `Done`, or a refusal: `Spent` if the group was dropped or can no longer be made,
     /// `NoGroup` if it was not made yet, `WrongPhase` if it is not open. After a refusal nothing has changed.
     pub fn shut_group(&mut self, addr: Addr) -> Reply
         ensures reply { result ≡ group_reply shut_answer addr self.old }
@@ -235,9 +235,9 @@ impl Groups {
         replied(slot.shut_group())
     }
 
-    /// Drops the group with this address. Returns `Done`, or a refusal: `Spent` if the group was dropped or can be made no more,
-    /// `NoGroup` if it was not made yet. What waits in the group is discarded, and its place is free for another generation of its
-    /// room. After a refusal nothing has changed.
+    /// Drops the group with this address. Returns `Done`, or a refusal: `Spent` if the group was dropped or can no longer be made,
+    /// `NoGroup` if it was not made yet. The items that wait in the group are discarded, and its place is free for another generation of
+    /// its room. After a refusal nothing has changed.
     pub fn drop_group(&mut self, addr: Addr) -> Reply
         ensures reply { result ≡ group_reply drop_answer addr self.old }
         ensures rooms { self.new.rooms ≡ self.old.rooms }
@@ -258,11 +258,11 @@ impl Groups {
         Reply::Done
     }
 
-    /// Broadcasts a payload in the group with this address. Returns `Said` with the message's number. The message is then queued to
-    /// be sent to each other member that is not held for crashed. If the group does not live here, returns the refusal `Spent` or
-    /// `NoGroup`. Other refusals, in this order: `WrongPhase`, `BadPlace` if `seq` is given and is not the next number, `TooLong`,
-    /// `Budget`, `Bytes`, `Window`. After a refusal nothing has changed. `place` is what `find` returned, and `version` that of the
-    /// packets that the node sends.
+    /// Broadcasts a payload in the group with this address. Returns `Said` with the message's number. The message is then queued for each
+    /// other member that is not noticed as crashed. If the group does not live here, returns the refusal `Spent` or `NoGroup`. Other
+    /// refusals, in this order: `WrongPhase`, `BadPlace` if `seq` is given and is not the next number, `TooLong`, `Budget`, `Bytes`,
+    /// `Window`. After a refusal nothing has changed. `place` is the result of `find`, and `version` that of the packets that the node
+    /// sends.
     pub fn say(
         &mut self,
         version: Version,
@@ -297,9 +297,9 @@ impl Groups {
         }
     }
 
-    /// Returns at most `most` entries of the log of the group with this address, from entry `from` on, counted from 0, as `Log`.
-    /// Else returns a refusal: `Spent` or `NoGroup` if the group does not live here, `BadPlace` if `from` is beyond the log's end
-    /// or `most` is above 16, `OutOfMemory` if memory for the copies is refused. Changes nothing. `place` is what `find` returned.
+    /// Returns at most `most` entries of the log of the group with this address, from entry `from` on, counted from 0, as `Log`. Otherwise
+    /// returns a refusal: `Spent` or `NoGroup` if the group does not live here, `BadPlace` if `from` is beyond the log's end or `most` is
+    /// above 16, `OutOfMemory` if memory for the copies is refused. Changes nothing. `place` is the result of `find`.
     pub fn fetch(&self, addr: Addr, place: Option<usize>, from: u32, most: u32) -> Reply
         requires { place ≡ living_place addr self.now.rows }
         ensures { IsReply (group_reply (λ s. fetch_answer s from most) addr self.now) result }
@@ -316,7 +316,7 @@ impl Groups {
         }
     }
 
-    /// Records in the group at a place that a node is noticed.
+    /// Records in the group at `place` that a node is noticed.
     fn notice_at(&mut self, place: usize, who: NodeId)
         requires { place < length self.old.rows }
         ensures rows { self.new.rows ≡ slice_set self.old.rows place (on_slot (slot_noticed who) (row_at self.old.rows place)) }
@@ -340,7 +340,7 @@ impl Groups {
         self.memberships[who.index()].next(from)
     }
 
-    /// Records in each group that has the node `who` among its members that `who` is held for crashed. A group's broadcast may then
+    /// Records in each group that has the node `who` among its members that `who` is noticed as crashed. A group's broadcast may then
     /// deliver messages, and may queue some to be sent. Other groups take no time.
     pub fn notice(&mut self, who: NodeId)
         ensures rows { self.new.rows ≡ map (on_slot (slot_noticed who)) self.old.rows }

@@ -1,5 +1,5 @@
-//! The sets of places that a node's groups keep for each node: those of the groups where something waits for it, and those of the
-//! groups that have it among their members.
+//! The sets of places that a node's groups keep for each node: those of the groups with items that wait for it, and those of the groups
+//! that have it among their members.
 ghost use Rattle.std.specs.Prelude.{min, ◌≢◌, ◌≡◌, ◌<◌, ◌*◌, [], slice_index_or, ℕ, length, OnOk};
 ghost use Rattle.gb_types.specs.declared.limits.TheConstants.{NODES, PLACES};
 ghost use Rattle.gb_table.specs.Busy.{IsNoted, IsPlaced};
@@ -27,7 +27,7 @@ fn note_at(set: &mut PlaceSet, place: usize, waiting: usize)
     }
 }
 
-/// Removes `place` from a set that has it, if nothing waits there any more.
+/// Removes `place` from a set that has it, if no item waits there any more.
 pub fn note_taken(set: &mut PlaceSet, place: usize, waiting: usize)
     requires { has set.old place ≡ 1 }
     ensures here { has set.new place ≡ min 1 waiting }
@@ -39,8 +39,8 @@ pub fn note_taken(set: &mut PlaceSet, place: usize, waiting: usize)
     }
 }
 
-/// For each member of the group at `place`, inserts the place into the member's set if something waits there for the member,
-/// otherwise removes it.
+/// For each member of the group at `place`, inserts the place into the member's set if an item waits there for the member, otherwise
+/// removes it.
 pub fn note_members(busy: &mut [PlaceSet], slot: &Slot, place: usize)
     requires size { length busy.old ≡ NODES }
     requires words { HaveWord NODES place slot.now.spec.members busy.old }
@@ -53,9 +53,8 @@ pub fn note_members(busy: &mut [PlaceSet], slot: &Slot, place: usize)
     }
 }
 
-/// Inserts `place` into the sets of the nodes to which the group's items are put out: its members, except those that the group
-/// passes over.
-// Called, not inlined: most items put nothing out.
+/// Inserts `place` into the sets of the nodes for which the group queues items: its members, except those that it skips.
+// Called, not inlined: most items queue nothing.
 #[inline(never)]
 pub fn note_reached(busy: &mut [PlaceSet], slot: &Slot, place: usize)
     requires size { length busy.old ≡ NODES }
@@ -88,7 +87,7 @@ pub fn enrol(memberships: &mut [PlaceSet], place: usize, members: &NodeSet)
     }
 }
 
-/// Makes the sets of these nodes have a word for `place`. If memory is refused, some of the sets may have it.
+/// Gives the sets of these nodes a word for `place`. If memory is refused, some of the sets may have it.
 pub fn cover(sets: &mut [PlaceSet], place: usize, members: &NodeSet) -> Result<(), OutOfMemory>
     requires place { place < PLACES }
     requires size { length sets.old ≡ NODES }

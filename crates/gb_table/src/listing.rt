@@ -1,4 +1,4 @@
-//! What a node tells its administrator about its groups.
+//! The list of a node's groups for its administrator.
 ghost use Rattle.std.specs.Prelude.{◌≡◌, ◌<◌, length, IfOk, if◌then◌else◌};
 ghost use Rattle.gb_table.specs.SlotsValue.{row_at, is_used};
 ghost use Rattle.gb_table.specs.GroupRows.{listed_from, used, listed};
@@ -15,13 +15,13 @@ const _: () = prove!(LISTED == 64);
 /// Some of a node's groups, in the order of their places.
 #[derive(Drop)]
 pub struct Listing {
-    /// The number of groups that live at the node, or were dropped and their places not taken since.
+    /// The number of groups that live at the node, or were dropped and whose places were not taken since.
     pub total: usize,
     pub groups: Vec<GroupRow>,
 }
 
 impl Groups {
-    /// Returns the group at a place as a list shows it.
+    /// Returns the row of a list for the group at `place`.
     fn listed(&self, place: usize) -> GroupRow
         requires { place < length self.now.rows }
         ensures { result ≡ listed (row_at self.now.rows place) }
@@ -43,7 +43,7 @@ impl Groups {
         }
     }
 
-    /// Returns true if a group was made at the place.
+    /// Returns true if a group was made at `place`.
     fn is_used(&self, place: usize) -> bool
         requires { place < length self.now.rows }
         ensures { result ≡ is_used (row_at self.now.rows place) }
@@ -51,7 +51,7 @@ impl Groups {
         self.addr(place).tenant > 0
     }
 
-    /// Returns 1 if a group was made at the place, else 0.
+    /// Returns 1 if a group was made at `place`, otherwise 0.
     fn count_used(&self, place: usize) -> usize
         requires { place < length self.now.rows }
         ensures { result ≡ (if is_used (row_at self.now.rows place) then 1 else 0) }

@@ -1,4 +1,4 @@
-//! Where a node's groups are: at the places of their rooms, under their addresses.
+//! The places of a node's groups: in their rooms, under their addresses.
 ghost use Rattle.std.specs.Prelude.{◌≡◌, ◌≤◌, ◌<◌, ◌+◌, Some, None, is_some, length, IfSome, MatchOption, ◌&&◌, not, count_by, take, drop, if◌then◌else◌};
 ghost use Rattle.gb_types.specs.declared.limits.TheConstants.{PLACES, PAYLOAD};
 ghost use Rattle.gb_rules.specs.Common.{absent_answer, is_addr};
@@ -23,7 +23,7 @@ impl Groups {
         self.places.len()
     }
 
-    /// Returns true if a group lives at the place.
+    /// Returns true if a group lives at `place`.
     pub(crate) fn is_living(&self, place: usize) -> bool
         ensures { result ≡ is_some (row_at self.now.rows place).slot }
     {
@@ -33,7 +33,7 @@ impl Groups {
         }
     }
 
-    /// Returns the first place from `from` on where no group lives, or the number of places if a group lives at each of them.
+    /// Returns the first place from `from` on at which no group lives, or the number of places if a group lives at each of them.
     pub(crate) fn first_free(&self, from: usize) -> usize
         requires { from ≤ length self.now.rows }
         ensures { result ≡ first_free from self.now.rows }
@@ -58,7 +58,7 @@ impl Groups {
         living
     }
 
-    /// Returns 1 if another group than the one with this address lives at the place, else 0.
+    /// Returns 1 if another group than the one with this address lives at `place`, otherwise 0.
     fn count_other(&self, place: usize, addr: Addr) -> usize
         requires { place < length self.now.rows }
         ensures { result ≡ (if is_some (row_at self.now.rows place).slot && not (is_addr addr (row_at self.now.rows place).addr) then 1 else 0) }
@@ -88,8 +88,8 @@ impl Groups {
         self.places.get_index_of(&addr)
     }
 
-    /// Returns the place where the group with this address lives, an index among the places of this node's rooms. `None` if it does
-    /// not live here.
+    /// Returns the place at which the group with this address lives, an index among the places of this node's rooms. `None` if it does not
+    /// live here.
     pub fn find(&self, addr: Addr) -> Option<usize>
         ensures place { result ≡ living_place addr self.now.rows }
         ensures at { IfSome result (λ place. Some place ≡ place_of addr self.now.rows) }
@@ -103,7 +103,7 @@ impl Groups {
         }
     }
 
-    /// Returns the slot of the group that lives at a place. `None` if no group lives there.
+    /// Returns the slot of the group that lives at `place`. `None` if no group lives there.
     pub(crate) fn slot(&self, place: usize) -> Option<&Slot>
         ensures slot { MatchOption result ((row_at self.now.rows place).slot ≡ None) (λ s. (row_at self.now.rows place).slot ≡ Some s.now) }
         ensures short { IfSome result (λ s. IsShort PAYLOAD (Some s.now)) }
@@ -114,7 +114,7 @@ impl Groups {
         self.slots.get(key)
     }
 
-    /// Returns the address of the group that was last made at a place. It has tenant 0 if none was made there.
+    /// Returns the address of the group that was last made at `place`. It has tenant 0 if none was made there.
     pub(crate) fn addr(&self, place: usize) -> Addr
         requires { place < length self.now.rows }
         ensures { result ≡ (row_at self.now.rows place).addr }
@@ -123,8 +123,7 @@ impl Groups {
         *addr
     }
 
-    /// Returns true if the group with this address, or a later generation of its room, was made here. If so, it can be made here no
-    /// more.
+    /// Returns true if the group with this address, or a later generation of its room, was made here. If so, it can no longer be made here.
     pub fn is_passed(&self, addr: Addr) -> bool
         ensures { result ≡ is_passed addr self.now.rooms }
     {
@@ -151,7 +150,7 @@ impl Groups {
         }
     }
 
-    /// Returns the answer to a command on a group that does not live here: Spent if it was dropped or can be made no more, else
+    /// Returns the reply to a command on a group that does not live here: Spent if it was dropped or can no longer be made, otherwise
     /// NoGroup.
     pub(crate) fn absent(&self, addr: Addr) -> Reply
         ensures { result ≡ absent_answer (is_passed addr self.now.rooms) }
@@ -163,7 +162,7 @@ impl Groups {
         }
     }
 
-    /// Returns the place that the next group of the room takes: the lowest one of the room where no group lives, or the first one of
+    /// Returns the place that the next group of the room takes: the lowest place of the room at which no group lives, or the first place of
     /// a new room.
     pub(crate) fn free_place(&self, addr: Addr) -> usize
         ensures { result ≡ free_place (rank_of addr self.now.rooms) self.now.rows }

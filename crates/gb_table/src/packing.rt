@@ -1,5 +1,5 @@
 //! The walk round a node's groups, by which packing chooses the waiting items of a batch, one item a visit. It takes no time for groups
-//! where nothing waits.
+//! without waiting items.
 ghost use Rattle.std.specs.Prelude.{◌≡◌, ◌<◌, ◌≤◌, ◌+◌, ◌*◌, ◌++◌, [], length, take, sum_by, slice_index_or, All, IfSome, MatchOption, vec_len, vec_capacity, true, slice_set, ℕ, Some};
 ghost use Rattle.gb_frame.specs.Common.{items_text, IsItem, item_text};
 ghost use Rattle.gb_table.specs.Ahead.{ahead, IsActive, IsTurn};
@@ -26,8 +26,8 @@ use gb_slot::Slot;
 use gb_types::{Addr, NodeId, Version};
 
 impl Groups {
-    /// Returns the first place, from `from` on, of a group where an item waits for the node `dest`. Behind the last place the search
-    /// goes on at place 0. `None` if nothing waits for `dest` in any group.
+    /// Returns the first place, from `from` on, of a group with an item that waits for the node `dest`. After the last place the search
+    /// continues at place 0. `None` if no item waits for `dest` in any group.
     fn next_place(&self, dest: NodeId, from: usize) -> Option<usize>
         requires from { from ≤ length self.now.rows }
         ensures place { result ≡ first_place (walk from (queues dest.number self.now.rows)) }
@@ -47,8 +47,7 @@ impl Groups {
         }
     }
 
-    /// Takes the first item that waits for `dest` in the group at a place, and appends it to `out` as text of `version`. Takes no
-    /// memory.
+    /// Takes the first item that waits for `dest` in the group at `place`, and appends it to `out` as text of `version`. Takes no memory.
     fn give(&mut self, version: Version, place: usize, dest: NodeId, out: &mut Vec<u8>)
         requires place { place < length self.old.rows }
         requires named { AreNamed version self.old.rows }
@@ -75,10 +74,10 @@ impl Groups {
         note_taken(&mut self.busy[dest.index()], place, left);
     }
 
-    /// Takes the next `count` items of the walk round the groups for the node `dest`, which begins at place `from`, out of their
-    /// groups' queues, and appends them to `out` as text of `version`. Returns the place where the next walk begins: that of the next
-    /// item, or if nothing is left, the first place of the room behind the last item's. If `count` is 0 and nothing waits, that is
-    /// `from`. Takes no memory.
+    /// Takes the next `count` items of the walk round the groups for the node `dest`, which begins at place `from`, out of their groups'
+    /// queues, and appends them to `out` as text of `version`. Returns the place at which the next walk begins: that of the next item, or
+    /// if no item is left, the first place of the room after the last item's. If `count` is 0 and no item waits, that is `from`. Takes no
+    /// memory.
     fn advance(
         &mut self,
         version: Version,
@@ -118,7 +117,7 @@ impl Groups {
         }
     }
 
-    /// Returns the round and the place of the next visit, if there is one. The walk is at place `at` after `lap` rounds.
+    /// Returns the round and the place of the next visit. `None` if there is none. The walk is at place `at` after `lap` rounds.
     fn next_turn(
         &self,
         active: &[u64],
@@ -146,8 +145,8 @@ impl Groups {
         }
     }
 
-    /// Returns two numbers for the group at a place: the payload length, in bytes, of item `nth` (from 0) of those that wait for
-    /// `dest`, and how many items wait for `dest`. Inlined: packing calls it once an item.
+    /// Returns two numbers for the group at `place`: the payload length, in bytes, of item `nth` (from 0) of those that wait for `dest`,
+    /// and the number of items that wait for `dest`. Inlined: packing calls it once an item.
     #[inline(always)]
     fn measure_at(&self, place: usize, dest: NodeId, nth: usize) -> (usize, usize)
         requires { nth < length (queue dest.number (row_at self.now.rows place)) }
@@ -162,9 +161,9 @@ impl Groups {
         (payload.len(), slot.waiting_for(dest))
     }
 
-    /// Returns the number of items of the walk to a node that fit, as text of this version, and the number of their bytes. `active`
-    /// are the words of the node's set of busy places, and `summary` says which words have a place. A place is removed once all that
-    /// waits there is counted.
+    /// Returns the number of items of the walk to a node that fit, as text of this version, and the number of their bytes. `active` are the
+    /// words of the node's set of busy places, and `summary` says which words have a place. A place is removed once all items that wait
+    /// there are counted.
     fn measure_busy<const N: usize>(
         &self,
         mut active: [u64; N],
@@ -205,9 +204,9 @@ impl Groups {
         (count, room - left)
     }
 
-    /// Returns two numbers: how many items of the walk round the groups for the node `dest`, from place `from` on, fit into `room`
-    /// bytes as text of `version`, and the number of their bytes. Changes nothing. If something waits for `dest`, the words of its set
-    /// are copied to the stack: one at a node of up to 64 places, 8 up to 512, else all 64.
+    /// Returns two numbers: the number of items of the walk round the groups for the node `dest`, from place `from` on, that fit into
+    /// `room` bytes as text of `version`, and the number of their bytes. Changes nothing. If an item waits for `dest`, the words of its set
+    /// are copied to the stack: one at a node of up to 64 places, 8 up to 512, otherwise all 64.
     fn measure_walk(&self, version: Version, dest: NodeId, from: usize, room: usize) -> (u16, usize)
         requires from { from ≤ length self.now.rows }
         requires room { room ≤ 65535 }
@@ -228,9 +227,9 @@ impl Groups {
         self.measure_busy(busy.words(), summary, version, dest, from, room)
     }
 
-    /// Returns two numbers: how many items the next batch for `dest` has, as text of `version` in at most `room` bytes, and the
-    /// number of their bytes. `room` is at most 65,535. Changes nothing. If `room` holds the longest message, 0 items means that
-    /// nothing waits for `dest`.
+    /// Returns two numbers: the number of items of the next batch for `dest`, as text of `version` in at most `room` bytes, and the number
+    /// of their bytes. `room` is at most 65,535. Changes nothing. If `room` holds the longest message, 0 items means that no item waits for
+    /// `dest`.
     pub fn measure(&self, version: Version, dest: NodeId, room: usize) -> (u16, usize)
         requires { room ≤ 65535 }
         ensures count { result.0 ≡ length (batch version dest.number room self.now) }
@@ -242,9 +241,9 @@ impl Groups {
         self.measure_walk(version, dest, from, room)
     }
 
-    /// Takes the items of the next batch for `dest` out of their groups' queues and appends them to `out`, as text of `version`.
-    /// The batch is the longest front of the walk round the groups that fits into `room` bytes. The next batch for `dest` begins
-    /// where this one ended. `count` is the number that `measure` returned, and `out` has capacity for the bytes. Takes no memory.
+    /// Takes the items of the next batch for `dest` out of their groups' queues and appends them to `out`, as text of `version`. The batch
+    /// is the longest front of the walk round the groups that fits into `room` bytes. The next batch for `dest` begins where this one
+    /// ended. `count` is the number that `measure` returned, and `out` has capacity for the bytes. Takes no memory.
     pub fn pack_into(
         &mut self,
         version: Version,
@@ -271,7 +270,7 @@ impl Groups {
     }
 }
 
-/// Returns the first place of the room after that of a place, of `places` places in all. The first room comes after the last.
+/// Returns the first place of the room after that of `place`, of `places` places in all. The first room comes after the last.
 fn room_after(places: usize, place: usize) -> usize
     requires { place < PLACES }
     ensures { result ≡ room_after places place }

@@ -1,5 +1,5 @@
-//! Sets of places (the indices at which a node keeps its groups), 64 in a word. A node has such sets for the groups where something
-//! waits for another node, and for the groups that have a node among their members.
+//! Sets of places (the indices at which a node keeps its groups), 64 in a word. A node has such sets for the groups with items that wait
+//! for another node, and for the groups that have a node among their members.
 ghost use Rattle.std.specs.Prelude.{◌≡◌, ◌≢◌, ◌<◌, ◌≤◌, ◌+◌, ◌*◌, ◌/◌, ℕ, length, slice_index_or, max, IfSome, OnOk, OnErr, MatchOption};
 ghost use Rattle.gb_types.specs.declared.limits.TheConstants.{PLACES};
 ghost use Rattle.gb_table.specs.PlaceSet.{has, IsNext, IsSummary};
@@ -91,7 +91,7 @@ impl PlaceSet {
         next_of(&self.words, self.summary, from)
     }
 
-    /// Removes `place` from the set. Nothing changes if it is not there.
+    /// Removes `place` from the set. Nothing changes if the set does not have it.
     pub fn remove(&mut self, place: usize)
         ensures here { has self.new place ≡ 0 }
         ensures others { (p : ℕ) → p ≢ place → has self.new p ≡ has self.old p }

@@ -1,4 +1,4 @@
-//! The places of a node's rooms, four a room, in the order in which the rooms were begun, and what is at each of them.
+//! The places of a node's rooms, four a room, in the order in which the rooms were begun, and the content of each.
 ghost use Rattle.std.specs.Prelude.{◌≡◌, ◌<◌, ◌≤◌, ◌+◌, length, slice_get, slice_set, false, MatchOption};
 ghost use Rattle.gb_types.specs.declared.limits.TheConstants.{PLACES};
 ghost use Rattle.gb_rules.specs.Common.{is_addr};
@@ -10,14 +10,14 @@ use gb_rules::room::GENERATIONS;
 use gb_types::Addr;
 use indexmap::IndexMap;
 
-/// What is at a place: the key of a group's slot, or nothing, if no group was made there or the group was dropped.
+/// The content of a place: the key of a group's slot, or nothing, if no group was made there or the group was dropped.
 #[derive(Clone, Copy, Drop)]
 pub enum Place {
     Key(usize),
     Gone,
 }
 
-/// Returns the key of the slot of the group at a place. `None` if the group was dropped.
+/// Returns the key of the slot of the group at `place`. `None` if the group was dropped.
 pub fn key_at(places: &IndexMap<Addr, Place>, place: usize) -> Option<usize>
     ensures { MatchOption result (place_at places.now.entries place ≡ Place.Gone) (λ k. place_at places.now.entries place ≡ Place.Key k) }
 {
@@ -27,7 +27,7 @@ pub fn key_at(places: &IndexMap<Addr, Place>, place: usize) -> Option<usize>
     }
 }
 
-/// Returns true if there is a group with this address at the place.
+/// Returns true if there is a group with this address at `place`.
 pub fn is_at(places: &IndexMap<Addr, Place>, place: usize, addr: Addr) -> bool
     ensures { MatchOption (slice_get places.now.entries place) (result ≡ false) (λ e. result ≡ is_addr addr e.0) }
 {
@@ -37,7 +37,7 @@ pub fn is_at(places: &IndexMap<Addr, Place>, place: usize, addr: Addr) -> bool
     }
 }
 
-/// Leaves no slot at a place. Its address stays.
+/// Removes the slot's key from `place`. The address stays.
 pub fn set_gone(places: &mut IndexMap<Addr, Place>, place: usize)
     requires { place < length places.old.entries }
     ensures { places.new.entries ≡ set_value_at places.old.entries place Place.Gone }
@@ -80,7 +80,7 @@ pub fn add_room(places: &mut IndexMap<Addr, Place>, place: usize)
     add_vacant(places);
 }
 
-/// Puts an address and a key in the place of what is there.
+/// Replaces the address and the content of `place` by `addr` and `key`.
 pub fn put_at(places: &mut IndexMap<Addr, Place>, place: usize, addr: Addr, key: usize)
     requires within { place < length places.old.entries }
     requires fresh { AreOthers addr places.old.entries }

@@ -51,12 +51,12 @@ pub struct Table {
     admin_key: HmacKey,
     tenants: Tenants,
     groups: Groups,
-    /// The token of the member of each room's groups at this node, under the room's name, computed when a group of the room was
-    /// made, if there was memory for it. Contracts see nothing of it.
+    /// The token of the member of each room's groups at this node, under the room's name, computed when a group of the room was made, if
+    /// there was memory for it. Contracts do not see it.
     member_tokens: IndexMap<Addr, Token>,
 }
 
-// Not derived: what is derived is proved anew in each crate that ends one.
+// Not derived: a derived impl is proved anew in each crate that ends one.
 impl Drop for Table {
     fn drop(self) {
         let Table {
@@ -146,8 +146,7 @@ impl Table {
         self.version
     }
 
-    /// Returns the place of the group that a member's say or fetch is for, or `None` if that group does not live here or for other
-    /// requests.
+    /// Returns the place of the group of a member's say or fetch. `None` if that group does not live here, and for other requests.
     fn place_for(&self, what: &Action) -> Option<usize>
         ensures { result ≡ place_for what.now self.now }
     {
@@ -205,8 +204,8 @@ impl Table {
         }
     }
 
-    /// Returns the token of the address's member at this node, if it is kept for the room of `place`. Tokens are kept in the order in
-    /// which rooms were begun, so a token's index is its room's rank, unless memory was lacking for an earlier token.
+    /// Returns the token of the address's member at this node, if it is kept for the room of `place`. Tokens are kept in the order in which
+    /// rooms were begun, so a token's index is its room's rank, unless there was no memory for an earlier token.
     fn kept_token(&self, addr: Addr, place: Option<usize>) -> Option<&Token>
         ensures { IfSome result (λ own. IsMemberToken self.now.me self.now.tenants addr own.now) }
     {
@@ -227,8 +226,8 @@ impl Table {
         }
     }
 
-    /// Returns true if `token` is the token of the address's member at this node. That token is looked up at `place`; if it is
-    /// not there, or is another, it is computed. So each token that is not the right one takes as long.
+    /// Returns true if `token` is the token of the address's member at this node. That token is looked up at `place`; if it is not there,
+    /// or is another, it is computed. So each wrong token takes the same time.
     fn is_member(&self, token: &Token, addr: Addr, place: Option<usize>) -> bool
         ensures { result ≡ is_by_tenant addr.tenant (Need.Member addr.tenant addr.group self.now.me) token.now self.now }
     {
@@ -339,7 +338,7 @@ impl Table {
             .say(self.version, addr, place, message.seq, payload)
     }
 
-    /// Does what the command asks of the group with this address. `place` is what `place_for` returned.
+    /// Executes the command in the group with this address. `place` is the result of `place_for`.
     fn command(
         &mut self,
         addr: Addr,
@@ -361,10 +360,9 @@ impl Table {
         }
     }
 
-    /// Does what the request asks, in this table, and returns the reply. `noticed` are the nodes that this node holds for crashed
-    /// (noticed as crashed). The reply `Denied` comes before all others: the token is not the one that the request needs, the tenant is
-    /// not here, or the token is another group's. Then come the other refusals in the order of the rules, and `OutOfMemory` last. After
-    /// a refusal nothing has changed.
+    /// Executes the request in this table, and returns the reply. `noticed` are the nodes that this node has noticed as crashed. The reply
+    /// `Denied` comes before all others: the token is not the one that the request needs, the tenant is not here, or the token is another
+    /// group's. Then come the other refusals in the order of the rules, and `OutOfMemory` last. After a refusal nothing has changed.
     pub fn request(&mut self, request: &Request, noticed: &NodeSet) -> Reply
         ensures reply { IsReplyTo request.now.what (table_reply request.now self.old) result }
         ensures state { self.new ≡ table_did noticed.now result request.now.what self.old }
@@ -389,8 +387,8 @@ impl Table {
 
     /// Returns some of the groups that live at the node, or were dropped and whose places are not taken again: at most `most`, from the
     /// `from`-th on, in the order of their places; and the number of all of these. `Err` with `Denied` if the token is not the
-    /// administrator's, with `BadPlace` if there are fewer than `from` groups or `most` is above 64, and with `OutOfMemory` if there is
-    /// no memory for the list.
+    /// administrator's, with `BadPlace` if there are fewer than `from` groups or `most` is above 64, and with `OutOfMemory` if there is no
+    /// memory for the list.
     pub fn list(&self, token: &Token, from: u32, most: u32) -> Result<Listing, Refusal>
         ensures groups { IfOk result (λ listing. list_answer token.now from most self.now ≡ Ok listing.groups.items) }
         ensures total { IfOk result (λ listing. listing.total ≡ length (used self.now.groups.rows)) }
@@ -410,8 +408,8 @@ impl Table {
         }
     }
 
-    /// Takes a message that came from node `from` into its group. The message is dropped, and nothing changes, if its group is not
-    /// here, if its payload is longer than this node's version allows, or if the group's rules say so.
+    /// Passes a message that came from node `from` to its group. The message is discarded, and nothing changes, if its group is not here,
+    /// if its payload is longer than this node's version allows, or if the group's rules discard it.
     pub fn item(&mut self, from: NodeId, item: ItemView<'_>)
         ensures state { self.new ≡ table_came from (view_item item.entry) self.old }
         ensures others { OthersKept (address_of (view_item item.entry)) self.old.groups.rows self.new.groups.rows }
@@ -430,17 +428,17 @@ impl Table {
         self.groups.done(dest, addr, m);
     }
 
-    /// Tells each group of the table, which has the tenants and the groups of one node, that node `who` is held for crashed (noticed as
-    /// crashed), for good. A group that has it as a member records that, and delivers and queues for other members what its kind then asks
-    /// for; other groups do not change. Nothing is sent. Takes no memory.
+    /// Notifies each group of the table, which has the tenants and the groups of one node, that node `who` is noticed as crashed, for good.
+    /// A group that has it as a member records that, and delivers messages and queues messages for other members as its kind requires;
+    /// other groups do not change. Nothing is sent. Takes no memory.
     pub fn notice(&mut self, who: NodeId)
         ensures { self.new ≡ table_noticed who self.old }
     {
         self.groups.notice(who);
     }
 
-    /// Returns the number of messages in the next batch for node `dest`, and the number of bytes that they take, at most `room`. `room`
-    /// is at most 65,535. If `room` is enough for the longest message, 0 messages mean that nothing waits for `dest`. Changes nothing.
+    /// Returns the number of messages in the next batch for node `dest`, and the number of bytes that they take, at most `room`. `room` is
+    /// at most 65,535. If `room` is enough for the longest message, 0 messages mean that no message waits for `dest`. Changes nothing.
     pub fn measure(&self, dest: NodeId, room: usize) -> (u16, usize)
         requires { room ≤ 65535 }
         ensures count { result.0 ≡ length (batch self.now.version dest.number room self.now.groups) }
@@ -451,9 +449,9 @@ impl Table {
         self.groups.measure(self.version, dest, room)
     }
 
-    /// Appends the next batch of messages for node `dest` to `out` as text, and removes them from what waits. They take at most `room`
-    /// bytes, which is at most 65,535. `count` is the number that `measure` returned for this `room`, and `out` has capacity for the
-    /// bytes that it returned, so no memory is taken.
+    /// Appends the next batch of messages for node `dest` to `out` as text, and removes them from the queues. They take at most `room`
+    /// bytes, which is at most 65,535. `count` is the number that `measure` returned for this `room`, and `out` has capacity for the bytes
+    /// that it returned, so no memory is taken.
     pub fn pack_into(&mut self, dest: NodeId, room: usize, count: u16, out: &mut Vec<u8>)
         requires room { room ≤ 65535 }
         requires count { count ≡ length (batch self.old.version dest.number room self.old.groups) }

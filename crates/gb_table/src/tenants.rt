@@ -67,7 +67,7 @@ pub struct Tenants {
     rows: IndexMap<TenantId, Tenant>,
     /// The number of rooms that the tenants reserve in all.
     reserved: u32,
-    /// The key under which a token is computed for a tenant that is not here. No token under it admits anybody.
+    /// The key under which a token is computed for a tenant that is not here. No token under it admits a request.
     stand_in: HmacKey,
 }
 
@@ -120,7 +120,7 @@ impl Tenants {
         self.reserved
     }
 
-    /// Adds a tenant, which is not in the list yet, at the end of this list. `Err` if there is no memory; then the list is as it was.
+    /// Adds a tenant, which is not in the list yet, at the end of this list. `Err` if there is no memory; then the list does not change.
     pub fn add(&mut self, row: &TenantRow) -> Result<(), OutOfMemory>
         requires fresh { row_of row.now.tenant self.old ≡ None }
         requires few { reserved self.old + row.now.groups ≤ ROOMS }
@@ -143,8 +143,8 @@ impl Tenants {
         }
     }
 
-    /// Returns true if `token` is the token for `need` under the tenant's key. False if it is another, or if the tenant is not here: then
-    /// one under another key is computed, so the time that this takes does not say which tenants there are.
+    /// Returns true if `token` is the token for `need` under the tenant's key. Returns false if it is another, or if the tenant is not
+    /// here: then a token under another key is computed, so the time that this takes does not show which tenants there are.
     pub fn admits(&self, tenant: TenantId, need: Need, token: &Token) -> bool
         ensures { result ≡ is_by_row need token.now (row_of tenant self.now) }
     {

@@ -1,4 +1,4 @@
--- How many items of a group frames have, and what their counts add to the projection.
+-- The number of a group's items in frames, and the steps that these counts add to the projection.
 use Rattle.gb_types.specs.Common.{◌≡◌, ◌≢◌, ℕ, zero, suc, ◌+◌, ◌-◌, ◌<◌, Bool, false, not, ◌&&◌, List, [], ◌∷◌, ◌++◌, map, length, take, get_or, length-take, refl, sym, ap, ◌∙◌, arith, append_assoc, length-append, sum, if◌then◌else◌, and-false, append-nil, take-map, take_more, sum_by-cons, sum_by_more}
 use Rattle.gb_types.specs.declared.{address.Addr.Addr, node.NodeId.NodeId, plan.Plan.Plan}
 use Rattle.gb_frame.specs.declared.item.Item.{Item}
@@ -13,7 +13,7 @@ use Rattle.gb_trace.specs.Counts.{counts_acknowledged, is_newly}
 use Rattle.gb_trace.specs.declared.frames.Frames.{Frames}
 use Rattle.gb_trace.specs.Kept.{IsFront, KeepsFrames}
 
--- one step, where there are any items
+-- one step, if there are any items
 pub any_some : (a : NodeId) (k : ℕ) (event : GroupEvent) → k ≢ 0 → if_any a k event ≡ record { node = a; event = event } ∷ []
 any_some a zero event some = absurd (some refl)
 any_some a (suc k) event some = refl
@@ -53,13 +53,13 @@ counts_are g (f ∷ fs) =
 offset_is : (g : Addr) (fs : List (List Item)) (n : ℕ) → offset g fs n ≡ sum (take n (counted g fs))
 offset_is g fs n = counts_are g (take n fs) ∙ ap sum (sym (take-map (λ f. length (group_items g f)) n fs))
 
--- what is acknowledged of frames
+-- the acknowledged items of frames
 all_counted : (g : Addr) (a b : NodeId) (new : ℕ → Bool) (n before : ℕ) (fs : List (List Item)) → all_acknowledged g a b new n before fs ≡ counts_acknowledged a b new n before (counted g fs)
 all_counted g a b new n before [] = refl
 all_counted g a b new n before (f ∷ fs) =
     ap (λ xs. (if new n then if_any a (length (group_items g f)) (Done b (before + 1) (length (group_items g f))) else []) ++ xs) (all_counted g a b new (n + 1) (before + length (group_items g f)) fs)
 
--- what the frame with the number n gives, behind `before` items
+-- the steps of the frame with the number n, after `before` items
 abbrev one_counted : NodeId → NodeId → (ℕ → Bool) → ℕ → ℕ → ℕ → List GroupStep
 one_counted a b new n before k = if new n then if_any a k (Done b (before + 1) k) else []
 
@@ -110,7 +110,7 @@ counted_on_marked a b c acked ks i place before now later t k lt ls at number is
 pub place_on : (ks : List ℕ) (i place next : ℕ) → i < length ks → place ≡ 1 + sum (take i ks) → next ≡ place + get_or ks i 0 → next ≡ 1 + sum (take (i + 1) ks)
 place_on ks i place next lt is adds = let more = sum_by_more (λ n. n) ks i 0 lt in omega (arith, is, adds, more)
 
--- what two tests give that agree on the numbers of these frames
+-- two tests that agree on the numbers of these frames give the same steps
 counted_alike : (a b : NodeId) (p q : ℕ → Bool) (n before : ℕ) (ks : List ℕ) → ((i : ℕ) → i < length ks → p (n + i) ≡ q (n + i)) → counts_acknowledged a b p n before ks ≡ counts_acknowledged a b q n before ks
 counted_alike a b p q n before [] alike = refl
 counted_alike a b p q n before (k ∷ ks) alike =
@@ -118,12 +118,12 @@ counted_alike a b p q n before (k ∷ ks) alike =
     ap (λ t. (if t then if_any a k (Done b (before + 1) k) else []) ++ counts_acknowledged a b p (n + 1) (before + k) ks) (ap p (sym first) ∙ (alike 0 (omega arith) ∙ ap q first))
     ∙ ap (λ xs. one_counted a b q n before k ++ xs) (counted_alike a b p q (n + 1) (before + k) ks (λ i lt. let next : n + 1 + i ≡ n + (i + 1) = omega arith in ap p next ∙ (alike (i + 1) (omega (arith, lt)) ∙ ap q (sym next))))
 
--- what a test gives that no number of these frames passes
+-- a test that no number of these frames passes gives no steps
 counted_none : (a b : NodeId) (n before : ℕ) (ks : List ℕ) → counts_acknowledged a b (λ m. false) n before ks ≡ []
 counted_none a b n before [] = refl
 counted_none a b n before (k ∷ ks) = counted_none a b (n + 1) (before + k) ks
 
--- the first frames, where they were acknowledged before
+-- the first frames, if they were acknowledged before
 pub front_counted : (a b : NodeId) (c : Content) (acked : List Bool) (ks : List ℕ) (front : ℕ) (steps : List GroupStep) → IsFront acked front → steps ≡ steps ++ counts_acknowledged a b (is_newly c acked) 1 0 (take front ks)
 front_counted a b c acked ks front steps was =
     sym (ap (λ xs. steps ++ xs) (counted_alike a b (is_newly c acked) (λ m. false) 1 0 (take front ks) old ∙ counted_none a b 1 0 (take front ks)) ∙ append-nil steps)
@@ -134,7 +134,7 @@ front_counted a b c acked ks front steps was =
         let within : i < front = omega (arith, lt, length-take front ks) in
         ap (λ n. covers c.base c.mask (1 + i) && not (get_or acked n false)) place ∙ (ap (λ t. covers c.base c.mask (1 + i) && not t) (was.all i within) ∙ and-false (covers c.base c.mask (1 + i)))
 
--- what a packet acknowledges, by what is kept of the frames for its sender
+-- the items that a packet acknowledges, by the kept state of the frames for its sender
 pub acknowledged_is : (plan : Plan) (g : Addr) (past : List Happened) (a : NodeId) (c : Content) (n : ℕ) (f : Frames) → n ≡ c.from → KeepsFrames plan g n past f
     → counts_acknowledged a (node_numbered c.from) (is_newly c f.acked.items) 1 0 f.counts.items ≡ acknowledges plan g past a c
 acknowledged_is plan g past a c n f is kept =
@@ -153,7 +153,7 @@ acknowledged_is plan g past a c n f is kept =
 before_is : (plan : Plan) (g : Addr) (past : List Happened) (b n : ℕ) (f : Frames) → KeepsFrames plan g b past f → sum (take n f.counts.items) ≡ offset g (frames_to plan.cluster_key b past) n
 before_is plan g past b n f kept = ap (λ ks. sum (take n ks)) kept.counts ∙ sym (offset_is g (frames_to plan.cluster_key b past) n)
 
--- what a frame brings
+-- the items that a frame brings
 pub brought_is : (plan : Plan) (g : Addr) (run : List NodeStep) (a : NodeId) (c : Content) (from : NodeId) (place n count : ℕ) (f : Frames) → from ≡ node_numbered c.from → n ≡ c.frame - 1 → place ≡ sum (take n f.counts.items) → count ≡ length (group_items g c.items)
     → KeepsFrames plan g a.number (past_at from run) f → comes from a place count ≡ brings plan g run a c
 brought_is plan g run a c from place n count f is number placed counts kept =

@@ -8,12 +8,12 @@ use Rattle.gb_trace.specs.NodeSteps.{past_in}
 use Rattle.gb_isolation.proofs.MarkLemmas.{group_items_of-append, group_items_of-none, group_items_of-one}
 use Rattle.gb_isolation.specs.Project.{group_items, group_items_of}
 
--- in the frames that were packed, with one thing more
+-- the group's items in the packed frames, with one event more
 pub items_more : (g : Addr) (key : List ℕ) (b : ℕ) (h : Happened) (past : List Happened) → group_items_of g (frames_to key b (h ∷ past)) ≡ group_items_of g (frames_to key b past) ++ group_items_of g (packed_for key b h.event h.answer)
 unfolding frames_to
 items_more g key b h past = group_items_of-append g (frames_to key b past) (packed_for key b h.event h.answer)
 
--- of one frame, and of none
+-- the group's items of one frame, and of no frame
 pub one_frame : (g : Addr) (fs : List (List Item)) (f : List Item) → fs ≡ f ∷ [] → group_items_of g fs ≡ group_items g f
 one_frame g fs f is = ap (group_items_of g) is ∙ group_items_of-one g f
 

@@ -1,4 +1,4 @@
--- What is kept of frames and marks.
+-- The kept state of frames and marks.
 use Rattle.gb_types.specs.Common.{◌≡◌, ◌≢◌, ℕ, ◌+◌, ◌<◌, ◌≤◌, Bool, true, false, ◌&&◌, ◌||◌, List, [], ◌∷◌, ◌++◌, length, take, get_or, set, nat_eq, nat_le, nat_lt, refl, sym, ap, subst, ◌∙◌, arith, length-append, sum, list_any, or-false, and-false, or-true, eqb-true, eqb-false, ltb-true, ltb-false, lt-ltb, le-ltb, le-leb, append-nil, map-append, take_all, take-append-le, get_or_append_left, length-map, length-set, get_or-set_same, get_or-set_other, sum_by-append, get_or-append_seam}
 use Rattle.gb_types.specs.declared.{address.Addr.Addr, plan.Plan.Plan}
 use Rattle.gb_types.proofs.BoolLemmas.{or_left, or_right}
@@ -180,7 +180,7 @@ covers_all base mask count i old new le was = record {
       was.each n within ∙ ap (λ t. get_or old n false || (t && covers base mask (n + 1))) (lt-ltb n i (omega (arith, within, le)));
 }
 
--- What is kept of frames.
+-- The kept state of frames.
 
 counted_length : (g : Addr) (fs : List (List Item)) (ks : List ℕ) → ks ≡ counted g fs → length ks ≡ length fs
 counted_length g fs ks are = ap length are ∙ length-map fs (λ f. length (group_items g f))

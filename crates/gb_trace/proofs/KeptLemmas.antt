@@ -1,4 +1,4 @@
--- What is kept of a run, before anything happened and after one thing more.
+-- The kept state of a run, before any event and after one event more.
 use Rattle.gb_types.specs.Common.{◌≡◌, ℕ, ◌+◌, ◌<◌, ◌≤◌, Bool, true, false, ◌||◌, List, [], ◌∷◌, ◌++◌, length, get_or, set, nat_eq, nat_le, refl, sym, ap, subst, ◌∙◌, arith, length-append, option_or, Result, Ok, Err, OnOk, if◌then◌else◌, list_any, or-false, eqb-true, eqb-false, eq-eqb, nat_tests, get_or-set_same, get_or-set_other, get_or_append_left, length-set, get_or-append_seam}
 use Rattle.std.specs.HashSet.{contains}
 use Rattle.gb_types.specs.declared.{address.Addr.Addr, limits.TheConstants.NODES, node.NodeId.NodeId, plan.Plan.Plan, spec.TenantRow.TenantRow}
@@ -18,7 +18,7 @@ use Rattle.gb_trace.proofs.KeptFrameLemmas.{below_or_last, come_begin, come_same
 use Rattle.gb_trace.proofs.PastLemmas.{find_later}
 use Rattle.gb_trace.proofs.SilenceLemmas.{heard_in, is_from, noticed_heard, unheard_heard, watched_more}
 
--- what took a packet did nothing else, and a tick packs nothing
+-- an event that took a packet did nothing else, and a tick packs nothing
 pub taken_only : (key : List ℕ) (b : ℕ) (event : NodeEvent) (answer : NodeAnswer) (c : Content) → came key event answer ≡ c ∷ [] → (packed_for key b event answer ≡ []) × (ticks event answer ≡ [])
 taken_only key b (Came bytes) (Taken (TakenGood good)) c one = (refl, refl)
 taken_only key b event answer c one = absurd (cc)
@@ -134,7 +134,7 @@ link_bare plan g b link positive bare = record {
 
 -- The links of a node.
 
--- where no packet came, no frame was packed and no time ticked
+-- the links do not change if no packet came, no frame was packed and no time ticked
 pub links_rest : (plan : Plan) (g : Addr) (h : Happened) (past : List Happened) (links : List Link) → 0 < plan.silence → ((b : ℕ) → packed_for plan.cluster_key b h.event h.answer ≡ []) → came plan.cluster_key h.event h.answer ≡ [] → ticks h.event h.answer ≡ []
     → KeepsLinks plan g past links → KeepsLinks plan g (h ∷ past) links
 links_rest plan g h past links positive unpacked untaken unticked was = record {
@@ -184,7 +184,7 @@ links_pack plan g h past links i x k old new positive lt packed others untaken u
     (link_packs plan g i h past x k old new positive packed untaken unticked is counts places total acked front (subst (λ (l : Link). KeepsLink plan g i past l) (sym at) (was.each i old lt)))
     (λ n d within other. link_rests plan g n h past (get_or links n d) positive (others n other) (ap (list_any (is_from n)) untaken) unticked (was.each n d within))
 
--- no frame was packed, where none was packed for the node that was asked for
+-- no frame was packed, if none was packed for the requested node
 pub unpacked_all : (key : List ℕ) (i : ℕ) (h : Happened) → packed_for key i h.event h.answer ≡ [] → ((b : ℕ) → nat_eq i b ≡ false → packed_for key b h.event h.answer ≡ []) → (b : ℕ) → packed_for key b h.event h.answer ≡ []
 unpacked_all key i h none others b = by (nat_eq i b) refl
   where
@@ -240,7 +240,7 @@ pub nodes_new : (plan : Plan) (g : Addr) (nodes : List NodeKept) → 0 < plan.si
 unfolding past_at
 nodes_new plan g nodes positive new = record { many = new.many; each = λ a d. node_new plan g a (get_or nodes a.number d) positive (new.each a.number d a.below) }
 
--- the node where it happened is changed
+-- only the node of the event changes
 pub nodes_go_on : (plan : Plan) (g : Addr) (d : NodeStep) (run : List NodeStep) (nodes : List NodeKept) (new : NodeKept) → KeepsNode plan g d.node (record { event = d.event; answer = d.answer } ∷ past_at d.node run) new → Keeps plan g run nodes
     → Keeps plan g (d ∷ run) (set nodes d.node.number new)
 unfolding past_at

@@ -1,4 +1,4 @@
--- A run goes on by a request to fetch a log.
+-- A run continues with a request to fetch a log.
 use Rattle.gb_types.specs.Common.{◌≡◌, suc, List, [], ◌∷◌, ◌++◌, length, refl, sym, ap, subst, ◌∙◌, reverse, reverse-append}
 use Rattle.gb_types.specs.declared.{node.NodeId.NodeId, plan.Plan.Plan, reply.Reply.Reply, request.Request.Request}
 use Rattle.gb_node.specs.declared.{answer.NodeAnswer.TheVariants.Reply as Replied, event.NodeEvent.TheVariants.Request as Asked}
@@ -18,12 +18,12 @@ as_many v w [] (r ∷ rs) steps = absurd steps
 as_many v w (e ∷ es) [] steps = absurd steps
 as_many v w (e ∷ es) (r ∷ rs) steps = ap suc (as_many steps.0 w es rs steps.2)
 
--- a run that goes on at a node, which leaves the cluster as it is
+-- a run continues at a node, with an event that does not change the cluster
 acts_on : (plan : Plan) (run : List NodeStep) (v : ClusterValue) (d : NodeStep) → ComesTo plan run v → ComesTo plan (d ∷ run) v → NodeActs v d.node d.event d.answer v
 unfolding ComesTo
 acts_on plan run v d comes (old, was, sent, acts) = subst (λ (o : ClusterValue). NodeActs o d.node d.event d.answer v) (one_end plan run old v was comes) acts
 
--- a request with this reply goes on a run, where it leaves the cluster as it is
+-- a request with this reply continues a run, if it does not change the cluster
 goes_on : (plan : Plan) (events : List Event) (answers : List Answer) (packets : List Posted) (v : ClusterValue) → IsRun plan events answers packets v → (a : NodeId) (request : Request) (reply : Reply)
     → ComesTo plan (record { node = a; event = Asked request; answer = Replied reply } ∷ run_of events answers packets) v
     → IsRun plan (events ++ At a (Asked request) ∷ []) (answers ++ AnswerReply reply ∷ []) packets v

@@ -1,11 +1,11 @@
--- What happened in a run, from its first event on.
+-- The node steps of a run, from its first event on.
 use Rattle.gb_types.specs.Common.{◌≡◌, ℕ, zero, suc, ◌+◌, ◌<◌, List, [], ◌∷◌, ◌++◌, length, take, get_or, ◌∙◌, ap, sym, refl, arith, add-one, append_assoc, min, Option, option_map_or, append-nil}
 use Rattle.gb_node.specs.declared.{answer.NodeAnswer.NodeAnswer, event.NodeEvent.TheVariants.Packet as Came}
 use Rattle.gb_cluster.specs.Common.{NodeStep}
 use Rattle.gb_cluster.specs.declared.{answer.Answer.Answer, event.Event.Event, posted.Posted.Posted}
 use Rattle.gb_trace.specs.Trace.{did_with, did_in, all_did}
 
--- a packet that arrives, where it was sent and the node answered
+-- a packet that arrives, if it was sent and the node answered
 abbrev pub did_arrive : Option Posted → Option NodeAnswer → List NodeStep
 did_arrive o answer = option_map_or (λ (p : Posted). did_with p.to (Came p.text) answer) o []
 
@@ -28,7 +28,7 @@ pub no_node_steps : (ps : List Posted) → all_did ps [] [] ≡ []
 unfolding all_did
 no_node_steps ps = refl
 
--- all of them
+-- all events
 pub all_node_steps : (ps : List Posted) (n : ℕ) (es : List Event) (rs : List Answer) → n ≡ min (length es) (length rs) → all_did ps (take n es) (take n rs) ≡ all_did ps es rs
 unfolding all_did
 all_node_steps ps zero [] rs is = refl

@@ -1,4 +1,4 @@
--- If no refusal of memory was found for a group, it had no request refused for lack of memory; and what one more event changes in this.
+-- If no refusal for lack of memory is found for a group, none of its requests was refused so; and the effect of one more event on this.
 use Rattle.gb_types.specs.Common.{◌≡◌, ℕ, ◌+◌, ◌<◌, Bool, true, false, not, ◌&&◌, ◌||◌, List, [], ◌∷◌, ◌++◌, length, take, get_or, replicate, Option, Some, None, nat_eq, refl, sym, ap, ◌∙◌, append_assoc, Bor, append-nil, reverse-append, get_or-replicate, option_copied, option_or, reverse, option_map, if◌then◌else◌}
 use Rattle.gb_types.specs.declared.{address.Addr.Addr, limits.TheConstants.NODES, node.NodeId.NodeId, spec.TenantRow.TenantRow}
 use Rattle.gb_types.proofs.BoolLemmas.{or_left, or_right}
@@ -43,7 +43,7 @@ unadded event (Replied reply) other = absurd (cc)
 unadded (Asked request) answer other = refl
 unadded event answer other = refl
 
--- nothing that is no reply is told
+-- the answer is None, or it is no reply
 abbrev IsUntold : Option NodeAnswer → Type 0
 IsUntold None = Unit {0}
 IsUntold (Some answer) = is_reply answer ≡ false
@@ -66,7 +66,7 @@ sent_untold : (o : Option SentValue) → IsUntold (option_map Sent o)
 sent_untold None = tt
 sent_untold (Some s) = refl
 
--- what is known of an answer that is no reply
+-- the answer is a reply
 abbrev is_told : Answer → Bool
 is_told (AnswerReply reply) = true
 is_told answer = false
@@ -124,7 +124,7 @@ rows_in a ps (At node event) (AnswerHalted h) = rows_untold a node event (own_an
 rows_in a ps (At node event) NoPacket = refl
 rows_in a ps (At node event) NotNoise = refl
 
--- the rows of a node, behind those of what happened before
+-- the rows of a node, after those of the earlier steps
 rows_behind : (a : NodeId) (run : List NodeStep) (ds : List NodeStep) → tenants_in (past_at a (ds ++ run)) ≡ tenants_in (past_at a run) ++ tenants_in (past_at a ds)
 unfolding past_at tenants_in
 rows_behind a run [] = sym (append-nil (tenants_in (past_at a run)))
@@ -161,7 +161,7 @@ pub refused_more : (g : Addr) (ps : List Posted) (es : List Event) (rs : List An
     → is_refused_for g (run_of (take (i + 1) es) (take (i + 1) rs) ps) ≡ (is_lacked_by g (run_of (take i es) (take i rs) ps) e r || is_refused_for g (run_of (take i es) (take i rs) ps))
 refused_more g ps es rs i e r lt ls is it = ap (is_refused_for g) (run_more ps es rs i e r lt ls is it) ∙ lacks_more g (run_of (take i es) (take i rs) ps) ps e r
 
--- before anything happened
+-- before any step
 pub no_rows : (a : NodeId) (ps : List Posted) → tenants_in (past_at a (run_of [] [] ps)) ≡ []
 unfolding past_at tenants_in all_did
 no_rows a ps = refl
@@ -182,7 +182,7 @@ pub copied_or : {X : Type 0} (o p : Option (Bor X)) → option_copied (option_or
 copied_or None p = refl
 copied_or (Some x) p = refl
 
--- the rows that are kept, before anything happened and after one event more
+-- the rows that are kept, before any step and after one event more
 pub rows_begin : (tenant : ℕ) (ps : List Posted) → AreRows tenant (run_of [] [] ps) (replicate NODES None)
 rows_begin tenant ps a = get_or-replicate NODES a.number None None a.below ∙ ap (row_of tenant) (sym (no_rows a ps))
 

@@ -1,4 +1,4 @@
--- A run goes on by one more event.
+-- A run continues with one more event.
 use Rattle.gb_types.specs.Common.{◌≡◌, ◌⊎◌, inl, inr, ℕ, zero, suc, ◌+◌, ◌<◌, ◌≤◌, true, false, Bool, List, [], ◌∷◌, ◌++◌, length, take, get_or, Option, Some, None, refl, sym, ap, subst, ◌∙◌, arith, add-one, append_assoc, length-append, slice_get, option_map, reverse, All, MatchBool, not, ◌&&◌, list_any, and_parts, append-nil, reverse-append, take_all, take_more, All-append, All-get_or}
 use Rattle.gb_types.proofs.BoolLemmas.{and_both, or_left, or_right}
 use Rattle.gb_types.specs.declared.{node.NodeId.NodeId, plan.Plan.Plan, refusal.Refusal.Refusal}
@@ -35,7 +35,7 @@ numbered_kept xs ys (suc k) p e = get_kept xs ys k p e
 numbered_next : (xs rest : List Posted) (p : Posted) → packet_numbered ((xs ++ p ∷ []) ++ rest) (length xs + 1) ≡ Some p
 numbered_next xs rest p = rw add-one (ap (λ (ps : List Posted). slice_get ps (length xs)) (append_assoc xs (p ∷ []) rest) ∙ get_next xs rest p)
 
--- Only a packing, a frame again and an acknowledgement send a packet.
+-- Only a pack, a resend and an acknowledgement send a packet.
 
 abbrev Sends : NodeEvent → Type 0
 Sends (Pack b) = Unit {0}
@@ -52,7 +52,7 @@ only_sends law v w (Came bytes) text turned = absurd (let is = (law v (Came byte
 only_sends law v w Tick text turned = absurd (let is = (law v Tick text w turned).is in cc)
 only_sends law v w Stop text turned = absurd (let is = (law v Stop text w turned).is in cc)
 
--- The answer of the cluster tells that of the node, among the packets that there are then, and later.
+-- The answer of the cluster determines that of the node, by the packets that exist then, and later.
 
 own_is : SendersRun → (v w : NodeValue) (event : NodeEvent) (own : NodeAnswer) (before rest : List Posted) → IsTurn v event own w → own_answer ((before ++ posted event own) ++ rest) (answer_of (length before) own) ≡ Some own
 own_is law v w event (Replied reply) before rest turned = refl
@@ -87,7 +87,7 @@ none_arrives : (o : Option Posted) → did_arrive o None ≡ []
 none_arrives None = refl
 none_arrives (Some p) = refl
 
--- nothing happened
+-- no node step was added
 nothing_more : (v w : ClusterValue) (e : Event) (a : Answer) → w ≡ v → ((ps : List Posted) → did_in ps e a ≡ []) → IsOneMore v e a w
 nothing_more v w e a same none = record {
   more = [];
@@ -96,7 +96,7 @@ nothing_more v w e a same none = record {
   comes = λ plan run comes. subst (λ (ds : List NodeStep). ComesTo plan (reverse ds ++ run) w) (sym (none w.packets)) (subst (ComesTo plan run) (sym same) comes);
 }
 
--- something happened at a node
+-- a node step was added
 one_more : (v w : ClusterValue) (e : Event) (a : Answer) (at : NodeId) (event : NodeEvent) (own : NodeAnswer) → NodeActs v at event own w → IsSent v at event
     → ((rest : List Posted) → did_in (w.packets ++ rest) e a ≡ record { node = at; event = event; answer = own } ∷ []) → IsOneMore v e a w
 unfolding ComesTo
@@ -139,7 +139,7 @@ one_step law v w (Arrive k) a step = by (packet_numbered v.packets k) refl step
             ∙ (ap (λ (ps : List Posted). packet_numbered ps k) (append_assoc v.packets (posted (Came p.text) step.0) rest)
             ∙ numbered_kept v.packets (posted (Came p.text) step.0 ++ rest) k p is)
 
--- Many.
+-- Many events.
 
 pub all_did_more : (ps : List Posted) (es : List Event) (rs : List Answer) (e : Event) (a : Answer) → length es ≡ length rs → all_did ps (es ++ e ∷ []) (rs ++ a ∷ []) ≡ all_did ps es rs ++ did_in ps e a
 unfolding all_did
@@ -155,7 +155,7 @@ steps_more v w x [] (y ∷ rs) e a steps step = absurd steps
 steps_more v w x (z ∷ es) [] e a steps step = absurd steps
 steps_more v w x (z ∷ es) (y ∷ rs) e a steps step = (steps.0, steps.1, steps_more steps.0 w x es rs e a steps.2 step)
 
--- a run so far, of which more packets change nothing
+-- a run so far, which does not change with more packets
 pub record Goes (plan : Plan) (es : List Event) (rs : List Answer) (v : ClusterValue) : Type 0 where
   pub stepped : AreSteps (new_cluster plan) es rs v
   pub comes : ComesTo plan (reverse (all_did v.packets es rs)) v
@@ -199,7 +199,7 @@ pub run_goes : SendersRun → (plan : Plan) (before es : List Event) (rs answers
 run_goes law plan before es rs answers v w e a was events are step =
     subst (λ (xs : List Event). Goes plan xs answers w) (sym events) (subst (λ (ys : List Answer). Goes plan (before ++ e ∷ []) ys w) (sym are) (run_on law plan before rs v w e a was step))
 
--- what was found is a run
+-- the result is a run
 pub is_run : (plan : Plan) (es : List Event) (rs : List Answer) (packets : List Posted) (v : ClusterValue) → Goes plan es rs v → packets ≡ v.packets → IsRun plan es rs packets v
 is_run plan es rs packets v goes are = record { stepped = goes.stepped; comes = subst (λ (ps : List Posted). ComesTo plan (reverse (all_did ps es rs)) v) (sym are) goes.comes; sent = sym are }
 
@@ -227,7 +227,7 @@ placed_none n es k d lt = absurd (omega arith)
 pub placed_each : (n : ℕ) (es : List Event) (i : ℕ) (e : Event) → i < length es → e ≡ get_or es i e → All (IsPlaced n) es → IsPlaced n e
 placed_each n es i e lt is all = subst (IsPlaced n) (sym is) (All-get_or (IsPlaced n) es i e lt all)
 
--- Where no answer lacks memory, nothing that happened does.
+-- If no answer lacks memory, no node step does.
 
 refused_as : (packets : List Posted) (answer : Answer) → is_refused_by (own_answer packets answer) ≡ tells_want answer
 refused_as packets (AnswerReply reply) = refl
@@ -305,7 +305,7 @@ posted_count law v w event (Sent (SentPacket text)) n turned = by event (only_se
     by Tick is = absurd is
     by Stop is = absurd is
 
--- what is sent is the next packet
+-- the sent packet is the next packet
 next_is : SendersRun → (v w : NodeValue) (e : Event) (event : NodeEvent) (own : NodeAnswer) (before rest : List Posted) → goal_of e ≡ receiver_of event → IsTurn v event own w
     → IsNext ((before ++ posted event own) ++ rest) (length before) e (answer_of (length before) own)
 next_is law v w e event (Replied reply) before rest goal turned = tt

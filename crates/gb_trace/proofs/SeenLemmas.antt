@@ -1,4 +1,4 @@
--- What the plain programs see of an isolated group.
+-- The observations of the plain programs of an isolated group.
 use Rattle.gb_types.specs.Common.{◌≡◌, ℕ, ◌<◌, List, ◌++◌, length, take, sym, ◌∙◌, ap, subst, arith, bounds_of}
 use Rattle.gb_types.specs.declared.entry.Entry.{Entry}
 use Rattle.gb_alone.specs.Common.{Group, alone, IsLegal, observed_alone}

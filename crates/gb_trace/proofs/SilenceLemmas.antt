@@ -1,4 +1,4 @@
--- For how many ticks a node was not heard at another.
+-- The number of ticks for which a node was not heard at another.
 use Rattle.gb_types.specs.Common.{◌≡◌, ℕ, ◌<◌, Bool, true, false, ◌||◌, List, [], ◌∷◌, ◌++◌, map, nat_eq, refl, ◌∙◌, append_assoc, if◌then◌else◌, list_any}
 use Rattle.gb_detect.specs.Silence.{Call, Heard, is_noticed}
 use Rattle.gb_detect.proofs.TickLemmas.{ticks_since, ticks_since-other, ticks_since-heard, noticed-heard}
@@ -25,7 +25,7 @@ pub noticed_heard : (s b : ℕ) (cs : List Content) (calls : List Call) → 0 < 
 noticed_heard s b [] calls positive = refl
 noticed_heard s b (c ∷ cs) calls positive = noticed-heard s b c.from (heard_in cs calls) positive ∙ noticed_heard s b cs calls positive
 
--- after one thing more
+-- after one step more
 pub watched_more : (key : List ℕ) (h : Happened) (past : List Happened) → watched key (h ∷ past) ≡ ticks h.event h.answer ++ heard_in (came key h.event h.answer) (watched key past)
 unfolding watched
 watched_more key h past = append_assoc (ticks h.event h.answer) (map (λ (c : Content). Heard c.from) (came key h.event h.answer)) (watched key past)

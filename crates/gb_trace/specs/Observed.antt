@@ -1,4 +1,4 @@
--- What is seen of a group in a run, without what only the nodes hold.
+-- The observation of a group in a run, without state that only the nodes have.
 use Rattle.std.specs.Prelude.{◌≡◌, ◌≤◌, true, List, map}
 use Rattle.gb_types.specs.Common.{bounds_of}
 use Rattle.gb_types.specs.declared.{address.Addr.Addr, limits.TheConstants.NODES, node.NodeId.NodeId, plan.Plan.Plan}
@@ -18,15 +18,15 @@ observed_at plan g run a = record {
   carried = map (λ b. group_items_of g (frames_to plan.cluster_key b (past_at a run))) (numbers_below plan.nodes);
 }
 
--- what is observed at each node
+-- the observation at each node
 abbrev pub observed : Plan → Addr → List NodeStep → List SeenAt
 observed plan g run = map (λ a. observed_at plan g run (node_numbered a)) (numbers_below plan.nodes)
 
--- what is seen in a run of a group that is isolated there is what is seen of it alone, given the projection
+-- the observation of a group that is isolated in a run is that of the group alone, after its projection
 abbrev pub IsolatedGroupsAreSeenAlone : Type 0
 IsolatedGroupsAreSeenAlone = (plan : Plan) (run : List NodeStep) (v : ClusterValue) (g : Addr) → plan.nodes ≤ NODES → IsIsolated plan run v g → observed plan g run ≡ observed_alone plan.nodes (alone_in plan g run)
 
--- For each group that had no request refused for lack of memory in a run: the projection is legal, and what is seen of the group is what these steps make of it alone.
+-- For each group without a request refused for lack of memory, the projection is legal and the observation is that of the group alone after it.
 abbrev pub FedGroupsAreSeenAlone : Type 0
 FedGroupsAreSeenAlone =
     (plan : Plan) (events : List Event) (answers : List Answer) (packets : List Posted) (v : ClusterValue) → IsRun plan events answers packets v

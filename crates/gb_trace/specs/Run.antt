@@ -1,4 +1,4 @@
--- What holds of every whole run of a cluster, and which answers refuse for lack of memory.
+-- Laws of every whole run of a cluster, and the answers that refuse for lack of memory.
 use Rattle.std.specs.Prelude.{ℕ, ◌≡◌, ◌<◌, Bool, true, false, List, [], ◌∷◌, ◌++◌, Option, Some, None}
 use Rattle.gb_types.specs.declared.{address.Addr.Addr, node.NodeId.NodeId, plan.Plan.Plan}
 use Rattle.gb_node.specs.Common.{is_stopped}
@@ -8,7 +8,7 @@ use Rattle.gb_cluster.specs.declared.{answer.Answer.Answer, answer.Answer.TheVar
 use Rattle.gb_isolation.specs.{Isolation.IsIsolated, Isolation.wants_memory, Project.is_fed, Project.is_own_request, RunLaws.fetched_alone, RunLaws.to_fetch}
 use Rattle.gb_trace.specs.Trace.{own_answer, run_of, IsRun}
 
--- each group that had no request refused for lack of memory is what it is alone
+-- each group that had no request refused for lack of memory is isolated
 abbrev pub IsIsolatedRun : Plan → List Event → List Answer → List Posted → ClusterValue → Type 0
 IsIsolatedRun plan events answers packets v = (g : Addr) → is_fed g (run_of events answers packets) ≡ true → IsIsolated plan (run_of events answers packets) v g
 
@@ -16,8 +16,8 @@ IsIsolatedRun plan events answers packets v = (g : Addr) → is_fed g (run_of ev
 abbrev pub IsAmpleRun : Plan → List Event → List Answer → List Posted → ClusterValue → Bool → Type 0
 IsAmpleRun plan events answers packets v refused = refused ≡ false → (g : Addr) → IsIsolated plan (run_of events answers packets) v g
 
--- A run may go on by a request to fetch a group's log, at any running node, with the token that it needs: the answer is that of the group alone, and no packet is sent.
--- So the run that is longer by this event shows the group's log, at that node, after the events so far.
+-- A run may continue with a request to fetch a group's log, at any running node, with the token that it needs: the reply is that of the group alone,
+-- and no packet is sent. So the run with this event shows the group's log, at that node, after the events so far.
 abbrev pub LogsAreShown : Type 0
 LogsAreShown =
     (plan : Plan) (events : List Event) (answers : List Answer) (packets : List Posted) (v : ClusterValue) → IsRun plan events answers packets v

@@ -1,4 +1,4 @@
-//! What requests add to the projection of a run on a group.
+//! The steps that requests add to the projection of a run onto a group.
 ghost use Rattle.std.specs.Prelude.{◌≡◌, ◌++◌, [], ◌∷◌, IfOk, OnOk, if◌then◌else◌};
 ghost use Rattle.std.specs.Option.{option_to_list};
 ghost use Rattle.gb_alone.specs.declared.event.GroupEvent.TheVariants.{Stop as Ends};
@@ -19,7 +19,7 @@ use gb_rules::room::is_other_generation;
 use gb_types::{Action, Addr, GroupCommand, NodeId, OutOfMemory, Reply, Request};
 use std::alloc::Global;
 
-/// Returns what the command is to the group alone.
+/// Returns the event of the group alone for the command.
 fn event_of(alloc: Global, command: &GroupCommand) -> Result<GroupEvent, OutOfMemory>
     ensures { IfOk result (λ e. e ≡ event_of command.now) }
 {
@@ -46,8 +46,8 @@ fn command(alloc: Global, a: NodeId, what: &Action) -> Result<Option<GroupStep>,
     })
 }
 
-/// Adds the group's steps from a request of the group, with its reply, at the moment's node, which is running. If the request makes
-/// the group, these include the notices of the members that are noticed there. `links` is what is kept of the node's links.
+/// Adds the group's steps from a request of the group, with its reply, at the moment's node, which is running. If the request makes the
+/// group, these include the notices of the members that are noticed there. `links` is the kept state of the node's links.
 fn of_own(
     alloc: Global,
     moment: Moment<'_>,
@@ -66,7 +66,7 @@ fn of_own(
     }
 }
 
-/// Returns the step that tells the group of its tenant, or `None` if a request for `what` with its reply adds another tenant or none.
+/// Returns the step that adds the group's tenant, or `None` if a request for `what` with its reply adds another tenant or none.
 fn tenant(addr: Addr, a: NodeId, what: &Action, reply: &Reply) -> Option<GroupStep>
     ensures { option_to_list result ≡ tenant_given addr a reply.now what.now }
 {
@@ -81,8 +81,8 @@ fn tenant(addr: Addr, a: NodeId, what: &Action, reply: &Reply) -> Option<GroupSt
     }
 }
 
-/// Returns the step that tells the group of another generation of its room, or `None` if a request for `what` with its reply neither
-/// makes nor drops one.
+/// Returns the step that makes or drops another generation of the group's room, or `None` if a request for `what` with its reply does
+/// neither.
 fn other(addr: Addr, a: NodeId, what: &Action, reply: &Reply) -> Option<GroupStep>
     ensures { option_to_list result ≡ other_given addr a reply.now what.now }
 {
@@ -100,8 +100,7 @@ fn other(addr: Addr, a: NodeId, what: &Action, reply: &Reply) -> Option<GroupSte
     }
 }
 
-/// Adds the group's steps from a request, with its reply, at the moment's node, which is running. `node` is what is kept of that
-/// node.
+/// Adds the group's steps from a request, with its reply, at the moment's node, which is running. `node` is the kept state of that node.
 fn of_running(
     alloc: Global,
     moment: Moment<'_>,
@@ -150,7 +149,7 @@ fn of_stopped(
     Ok(())
 }
 
-/// Adds the group's steps from `request`, with its reply, at the moment's node. `node` is what is kept of that node.
+/// Adds the group's steps from `request`, with its reply, at the moment's node. `node` is the kept state of that node.
 pub(crate) fn of_request(
     alloc: Global,
     moment: Moment<'_>,

@@ -1,4 +1,4 @@
-//! What packets add to the projection of a run on a group.
+//! The steps that packets add to the projection of a run onto a group.
 ghost use Rattle.std.specs.Prelude.{◌≡◌, ◌++◌, ◌&&◌, not, [], OnOk, length, reverse, if◌then◌else◌, map};
 ghost use Rattle.std.specs.{List.flat_map, Option.option_to_list};
 ghost use Rattle.gb_link.specs.Ack.{covers as is_covered};
@@ -43,7 +43,7 @@ pub(crate) fn of_packed(
     Some(at(a, GroupEvent::Took { to: b, count }))
 }
 
-/// Adds that `count` items, from `place` on, are acknowledged, unless `count` is 0.
+/// Adds the step that acknowledges `count` items, from `place` on, unless `count` is 0.
 #[tactic(auto, using(crate::proofs::CountLemmas::any_some))]
 fn add_acknowledged(
     a: NodeId,
@@ -67,7 +67,7 @@ fn add_acknowledged(
     Ok(())
 }
 
-/// Adds that `count` items come, with the places after `place`. `Err` also if a place would be above 2^64 - 1.
+/// Adds the steps in which `count` items come, at the places after `place`. `Err` also if a place would be above 2^64 - 1.
 fn add_comes(
     from: NodeId,
     to: NodeId,
@@ -95,7 +95,7 @@ fn is_new(packet: &PacketView<'_>, frame: Frame) -> bool
     covers(head.base, head.mask, frame.number) && !frame.acked
 }
 
-/// Adds that the frame's items are acknowledged, if the packet acknowledges the frame and it is not acknowledged already.
+/// Adds the step that acknowledges the frame's items, if the packet acknowledges the frame and it is not acknowledged already.
 fn add_new(
     a: NodeId,
     packet: &PacketView<'_>,
@@ -144,8 +144,8 @@ fn add_all_acknowledged(
     Ok(())
 }
 
-/// Adds the group's steps from the acknowledgement of the packet, which comes at the moment. `links` is what is kept of the links of
-/// the moment's node.
+/// Adds the group's steps from the acknowledgement of the packet, which comes at the moment. `links` is the kept state of the links of the
+/// moment's node.
 fn of_acknowledgement(
     moment: Moment<'_>,
     links: &[Link],
@@ -159,8 +159,8 @@ fn of_acknowledgement(
     add_all_acknowledged(moment.node, packet, &link.frames, steps)
 }
 
-/// Adds the group's steps from the frame of the packet, which comes at the moment: its items come, with the places after those of
-/// the items in the frames before it. `nodes` is what is kept of each node.
+/// Adds the group's steps from the frame of the packet, which comes at the moment: its items come, at the places after those of the items
+/// in the frames before it. `nodes` is the kept state of each node.
 fn of_frame(
     moment: Moment<'_>,
     nodes: &[NodeKept],
@@ -182,8 +182,8 @@ fn of_frame(
     add_comes(from, moment.node, place, count, steps)
 }
 
-/// Returns true if the packet, which comes at the moment, has a frame, and no frame with its number came from its sender before.
-/// `links` is what is kept of the links of the moment's node.
+/// Returns true if the packet, which comes at the moment, has a frame, and no frame with its number came from its sender before. `links` is
+/// the kept state of the links of the moment's node.
 fn has_new_frame(moment: Moment<'_>, links: &[Link], packet: &PacketView<'_>) -> bool
     requires { KeepsLinks moment.plan.now moment.addr (past_in moment.node moment.before.now) links.now }
     ensures { let m = moment.entry in result ≡ is_new_frame m.plan.now.cluster_key (past_in m.node m.before.now) packet.now }
@@ -193,8 +193,8 @@ fn has_new_frame(moment: Moment<'_>, links: &[Link], packet: &PacketView<'_>) ->
     frame != 0 && !link.came.contains(&frame)
 }
 
-/// Adds the group's steps from the packet, which comes at the moment: first those of its acknowledgement, then those of its frame if
-/// it is new. `nodes` is what is kept of each node.
+/// Adds the group's steps from the packet, which comes at the moment: first those of its acknowledgement, then those of its frame if it is
+/// new. `nodes` is the kept state of each node.
 fn of_packet(
     moment: Moment<'_>,
     nodes: &[NodeKept],
@@ -212,7 +212,7 @@ fn of_packet(
     Ok(())
 }
 
-/// Adds the group's steps from the bytes that the moment's node took, which is running. `nodes` is what is kept of each node.
+/// Adds the group's steps from the bytes that the moment's node took, which is running. `nodes` is the kept state of each node.
 pub(crate) fn of_taken(
     moment: Moment<'_>,
     key: &HmacKey,

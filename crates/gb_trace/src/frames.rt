@@ -1,4 +1,4 @@
-//! The frames that a node packed for another: how many of the group's items each has, and which are acknowledged.
+//! The frames that a node packed for another: the number of the group's items in each, and the frames that are acknowledged.
 ghost use Rattle.std.specs.Prelude.{◌≡◌, ◌+◌, ◌++◌, [], ◌∷◌, false, OnOk, sum, take};
 ghost use Rattle.gb_trace.specs.Kept.{AreCovered, ArePlaces, HasNoFrames, IsFront};
 
@@ -6,12 +6,12 @@ use gb_link::ack::covers;
 use gb_types::OutOfMemory;
 use std::alloc::Global;
 
-/// A frame that a node packed for another node. Frames are numbered from 1 on, and so are the places of the group's items.
+/// A frame that a node packed for another node. Frames are numbered from 1, and so are the places of the group's items.
 #[derive(Clone, Copy)]
 pub(crate) struct Frame {
     /// The frame's number.
     pub number: u64,
-    /// Whether it is acknowledged already.
+    /// True if it is acknowledged already.
     pub acked: bool,
     /// The place of the first of the group's items in it, or of the next item if it has none.
     pub place: u64,
@@ -28,9 +28,9 @@ pub(crate) struct Frames {
     pub places: Vec<u64>,
     /// The number of the group's items in all frames.
     pub total: u64,
-    /// For each frame, whether it is acknowledged.
+    /// For each frame, true if it is acknowledged.
     pub acked: Vec<bool>,
-    /// The number of frames, from the first on, that are known to be acknowledged. Only the others are looked at again.
+    /// The number of frames, from the first on, that are known to be acknowledged. Only the others are checked again.
     pub front: usize,
 }
 
@@ -47,8 +47,7 @@ fn cover(acked: &mut Vec<bool>, base: u64, mask: u64, front: usize)
     }
 }
 
-/// Returns a number of frames, from the first on, that are marked: all up to the first that is not. The first `front` frames are
-/// marked.
+/// Returns the number of frames before the first one that is not marked. The first `front` frames are marked.
 fn front_of(acked: &[bool], front: usize) -> usize
     requires { IsFront acked.now front }
     ensures { IsFront acked.now result }
@@ -62,7 +61,7 @@ fn front_of(acked: &[bool], front: usize) -> usize
 }
 
 impl Frames {
-    /// Returns no frames.
+    /// Returns an empty list of frames.
     pub(crate) fn new(alloc: Global) -> Frames
         ensures { HasNoFrames result }
     {
@@ -93,7 +92,7 @@ impl Frames {
         Ok(())
     }
 
-    /// Takes in an acknowledgement.
+    /// Marks the frames that an acknowledgement with this base and mask covers.
     pub(crate) fn acknowledge(&mut self, base: u64, mask: u64)
         requires { IsFront self.old.acked.items self.old.front }
         ensures counts { self.new.counts.items ≡ self.old.counts.items }

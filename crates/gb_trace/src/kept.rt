@@ -1,4 +1,4 @@
-//! What is kept of a run for its projection on a group, so that no question about the past needs to look back at what happened.
+//! The state that is kept of a run for its projection onto a group, so that no question about the past needs a search of earlier steps.
 ghost use Rattle.std.specs.Prelude.{◌≡◌, ◌≤◌, ◌∷◌, ◌||◌, IfOk, OnOk, reverse};
 ghost use Rattle.std.specs.Option.{option_or};
 ghost use Rattle.gb_types.specs.declared.limits.TheConstants.{SILENCE_MIN as LEAST};
@@ -15,7 +15,7 @@ use gb_types::limits::NODES;
 use gb_types::{Addr, OutOfMemory, Spec, TenantRow};
 use std::alloc::Global;
 
-/// What is kept of what happened at a node.
+/// The kept state of a node.
 #[derive(Drop)]
 pub(crate) struct NodeKept {
     /// The row of the group's tenant, if it was added.
@@ -30,7 +30,7 @@ pub(crate) struct NodeKept {
     pub links: Vec<Link>,
 }
 
-/// Returns what is kept of a node where nothing has happened.
+/// Returns the kept state of a node without events.
 fn new_node(alloc: Global) -> Result<NodeKept, OutOfMemory>
     ensures { IfOk result IsNew }
 {
@@ -43,7 +43,7 @@ fn new_node(alloc: Global) -> Result<NodeKept, OutOfMemory>
     })
 }
 
-/// Returns what is kept of each node before anything has happened.
+/// Returns the kept state of each node before any event.
 pub(crate) fn new_nodes(alloc: Global) -> Result<Vec<NodeKept>, OutOfMemory>
     ensures { IfOk result (λ v. AreNew v.items) }
 {
@@ -61,7 +61,7 @@ fn either(first: bool, second: bool) -> bool
     first || second
 }
 
-/// Keeps the spec with which `node_step` makes the group, if it does.
+/// Sets `made` to the spec with which `node_step` makes the group, if it does.
 fn keep_made(addr: Addr, node_step: &NodeStep, made: &mut Option<Spec>)
     ensures { made.new ≡ option_or (made_by addr node_step.now.event node_step.now.answer) made.old }
 {
@@ -70,7 +70,7 @@ fn keep_made(addr: Addr, node_step: &NodeStep, made: &mut Option<Spec>)
     }
 }
 
-/// Takes in `node_step`, which happens at the moment. `node` is what is kept of the moment's node.
+/// Updates the kept state of the moment's node, `node`, by `node_step`, which happens at the moment.
 fn keep_at(
     moment: Moment<'_>,
     key: &HmacKey,
@@ -91,7 +91,7 @@ fn keep_at(
     Ok(())
 }
 
-/// Takes in `node_step`, which happens at the moment. `nodes` is what is kept of each node.
+/// Updates the kept state of each node, `nodes`, by `node_step`, which happens at the moment.
 pub(crate) fn keep(
     moment: Moment<'_>,
     key: &HmacKey,
@@ -106,7 +106,7 @@ pub(crate) fn keep(
     keep_at(moment, key, node_step, &mut nodes[moment.node.index()])
 }
 
-/// Returns what is kept of the moment's node. `nodes` is what is kept of each node.
+/// Returns the kept state of the moment's node. `nodes` is the kept state of each node.
 pub(crate) fn node_at<'a>(moment: Moment<'_>, nodes: &'a [NodeKept]) -> &'a NodeKept
     requires { Keeps moment.plan.now moment.addr (reverse moment.before.now) nodes.now }
     ensures { let m = moment.entry in KeepsNode m.plan.now m.addr m.node (past_in m.node m.before.now) result.now }

@@ -1,8 +1,8 @@
-//! Whole runs of a cluster, and the plain programs that read them: they compute what a run shows of one group, in time that grows
-//! with the events and their items. The programs never look into a node: they read events, answers and packets, as `run::run`
-//! returns them. Read `trace::Trace` first, then specs/Trace.antt. The programs of this crate are `observe`, `project` and
-//! `refused_for`. What they keep of the past in place of looking back at it is said in specs/Kept.antt.
-//! gb_alone's `alone` takes what `project` returns; `laws::fed_groups_are_seen_alone` says how they agree.
+//! Whole runs of a cluster, and the plain programs that read them: they compute what a run shows of one group, in time that grows with the
+//! events and their items. The programs never read a node's state: they read events, answers and packets, as `run::run` returns them. Read
+//! `trace::Trace` first, then specs/Trace.antt. The programs of this crate are `observe`, `project` and `refused_for`. specs/Kept.antt
+//! defines the state that they keep instead of searching the past. gb_alone's `alone` takes the result of `project`;
+//! `laws::fed_groups_are_seen_alone` says how they agree.
 #![tactic(auto)]
 
 mod asked;

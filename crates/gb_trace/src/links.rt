@@ -1,4 +1,4 @@
-//! What is kept of the links of a node, one for each other node.
+//! The kept state of the links of a node, one for each other node.
 ghost use Rattle.std.specs.Prelude.{◌≡◌, ◌≤◌, [], ◌∷◌, IfOk, OnOk};
 ghost use Rattle.gb_types.specs.declared.limits.TheConstants.{SILENCE_MIN as LEAST};
 ghost use Rattle.gb_node.specs.Past as past;
@@ -17,21 +17,21 @@ use gb_types::{NodeId, OutOfMemory};
 use std::alloc::Global;
 use std::collections::HashSet;
 
-/// What is kept of the link between a node and another node.
+/// The kept state of the link between a node and another node.
 #[derive(Drop)]
 pub(crate) struct Link {
     /// The frames that were packed for the other node.
     pub frames: Frames,
     /// The numbers of the frames that came from it, and 0 if a packet without a frame came.
     pub came: HashSet<u64>,
-    /// For how many ticks in a row it was not heard.
+    /// The number of ticks in a row in which it was not heard.
     pub unheard: u64,
     /// True if it was silent for too long at some moment.
     pub silent: bool,
 }
 
 impl Link {
-    /// Returns the link before anything has happened.
+    /// Returns the link's state before any event.
     fn new(alloc: Global) -> Link
         ensures { IsBare result }
     {
@@ -43,7 +43,7 @@ impl Link {
         }
     }
 
-    /// Takes in a packet that came from the other node.
+    /// Updates the link by a packet that came from the other node.
     fn take(&mut self, packet: &PacketView<'_>) -> Result<(), OutOfMemory>
         requires { IsFront self.old.frames.acked.items self.old.frames.front }
         ensures { OnOk result (Takes packet.now self.old self.new) }
@@ -55,7 +55,7 @@ impl Link {
         Ok(())
     }
 
-    /// Takes in a tick. `Err` also if more than 2^64 - 1 of them followed one another.
+    /// Updates the link by a tick. `Err` also if more than 2^64 - 1 ticks followed one another.
     fn tick(&mut self, silence: u16) -> Result<(), OutOfMemory>
         ensures { OnOk result (Ticks silence self.old self.new) }
     {
@@ -68,7 +68,7 @@ impl Link {
     }
 }
 
-/// Returns a link for each node, before anything has happened.
+/// Returns the state of a link for each node, before any event.
 pub(crate) fn new_links(alloc: Global) -> Result<Vec<Link>, OutOfMemory>
     ensures { IfOk result (λ v. AreBare v.items) }
 {
@@ -79,7 +79,7 @@ pub(crate) fn new_links(alloc: Global) -> Result<Vec<Link>, OutOfMemory>
     Ok(links)
 }
 
-/// Takes in a tick at each link.
+/// Updates each link by a tick.
 fn tick_all(silence: u16, links: &mut Vec<Link>) -> Result<(), OutOfMemory>
     ensures { OnOk result (TickAll silence links.old.items links.new.items) }
 {
@@ -89,8 +89,8 @@ fn tick_all(silence: u16, links: &mut Vec<Link>) -> Result<(), OutOfMemory>
     Ok(())
 }
 
-/// Takes in `node_step`, which happens at the moment and took no packet and is no tick: if it packed a frame, that is added. `links` is
-/// what is kept of the links of the moment's node.
+/// Updates the links by `node_step`, which happens at the moment, took no packet and is no tick: if it packed a frame, the frame is added.
+/// `links` is the kept state of the links of the moment's node.
 fn keep_packed(
     moment: Moment<'_>,
     key: &HmacKey,
@@ -116,7 +116,7 @@ fn keep_packed(
     }
 }
 
-/// Takes in `node_step`, which happens at the moment. `links` is what is kept of the links of the moment's node.
+/// Updates the links by `node_step`, which happens at the moment. `links` is the kept state of the links of the moment's node.
 pub(crate) fn keep_links(
     moment: Moment<'_>,
     key: &HmacKey,
@@ -137,7 +137,7 @@ pub(crate) fn keep_links(
     keep_packed(moment, key, node_step, links)
 }
 
-/// Returns what is kept of the link to the node `b`. `links` is what is kept of the links of the moment's node.
+/// Returns the kept state of the link to the node `b`. `links` is the kept state of the links of the moment's node.
 pub(crate) fn link_at<'a>(moment: Moment<'_>, links: &'a [Link], b: NodeId) -> &'a Link
     requires { KeepsLinks moment.plan.now moment.addr (past_in moment.node moment.before.now) links.now }
     ensures { let m = moment.entry in KeepsLink m.plan.now m.addr b.number (past_in m.node m.before.now) result.now }

@@ -1,4 +1,4 @@
-//! Moments of a run, as they concern one group.
+//! Moments of a run, for one group.
 use gb_node::NodeStep;
 use gb_types::{Addr, NodeId, Plan};
 
@@ -9,8 +9,8 @@ pub(crate) struct Moment<'a> {
     pub plan: &'a Plan,
     /// The group.
     pub addr: Addr,
-    /// What happened before the moment, in order: the newest stands last.
+    /// The steps before the moment, in order: the newest is last.
     pub before: &'a [NodeStep],
-    /// The node at which something happens at the moment, or another node at which the run is seen then.
+    /// The node of the step at the moment, or another node at which the run is seen then.
     pub node: NodeId,
 }

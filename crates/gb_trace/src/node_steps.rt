@@ -1,4 +1,4 @@
-//! What happened at nodes, read from events, answers and packets.
+//! The steps of nodes, read from events, answers and packets.
 ghost use Rattle.std.specs.Prelude.{◌≡◌, ◌++◌, nat_eq, IfOk, OnOk, Some, None, MatchOption};
 ghost use Rattle.gb_cluster.specs.Common.{packet_numbered};
 ghost use Rattle.gb_trace.specs.Trace.{sent_as, own_answer, did_with, did_in, all_did};
@@ -33,7 +33,7 @@ fn copied(alloc: Global, text: &PacketText) -> Result<PacketText, OutOfMemory>
     Ok(PacketText::from(bytes))
 }
 
-/// Returns what the node sent, with the packet's text in place of its number. `Ok(None)` if no packet has the number.
+/// Returns the result of a send, with the packet's text instead of its number. `Ok(None)` if no packet has the number.
 fn sent_of(alloc: Global, packets: &[Posted], sending: Sending) -> Result<Option<Sent>, OutOfMemory>
     ensures { IfOk result (λ s. s ≡ sent_as packets.now sending) }
 {
@@ -47,7 +47,7 @@ fn sent_of(alloc: Global, packets: &[Posted], sending: Sending) -> Result<Option
     }
 }
 
-/// Returns the node's answer that says what it sent, or `None` if that is not known.
+/// Returns the node's answer for the result of a send, or `None` if the result is not known.
 fn sent_answer(sent: Option<Sent>) -> Option<NodeAnswer>
     ensures { MatchOption result (sent ≡ None) (λ a. MatchOption sent (result ≡ None) (λ s. a ≡ NodeAnswer.Sent s)) }
 {
@@ -86,7 +86,7 @@ fn answer_of(
     }
 }
 
-/// Adds what happened at the node, if the node answered.
+/// Adds the step of the node, if the node answered.
 fn add(
     alloc: Global,
     packets: &[Posted],
@@ -107,7 +107,7 @@ fn add(
     Ok(())
 }
 
-/// Adds what happened at a node by the event with its answer, if anything did.
+/// Adds the step of a node by the event and its answer, if there is one.
 fn add_node_step(
     alloc: Global,
     packets: &[Posted],
@@ -132,8 +132,7 @@ fn add_node_step(
     }
 }
 
-/// Returns all that happened at nodes, in order. If there are more events than answers, or more answers than events, the surplus
-/// is ignored.
+/// Returns all steps of nodes, in order. If there are more events than answers, or more answers than events, the surplus is ignored.
 #[tactic(auto, using(crate::proofs::NodeStepLemmas::all_node_steps, crate::proofs::NodeStepLemmas::no_node_steps))]
 pub(crate) fn node_steps_of(
     alloc: Global,

@@ -1,4 +1,4 @@
-//! The notices in the projection of a run on a group.
+//! The notices in the projection of a run onto a group.
 ghost use Rattle.std.specs.Prelude.{◌≡◌, ◌++◌, ◌&&◌, [], ◌∷◌, OnOk, if◌then◌else◌};
 ghost use Rattle.std.specs.FinSet as set;
 ghost use Rattle.std.specs.Option.{option_copied};
@@ -32,7 +32,7 @@ fn add_notice(
     Ok(())
 }
 
-/// Adds the notices of the members that are noticed at the moment's node. `links` is what is kept of the links of that node.
+/// Adds the notices of the members that are noticed at the moment's node. `links` is the kept state of the links of that node.
 pub(crate) fn add_noticed(
     moment: Moment<'_>,
     spec: &Spec,

@@ -1,4 +1,4 @@
-//! What is seen of a group in a run, computed plainly from its meaning.
+//! The observation of a group in a run, computed plainly from its definition.
 ghost use Rattle.std.specs.Prelude.{◌≡◌, ◌≤◌, ◌++◌, reverse, IfOk, OnOk, map};
 ghost use Rattle.std.specs.Option.{option_copied};
 ghost use Rattle.gb_types.specs.declared.limits.TheConstants.{NODES as MOST};
@@ -21,8 +21,8 @@ use gb_node::{NodeAnswer, NodeEvent, NodeStep};
 use gb_types::{Addr, Entries, NodeId, OutOfMemory, Plan, Reply, TenantRow};
 use std::alloc::Global;
 
-/// If `node_step` is a request of the group at the node `a`, adds a copy of its reply. `before` is what happened before, and `row` is
-/// the row of the group's tenant at the node by then.
+/// If `node_step` is a request of the group at the node `a`, adds a copy of its reply. `before` has the earlier steps, and `row` is the row
+/// of the group's tenant at the node by then.
 fn add_reply(
     alloc: Global,
     addr: Addr,
@@ -135,7 +135,7 @@ fn items_from(
     Ok(carried)
 }
 
-/// Returns what is seen of the group at the node.
+/// Returns the replies and the carried items of the group at the node.
 fn seen_at(
     alloc: Global,
     plan: &Plan,
@@ -153,7 +153,7 @@ fn seen_at(
     Ok(NodeSeen::new(replies, carried))
 }
 
-/// Returns what is seen of the group at each node.
+/// Returns the replies and the carried items of the group at each node.
 #[tactic(auto, using(gb_alone::proofs::ObservationLemmas::map_none))]
 fn seen_in(
     alloc: Global,
@@ -172,8 +172,8 @@ fn seen_in(
     Ok(Observation::from(seen))
 }
 
-/// Returns what is seen of the group in a run, at each node of the plan: the replies to its commands, and its items that are
-/// carried. If there are more events than answers, or more answers than events, the surplus is ignored.
+/// Returns the observation of the group in a run, at each node of the plan: the replies to its commands, and its items that are carried. If
+/// there are more events than answers, or more answers than events, the surplus is ignored.
 pub fn observe(
     alloc: Global,
     plan: &Plan,

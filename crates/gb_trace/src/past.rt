@@ -1,4 +1,4 @@
-//! Questions about what happened at a node, one thing at a time, and about its requests.
+//! Tests of the steps of a node, one step at a time, and of its requests.
 ghost use Rattle.std.specs.{Prelude.◌≡◌, Prelude.◌&&◌, Prelude.List, Option.option_copied};
 ghost use Rattle.gb_rules.specs.Common.{row_of};
 ghost use Rattle.gb_node.specs.Common.{added, tenants_in};
@@ -94,8 +94,8 @@ pub(crate) fn stops(node_step: &NodeStep) -> bool
     }
 }
 
-/// Returns true if `node_step`, which happens at the moment, is a request of the group, and the moment's node had stopped before. `node`
-/// is what is kept of that node.
+/// Returns true if `node_step`, which happens at the moment, is a request of the group, and the moment's node had stopped before. `node` is
+/// the kept state of that node.
 pub(crate) fn meets(moment: Moment<'_>, node: &NodeKept, node_step: &NodeStep) -> bool
     requires { KeepsNode moment.plan.now moment.addr moment.node (past_in moment.node moment.before.now) node.now }
     ensures { let m = moment.entry in result ≡ projected.is_met_by m.node m.addr (past_in m.node m.before.now) node_step.now.event node_step.now.answer }

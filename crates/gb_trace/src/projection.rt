@@ -1,4 +1,4 @@
-//! The projection of a run on one group, computed in one pass.
+//! The projection of a run onto one group, computed in one pass.
 ghost use Rattle.std.specs.Prelude.{◌≡◌, ◌≤◌, ◌++◌, reverse, IfOk, OnOk};
 ghost use Rattle.gb_types.specs.declared.limits.TheConstants.{SILENCE_MIN as LEAST};
 ghost use Rattle.gb_isolation.specs.Project.{gives};
@@ -21,7 +21,7 @@ use gb_node::{NodeAnswer, NodeEvent, NodeStep, PacketAnswer, Sent, Ticked};
 use gb_types::{Addr, OutOfMemory, Plan};
 use std::alloc::Global;
 
-/// Adds the group's steps from `node_step`, which happens at the moment. `nodes` is what is kept of each node.
+/// Adds the group's steps from `node_step`, which happens at the moment. `nodes` is the kept state of each node.
 fn of_node_step(
     alloc: Global,
     moment: Moment<'_>,
@@ -63,7 +63,7 @@ fn of_node_step(
     }
 }
 
-/// Returns the part of `node_steps` that concerns the group, as steps of the group.
+/// Returns the group's steps from `node_steps`, in order.
 fn of_node_steps(
     alloc: Global,
     plan: &Plan,
@@ -91,10 +91,9 @@ fn of_node_steps(
     Ok(steps)
 }
 
-/// Returns the projection of a run on the group: the steps of the group that the events, answers and packets show, in order. If
-/// there are more events than answers, or more answers than events, the surplus is ignored. `Err` also if more than 2^64 - 1
-/// items of the group are packed from one node for another, or more than 2^64 - 1 ticks follow one another, since there are no
-/// numbers for more.
+/// Returns the projection of a run onto the group: the steps of the group that the events, answers and packets show, in order. If there are
+/// more events than answers, or more answers than events, the surplus is ignored. `Err` also if more than 2^64 - 1 items of the group are
+/// packed from one node for another, or more than 2^64 - 1 ticks follow one another, since there are no numbers for more.
 pub fn project(
     alloc: Global,
     plan: &Plan,

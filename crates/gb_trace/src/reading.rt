@@ -14,7 +14,7 @@ use gb_types::limits::NODES;
 use gb_types::{Addr, Entries, Entry, NodeId, OutOfMemory, Payload};
 use std::alloc::Global;
 
-/// Returns the packet that `bytes` are, or `None` if they are no good packet.
+/// Returns the packet with the text `bytes`, or `None` if it is no good packet.
 pub(crate) fn read<'a>(key: &HmacKey, bytes: &'a [u8]) -> Option<PacketView<'a>>
     ensures { MatchOption result (past.read key.now bytes.now ≡ []) (λ c. past.read key.now bytes.now ≡ c ∷ []) }
 {

@@ -1,4 +1,4 @@
-//! Whether a group was refused memory in a run, computed in one pass, with no copy of the run.
+//! Computes if a group lacked memory in a run, in one pass, with no copy of the run.
 ghost use Rattle.std.specs.Prelude.{◌≡◌, false, true, None, List, slice_index_or};
 ghost use Rattle.std.specs.Option.{option_copied, option_or};
 ghost use Rattle.gb_types.specs.declared.node.NodeId.{NodeId as AnyNode};
@@ -32,7 +32,7 @@ fn row_in<'a>(a: NodeId, tenant: u16, event: &'a Event, answer: &Answer) -> Opti
     row_added(tenant, request, reply)
 }
 
-/// Keeps the tenant's row at the node of the event, if the event with its answer added it there and none was kept before.
+/// Records the tenant's row at the node of the event, if the event with its answer added it there and none was recorded before.
 fn keep_row(rows: &mut [Option<TenantRow>; NODES], tenant: u16, event: &Event, answer: &Answer)
     ensures { (a : AnyNode) → slice_index_or rows.new a.number None ≡ option_or (slice_index_or rows.old a.number None) (row_of tenant (rows_by a event.now answer.now)) }
 {
@@ -61,9 +61,8 @@ fn is_lacking(rows: &[Option<TenantRow>; NODES], addr: Addr, event: &Event, answ
     is_own_by(addr, *node, row, request)
 }
 
-/// Returns true if in the run a request of the group, or one that adds its tenant, was refused for lack of memory. If it returns
-/// false, the group is what it is alone. If there are more events than answers, or more answers than events, the surplus is
-/// ignored.
+/// Returns true if in the run a request of the group, or one that adds its tenant, was refused for lack of memory. If it returns false, the
+/// group is isolated in the run. If there are more events than answers, or more answers than events, the surplus is ignored.
 #[tactic(auto, using(crate::proofs::RefusedLemmas::refused_more, crate::proofs::RefusedLemmas::none_refused, crate::proofs::RefusedLemmas::unrefused_fed, crate::proofs::NodeStepLemmas::all_node_steps))]
 pub fn refused_for(trace: &Trace, events: &[Event], addr: Addr) -> bool
     ensures refused { result ≡ is_refused_for addr (run_of events.now trace.now.answers.items trace.now.packets.items) }

@@ -36,7 +36,7 @@ fn has_refusal(answers: &[Answer]) -> bool
     answers.iter().any(is_refused)
 }
 
-/// Returns true if the event is at a node with a number below `nodes`, or at no named node.
+/// Returns true if the event is at a node with a number below `nodes`, or names no node.
 fn is_placed(nodes: usize, event: &Event) -> bool
     ensures { IsTrue result ↔ IsPlaced nodes event.now }
 {
@@ -59,11 +59,10 @@ pub fn are_placed(nodes: usize, events: &[Event]) -> bool
     true
 }
 
-/// Runs a whole cluster: starts it with `plan` and returns its answers to `events`, one after the other, with the packets that
-/// were sent. In this run, read without its requests that were refused for lack of memory, each group is what it is alone; if
-/// `refused` is false, there were none. A request without the token that it needs is refused as `Denied`, or as `Stopped` at a node
-/// that has stopped. `Err` means that there was no memory to keep the run. A node that refuses for lack of memory is no error: that
-/// is an answer.
+/// Runs a whole cluster: starts it with `plan` and returns its answers to `events`, one after the other, with the packets that were sent.
+/// In this run, read without its requests that were refused for lack of memory, each group behaves as it does alone; if `refused` is false,
+/// there were none. A request without the token that it needs is refused as `Denied`, or as `Stopped` at a node that has stopped. `Err`
+/// means that there was no memory to keep the run. A node that refuses for lack of memory is no error: that is an answer.
 pub fn run(alloc: Global, plan: Plan, events: &[Event]) -> Result<Trace, OutOfMemory>
     requires plan { IsClusterPlan plan }
     requires placed { All (IsPlaced plan.nodes) events.now }

@@ -1,4 +1,4 @@
-//! For how many ticks nodes were silent.
+//! The number of ticks for which nodes were silent.
 ghost use Rattle.std.specs.Prelude.{◌≡◌, ◌||◌, [], ◌∷◌, nat_le, if◌then◌else◌};
 ghost use Rattle.gb_detect.specs.Silence.{Tick};
 ghost use Rattle.gb_node.specs.Past.{ticks as ticked_by};
@@ -31,7 +31,7 @@ pub(crate) fn is_silent(unheard: u64, silence: u16, before: bool) -> bool
     unheard >= u64::from(silence) || before
 }
 
-/// Returns true if the node `b` is noticed at the moment's node. `links` is what is kept of the links of that node.
+/// Returns true if the node `b` is noticed at the moment's node. `links` is the kept state of the links of that node.
 pub(crate) fn was_noticed(moment: Moment<'_>, links: &[Link], b: NodeId) -> bool
     requires { KeepsLinks moment.plan.now moment.addr (past_in moment.node moment.before.now) links.now }
     ensures { let m = moment.entry in result ≡ is_noticed_at m.plan.now m.node (past_in m.node m.before.now) b.number }

@@ -1,10 +1,10 @@
-//! Lists of the steps of a group, as they are put together.
+//! Lists of the steps of a group, built step by step.
 ghost use Rattle.std.specs.{Prelude.◌≡◌, Prelude.◌++◌, Prelude.OnOk, Option.option_to_list};
 
 use gb_alone::{GroupEvent, GroupStep};
 use gb_types::{NodeId, OutOfMemory};
 
-/// Returns the step of the group that `event` is at `node`.
+/// Returns the step of the group with `event` at `node`.
 pub(crate) fn at(node: NodeId, event: GroupEvent) -> GroupStep
     ensures { result ≡ record { node = node; event = event } }
 {

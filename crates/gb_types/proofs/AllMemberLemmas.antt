@@ -8,7 +8,7 @@ use Rattle.gb_types.proofs.BoolLemmas.{and_left, and_right}
 use Rattle.gb_types.proofs.CoverLemmas.{all_members, not_all_members}
 use Rattle.gb_types.proofs.RisingLemmas.{any-rising}
 
--- each number of a list that passes as a whole passes
+-- if all numbers of a list pass a test, each number of it passes
 each_passes : (p : ℕ → Bool) (ks : List ℕ) → list_all p ks ≡ true → (q : ℕ) → list_any (λ n. nat_eq n q) ks ≡ true → p q ≡ true
 each_passes p [] all q one = cc
 each_passes p (k ∷ ks) all q one =
@@ -17,7 +17,7 @@ each_passes p (k ∷ ks) all q one =
       | false ↦ λ _ h. each_passes p ks (and_right (p k) (list_all p ks) all) q h
     ] refl one
 
--- of a list that does not, one number fails
+-- if not all pass, one number of the list fails
 one_fails : (p : ℕ → Bool) (ks : List ℕ) → list_all p ks ≡ false → (q : ℕ) × (list_any (λ n. nat_eq n q) ks ≡ true) × (p q ≡ false)
 one_fails p [] some = cc
 one_fails p (k ∷ ks) some =
@@ -26,7 +26,7 @@ one_fails p (k ∷ ks) some =
       | false ↦ λ e _. (k, ap (λ b. b || list_any (λ n. nat_eq n k) ks) (eq-eqb k k refl), e)
     ] refl some
 
--- the members one after another, and rising
+-- a test on all members has the same result on their rising list
 pub all_rising : (s : fin.FinSet nat_cmp) → AreNodes s → (p : ℕ → Bool) → list_all p (fin.items s) ≡ list_all p (rising s)
 all_rising s nodes p =
     elim (list_all p (rising s)) as (λ b. list_all p (rising s) ≡ b → list_all p (fin.items s) ≡ b) [

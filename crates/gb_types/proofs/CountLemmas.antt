@@ -14,7 +14,7 @@ one_bit zero small = sym (ones-ones 0)
 one_bit (suc zero) small = sym (ones-ones 1)
 one_bit (suc (suc d)) small = absurd (omega arith)
 
--- of the lowest w bits
+-- the number of ones among the lowest w bits is the number of indices that pass
 counted : (n : ℕ) (p : ℕ → Bool) (w : ℕ) → ((i : ℕ) → p i ≡ nat_eq (bit_at n i) 1) → count_by p (below w) ≡ count_ones (n % 2 ^ w)
 counted n p zero h = omega (arith, ones-le 0 (n % 2 ^ 0) (mod-lt n (pow_pos 0)))
 counted n p (suc w) h =

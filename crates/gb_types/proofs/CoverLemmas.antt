@@ -27,11 +27,11 @@ from_all p (k ∷ ks) q all one =
       | false ↦ λ _ h. from_all p ks q (and_right (p k) _ all) h
     ] refl one
 
--- each member passes
+-- if each member passes a test, all do
 pub all_members : (p : ℕ → Bool) (s : fin.FinSet nat_cmp) → ((q : ℕ) → fin.contains s q ≡ true → p q ≡ true) → list_all p (fin.items s) ≡ true
 all_members p s f = all_in p (fin.items s) (λ q h. f q (fin.contains-items s q ∙ h))
 
--- one does not
+-- if one member fails a test, not all pass
 pub not_all_members : (p : ℕ → Bool) (s : fin.FinSet nat_cmp) (q : ℕ) → fin.contains s q ≡ true → p q ≡ false → list_all p (fin.items s) ≡ false
 not_all_members p s q h k =
     elim (list_all p (fin.items s)) as (λ b. list_all p (fin.items s) ≡ b → b ≡ false) [
@@ -46,7 +46,7 @@ kept_bit (suc x) y z xs ys zs h = let one : suc x ≡ 1 = omega arith in let e =
 covering_bit : (x y z : ℕ) → y < 2 → z < 2 → min x (max y z) ≡ x → nat_eq x 1 ≡ true → (nat_eq y 1 || nat_eq z 1) ≡ true
 covering_bit x y z ys zs h e = grind (arith, nat_tests)
 
--- the bits of the first word are all in one of the others
+-- the test on words: each bit of the first word is in one of the others
 pub covered_is : (a b c : ℕ) → a < 2 ^ 32 → b < 2 ^ 32 → c < 2 ^ 32
     → nat_eq (bit_and a (bit_or b c)) a ≡ list_all (λ p. fin.contains (of_bits b) p || fin.contains (of_bits c) p) (fin.items (of_bits a))
 covered_is a b c fa fb fc =
@@ -68,11 +68,11 @@ covered_is a b c fa fb fc =
       ] refl
     ] refl
 
--- a bit of the word from the bound on
+-- a bit of the word that is at the bound or above
 pub bit_beyond : (bits bound i : ℕ) → bit_at (bits / 2 ^ bound) i ≡ bit_at bits (bound + i)
 bit_beyond bits bound i = ap (λ n. n % 2) (shr-shr bits bound i)
 
--- no bit at the bound or above is 1
+-- the test on a word that no bit at the bound or above is 1
 pub below_is : (bits bound : ℕ) → bits < 2 ^ 32 → nat_eq (bits / 2 ^ bound) 0 ≡ list_all (λ p. nat_lt p bound) (fin.items (of_bits bits))
 below_is bits bound fits =
     let p : ℕ → Bool = λ p. nat_lt p bound in
@@ -102,7 +102,7 @@ below_is bits bound fits =
               absurd (omega arith)
         ]
 
--- the bound is above all nodes
+-- a bound of at least the number of nodes is above all nodes of a set
 pub all_below : (bits bound : ℕ) → NODES ≤ bound → list_all (λ p. nat_lt p bound) (fin.items (of_bits bits)) ≡ true
 all_below bits bound le = all_members (λ p. nat_lt p bound) (of_bits bits) (λ q h. let lt = in_range bits q h in lt-ltb q bound (omega arith))
 
@@ -110,7 +110,7 @@ or_same : (b : Bool) → (b || b) ≡ b
 or_same true = refl
 or_same false = refl
 
--- to be in one of two equal sets is to be in it
+-- to be a subset of the union of a set with itself is to be a subset of it
 pub subset_is : (s t : fin.FinSet nat_cmp) → list_all (λ p. fin.contains t p || fin.contains t p) (fin.items s) ≡ fin.is_subset s t
 subset_is s t =
     let p : ℕ → Bool = λ p. fin.contains t p || fin.contains t p in

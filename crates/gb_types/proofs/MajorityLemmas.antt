@@ -7,11 +7,11 @@ use Rattle.gb_types.specs.declared.limits.TheConstants.{NODES}
 use Rattle.gb_types.specs.Places.{below, common, has_majority}
 use Rattle.gb_types.proofs.BoolLemmas.{and_left, and_right}
 
--- one more element
+-- a count over a list with one more element
 count_cons : (p : ℕ → Bool) (x : ℕ) (xs : List ℕ) → count_by p (x ∷ xs) ≡ cond (p x) 1 0 + count_by p xs
 count_cons p x xs = sum_by-cons (λ y. cond {A = ℕ} (p y) 1 0) x xs
 
--- a weaker test counts no fewer
+-- if a test is weaker, at least as many elements pass it
 count_more : (p q : ℕ → Bool) → ((x : ℕ) → p x ≡ true → q x ≡ true) → (xs : List ℕ) → count_by p xs ≤ count_by q xs
 count_more p q weaker [] = omega arith
 count_more p q weaker (x ∷ xs) =
@@ -23,7 +23,7 @@ count_more p q weaker (x ∷ xs) =
     go false true f le a b = omega (arith, le, a, b)
     go false false f le a b = omega (arith, le, a, b)
 
--- where more than half pass a test, more than half pass a test that is weaker for members
+-- if more than half of the members pass a test, more than half pass a weaker one
 pub majority_more : (is_member p q : ℕ → Bool) → ((x : ℕ) → is_member x ≡ true → p x ≡ true → q x ≡ true) → has_majority is_member p ≡ true → has_majority is_member q ≡ true
 majority_more is_member p q weaker most =
     let more = count_more (λ x. is_member x && p x) (λ x. is_member x && q x) (λ x h. both (is_member x) (q x) (and_left (is_member x) (p x) h) (weaker x (and_left (is_member x) (p x) h) (and_right (is_member x) (p x) h))) (below NODES) in
@@ -33,7 +33,7 @@ majority_more is_member p q weaker most =
     both : (b c : Bool) → b ≡ true → c ≡ true → (b && c) ≡ true
     both b c h k = cc
 
--- two parts of a list that together outnumber it share an element
+-- two parts of a list that have together more elements than it share an element
 shared : (a p q : ℕ → Bool) (xs : List ℕ) → count_by a xs < count_by (λ x. a x && p x) xs + count_by (λ x. a x && q x) xs → (x : ℕ) × (a x ≡ true) × (p x ≡ true) × (q x ≡ true)
 shared a p q [] few = absurd (omega (arith, few))
 shared a p q (x ∷ xs) few =
@@ -68,7 +68,7 @@ and_itself : (b : Bool) → (b && b) ≡ b
 and_itself true = refl
 and_itself false = refl
 
--- the members counted as those that stand in a set of members twice
+-- the count of a set's members among the holders, compared with half of the members
 pub majority_is : (members holders : fin.FinSet nat_cmp) → nat_lt (common members members / 2) (common members holders) ≡ has_majority (fin.contains members) (fin.contains holders)
 majority_is members holders =
     ap (λ n. nat_lt (n / 2) (common members holders)) (λ i. count_by (λ p. and_itself (fin.contains members p) i) (below NODES))
@@ -77,7 +77,7 @@ majority_is members holders =
     halved : (n k : ℕ) → nat_lt (n / 2) k ≡ nat_lt n (2 * k)
     halved n k = grind (arith, nat_tests)
 
--- a number stands among the members of a set
+-- a number is in the list of a set's members if and only if it is in the set
 pub listed : (s : fin.FinSet nat_cmp) (p : ℕ) → list_any (λ q. nat_eq q p) (fin.items s) ≡ fin.contains s p
 listed s p = same (fin.items s) ∙ sym (fin.contains-items s p)
   where

@@ -10,7 +10,7 @@ use Rattle.gb_types.proofs.PlaceLemmas.{at_bit}
 use Rattle.gb_types.proofs.CoverLemmas.{bit_beyond}
 use Rattle.gb_types.proofs.RisingLemmas.{rising_from-step, rising_from-end, rising_from-skip}
 
--- the bit k places above the number
+-- the bit at an index k above the number says whether that node is in the set
 bit_on : (bits number k q d : ℕ) → bits < 2 ^ 32 → number + k ≡ q → bit_at (bits / 2 ^ number) k ≡ d → fin.contains (of_bits bits) q ≡ nat_eq d 1
 bit_on bits number k q d fits at is = at_bit bits q fits ∙ (ap (λ n. nat_eq (bit_at bits n) 1) (sym at) ∙ ap (λ n. nat_eq n 1) (sym (bit_beyond bits number k) ∙ is))
 
@@ -21,7 +21,7 @@ none_left bits number fits none lt =
     (λ q from to. let at : number + (q - number) ≡ q = omega arith in bit_on bits number (q - number) q 0 fits at (ap (λ n. bit_at n (q - number)) none ∙ bit_at-zero (q - number)))
     ∙ rising_from-end (of_bits bits) (number + (NODES - number)) (omega arith)
 
--- how many bits from the number on come before the first 1
+-- the number of zero bits from the number on, before the first 1
 abbrev pub before : ℕ → ℕ → ℕ
 before bits number = trailing_zeros w32 (bits / 2 ^ number)
 

@@ -23,7 +23,7 @@ contains-of_bits bits q = kept NODES (λ i. nat_eq (bit_at bits i) 1) q
 pub in_range : (bits q : ℕ) → fin.contains (of_bits bits) q ≡ true → q < NODES
 in_range bits q h = let e : (nat_lt q NODES && nat_eq (bit_at bits q) 1) ≡ true = sym (contains-of_bits bits q) ∙ h in grind (arith, nat_tests, e)
 
--- a word of 32 bits has none above those of the nodes
+-- a word of 32 bits has no bit above those of the nodes
 pub at_bit : (bits q : ℕ) → bits < 2 ^ 32 → fin.contains (of_bits bits) q ≡ nat_eq (bit_at bits q) 1
 at_bit bits q fits =
     contains-of_bits bits q
@@ -34,7 +34,7 @@ at_bit bits q fits =
           ap (λ b. b && nat_eq (bit_at bits q) 1) beyond ∙ ap (λ d. nat_eq d 1) (sym (bit_at_above bits 32 q fits le))
     ]
 
--- a bit that is not 1
+-- a bit that is not 1 is 0
 pub zero_bit : (d : ℕ) → d < 2 → nat_eq d 1 ≡ false → d ≡ 0
 zero_bit d small out = grind (arith, nat_tests)
 

@@ -6,15 +6,15 @@ use Rattle.std.proofs.{lemmas.Bool.cases_eq, lemmas.Bool.cases_lt, lemmas.Bool.D
 use Rattle.gb_types.specs.declared.limits.TheConstants.{NODES}
 use Rattle.gb_types.specs.Rising.{rising, rising_from, AreNodes}
 
--- the numbers from low on, of k, that pass
+-- those of the k numbers from low on that pass the test
 abbrev pub passing : (ℕ → Bool) → ℕ → ℕ → List ℕ
 passing p low k = filter p (range_with_len low k)
 
--- no number passes
+-- no number from low to below high passes
 pub record NonePasses (p : ℕ → Bool) (low high : ℕ) : Type 0 where
   pub fails : (q : ℕ) → low ≤ q → q < high → p q ≡ false
 
--- n is the first to pass
+-- n is the first of the k numbers from low on that passes
 pub record FirstPasses (p : ℕ → Bool) (low k n : ℕ) : Type 0 where
   pub least : low ≤ n
   pub most : n < low + k
@@ -28,7 +28,7 @@ one_lower p low high out above =
       fails = λ q le lt. elim (cases_eq q low) [ inl same ↦ ap p same ∙ out | inr other ↦ above.fails q (omega arith) lt ];
     }
 
--- a part of a range is empty, or begins with the first that passes
+-- the list of those that pass is empty, or begins with the first
 pub first_or_none : (p : ℕ → Bool) (low k : ℕ) → ((passing p low k ≡ []) × NonePasses p low (low + k)) ⊎ ((n : ℕ) × FirstPasses p low k n)
 first_or_none p low zero = inl (refl, record { fails = λ q le lt. absurd (omega arith) })
 first_or_none p low (suc k) =
@@ -58,12 +58,12 @@ first_or_none p low (suc k) =
       ]
     ] refl
 
--- where none passes the list is empty
+-- if none passes, the list is empty
 pub none_passing : (p : ℕ → Bool) (low k : ℕ) → ((q : ℕ) → low ≤ q → p q ≡ false) → passing p low k ≡ []
 none_passing p low zero f = refl
 none_passing p low (suc k) f = ap (λ b. cond b (low ∷ passing p (low + 1) k) (passing p (low + 1) k)) (f low (omega arith)) ∙ none_passing p (low + 1) k (λ q le. f q (omega arith))
 
--- one more passes, above the others
+-- the list with one more number that passes, above the others
 pub passing_push : (p r : ℕ → Bool) (n : ℕ) → ((q : ℕ) → q < n → r q ≡ p q) → r n ≡ true → ((q : ℕ) → n < q → r q ≡ false) → ((q : ℕ) → n ≤ q → p q ≡ false)
     → (low k : ℕ) → low ≤ n → n < low + k → passing r low k ≡ passing p low k ++ n ∷ []
 passing_push p r n same new above none low zero le lt = absurd (omega arith)
@@ -81,7 +81,7 @@ passing_push p r n same new above none low (suc k) le lt =
           ] refl
     ]
 
--- the nodes of a set from a number on
+-- the nodes of a set from a number on begin with that number, if the set has it
 pub rising_from-step : (s : fin.FinSet nat_cmp) (i : ℕ) → i < NODES → rising_from s i ≡ cond (fin.contains s i) (i ∷ rising_from s (i + 1)) (rising_from s (i + 1))
 unfolding rising_from
 rising_from-step s i lt = let e : NODES - i ≡ suc (NODES - (i + 1)) = omega arith in ap (passing (fin.contains s) i) e
@@ -136,7 +136,7 @@ listed p low (suc k) q le lt =
           elim (p low) as (λ b. list_any (λ n. nat_eq n q) (cond b (low ∷ passing p (low + 1) k) (passing p (low + 1) k)) ≡ p q) [ true ↦ ap (λ b. b || list_any (λ n. nat_eq n q) (passing p (low + 1) k)) apart ∙ ih | false ↦ ih ]
     ]
 
--- the numbers of a set of nodes are those that it contains
+-- the numbers in the list of a set of nodes are those that the set contains
 pub any-rising : (s : fin.FinSet nat_cmp) → AreNodes s → (q : ℕ) → list_any (λ n. nat_eq n q) (rising s) ≡ fin.contains s q
 unfolding rising
 any-rising s nodes q =

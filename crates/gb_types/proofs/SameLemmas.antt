@@ -4,11 +4,11 @@ use Rattle.std.proofs.{lemmas.Bool.eqb-true, lemmas.Bool.Decides.nat_tests, Math
 use Rattle.gb_types.specs.Message.{same}
 use Rattle.gb_types.proofs.BoolLemmas.{and_left, and_right}
 
--- nodes with one number are equal
+-- nodes with the same number are equal
 pub same_number : (a b : NodeId) → a.number ≡ b.number → a ≡ b
 same_number a b h = let p = to_path_p (λ i. h i < NODES) {a = a.below} {b = b.below} (le_prop _ _) in λ i. record { number = h i; below = p i }
 
--- the messages that the test calls the same are equal
+-- messages are equal if the test says so
 pub same-true : (a b : MsgId) → same a b ≡ true → a ≡ b
 same-true a b h = λ i. record { origin = same_number a.origin b.origin (eqb-true a.origin.number b.origin.number (and_left _ _ h)) i; seq = eqb-true a.seq b.seq (and_right _ _ h) i }
 

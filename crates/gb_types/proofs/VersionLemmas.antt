@@ -1,4 +1,4 @@
--- A version and the byte that stands for it.
+-- A version and its version byte.
 use Rattle.std.proofs.Common.{◌≡◌, ℕ, ◌≤◌, lit≤, true, false, cond, Some, None, refl, ap, ◌∙◌}
 use Rattle.std.specs.Prelude.{◌==◌}
 use Rattle.std.proofs.lemmas.Bool.{eqb-true}
@@ -6,13 +6,13 @@ use Rattle.gb_types.specs.Version.{limits_of, version_named}
 use Rattle.gb_types.specs.declared.{version.Version.Version, version.Version.TheVariants.One, version.Version.TheVariants.Two, version.Version.TheVariants.Three}
 use Rattle.gb_types.proofs.ReadLemmas.{some_same}
 
--- a version's byte stands for it
+-- the version byte of a version is read as that version
 pub named_by_byte : (v : Version) → version_named (limits_of v).byte ≡ Some v
 named_by_byte One = refl
 named_by_byte Two = refl
 named_by_byte Three = refl
 
--- a byte that stands for a version is that version's byte
+-- a byte that is read as a version is that version's byte
 pub byte_of_named : (byte : ℕ) (v : Version) → version_named byte ≡ Some v → byte ≡ (limits_of v).byte
 byte_of_named byte v e =
     elim (byte == 1) as (λ b. (byte == 1) ≡ b → cond b (Some One) (cond (byte == 2) (Some Two) (cond (byte == 3) (Some Three) None)) ≡ Some v → byte ≡ (limits_of v).byte) [
@@ -26,7 +26,7 @@ byte_of_named byte v e =
       ] refl f
     ] refl e
 
--- an item's header has its five fields that each version writes
+-- an item's header has at least the fields that each version writes
 pub header_least : (v : Version) → 9 ≤ (limits_of v).item_header
 header_least One = lit≤ tt
 header_least Two = lit≤ tt

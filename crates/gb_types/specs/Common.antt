@@ -1,4 +1,4 @@
--- The names of the library and of this crate that most files above cite, passed on from one place. Declares nothing.
+-- The names of the library and of this crate that most files above cite, gathered in one file. Declares nothing.
 pub use Rattle.std.proofs.Common.{All, BTreeMap, Bool, Bor, Err, Global, IfErr, IfNone, IfOk, IfSome, IsTrue, List, MatchOption, None, Ok, OnSome, Option, Result, Some, String, [], add-one, add-zero, add_assoc, add_comm, ap, append-nil, append_assoc, ap₂, arith, bit_and, bit_or, bit_xor, codes, cond, count_by, decimal, drop, drop-cons, drop_at, eq-eqb, eqb, eqb-true, false, filter, fold, get_or, get_or-set_other, get_or-set_same, if◌then◌else◌, inl, inr, is_some, length, length-append, length-drop, length-set, length-take, length-take-le, lit≤, ltb, map, max, min, nat_eq, nat_le, nat_lt, not, option_and_then, option_map, pos, position, refl, replicate, reverse, rules, set, slice_get, slice_index, slice_index_or, slice_set, string_bytes, subst, suc, sum_by, sym, take, take-add, take-take, take_at, tests, true, true≢false, unwrap_or, vec_capacity, vec_len, w64, zero, zero-add, zip, ℕ, ℤ, ◌%◌, ◌&&◌, ◌*◌, ◌++◌, ◌+◌, ◌-◌, ◌/◌, ◌<◌, ◌==◌, ◌^◌, ◌||◌, ◌↔◌, ◌∙◌, ◌∷◌, ◌≡◌, ◌≢◌, ◌≤◌, ◌⊎◌}
 pub use Rattle.std.specs.Prelude.{AllPairs, Contains, IsErrAnd, IsSome, MatchBool, OnErr, OnOk, Vec, bytes_eq, find, is_none, is_ok, option_copied, slice_range, sum, swap_remove}
 pub use Rattle.std.proofs.lemmas.List.{append_cancel_left, drop-append-le, drop-drop, drop-map, drop-replicate, drop-set-lt, drop-take, drop_all, drop_more, ext_get_or, flat_map_more, get_or-append-add, get_or-append_right, get_or-drop, get_or-replicate, get_or-take, get_or_append_left, get_or_default, get_or_past, length-map, length-replicate, length_push, map-append, map-set, nil_from_length, replicate_more, reverse-append, reverse-reverse, same_lists, set-get_or, set-set, set_past, take-append-drop, take-append-le, take-map, take_all, take_more, take_more_set, take_rest}

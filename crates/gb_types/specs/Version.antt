@@ -1,19 +1,19 @@
--- The versions of the packet text, and what each allows.
+-- The versions of the packet text, and the limits of each.
 use Rattle.std.specs.Prelude.{ℕ, ◌==◌, ◌≤◌, List, Option, Some, None, slice_index_or, if◌then◌else◌}
 use Rattle.std.proofs.Common.{lit≤}
 use Rattle.gb_types.specs.declared.{limits.TheConstants.NODES, limits.TheConstants.PAYLOAD, limits.TheConstants.PACKET, plan.Bounds.Bounds, plan.Plan.Plan, version.Version.Version, version.VersionLimits.VersionLimits, version.Version.TheVariants.One, version.Version.TheVariants.Two, version.Version.TheVariants.Three}
 
--- what a version allows: the byte that stands for it, nodes, bytes of a payload, bytes of a packet, bytes of an item before its payload
+-- the limits of a version: its version byte, the number of nodes, bytes of a payload, bytes of a packet, bytes of an item before its payload
 abbrev pub limits_of : Version → VersionLimits
 limits_of One = record { byte = 1; nodes = 16; payload = 1024; packet = 8192; item_header = 9 }
 limits_of Two = record { byte = 2; nodes = 32; payload = 4096; packet = 16384; item_header = 9 }
 limits_of Three = record { byte = 3; nodes = 32; payload = 4096; packet = 16384; item_header = 13 }
 
--- the version that a byte stands for; None if it stands for none
+-- the version that has this version byte, or None
 abbrev pub version_named : ℕ → Option Version
 version_named byte = if byte == 1 then Some One else (if byte == 2 then Some Two else (if byte == 3 then Some Three else None))
 
--- the version that a node sends, where each node of a cluster sends its own
+-- the version that a node sends, in a cluster in which each node sends a version of its own
 abbrev pub version_at : List Version → ℕ → Version
 version_at versions a = slice_index_or versions a One
 

@@ -8,7 +8,7 @@ use std::hash::{Hash, Hasher};
 /// A tenant, by its number: 1 to 65,535.
 pub type TenantId = u16;
 
-/// The address of a group: its tenant, its number among the tenant's groups, and its generation. The groups that follow one another
+/// The address of a group: its tenant, its number among the tenant's groups, and its generation. The groups that are made one after another
 /// under one tenant and number are its generations.
 #[derive(Clone, Copy, PartialEq, Eq)]
 pub struct Addr {
@@ -18,7 +18,7 @@ pub struct Addr {
     pub generation: u32,
 }
 
-/// The numbers are hashed as one: an address is looked up for each request and each item of a packet.
+/// The numbers are hashed as one number, because an address is looked up for each request and each item of a packet.
 impl Hash for Addr {
     ghost hash_input = { λ a. fed.u64 (a.tenant * 281474976710656 + a.group * 4294967296 + a.generation) };
 

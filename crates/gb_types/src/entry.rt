@@ -20,7 +20,7 @@ pub struct Entry {
 impl Entry {
     ghost use Rattle.gb_types.specs.Entry.{message_of};
 
-    /// Returns the name of the entry's message: its origin and its number.
+    /// Returns the identity of the entry's message: its origin and its number.
     pub fn message(&self) -> MsgId
         ensures { result ≡ message_of self.now }
     {
@@ -30,7 +30,7 @@ impl Entry {
         }
     }
 
-    /// Returns a copy of the entry. `Err` if there is no memory for its payload.
+    /// Returns a copy of the entry. Returns `Err` if there is no memory for its payload.
     pub fn duplicate(&self, alloc: Global) -> Result<Entry, OutOfMemory>
         ensures { IfOk result (λ e. e ≡ self.now) }
     {
@@ -48,7 +48,7 @@ pub struct Entries {
     items: Vec<Entry>,
 }
 
-// Not derived: what is derived is proved anew in each crate that ends one.
+// Not derived, because a derived `Drop` is proved anew in each crate that drops one.
 impl Drop for Entries {
     fn drop(self) {
         let Entries { items: _ } = self;
@@ -88,14 +88,14 @@ impl Entries {
         self.items.is_empty()
     }
 
-    /// Returns the entries, in order.
+    /// Returns the entries as a slice, in order.
     pub fn as_slice(&self) -> &[Entry]
         ensures { result.now ≡ self.now }
     {
         self.items.as_slice()
     }
 
-    /// Adds an entry at the end of this list. `Err` if there is no memory; then the list is as it was, and `entry` is dropped.
+    /// Adds an entry at the end of this list. Returns `Err` if there is no memory; then the list is as it was, and `entry` is dropped.
     pub fn push(&mut self, entry: Entry) -> Result<(), OutOfMemory>
         ensures ok { OnOk result (self.new ≡ self.old ++ entry ∷ []) }
         ensures err { OnErr result (self.new ≡ self.old) }
@@ -107,7 +107,7 @@ impl Entries {
 }
 
 impl Entries {
-    /// Returns a list with a copy of each of these entries, in their order. `Err` if there is no memory.
+    /// Returns a list with a copy of each of these entries, in their order. Returns `Err` if there is no memory.
     pub fn from_slice(alloc: Global, entries: &[Entry]) -> Result<Entries, OutOfMemory>
         ensures { IfOk result (λ e. e ≡ entries.now) }
     {

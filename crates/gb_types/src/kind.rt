@@ -8,18 +8,18 @@ pub struct Kind {
     pub order: Order,
 }
 
-/// A module of broadcast: it says which messages a member sends on, and when it delivers one. The numbers are those of chapter 3.
+/// A module of broadcast. It determines which messages a member sends on, and when it delivers one. The numbers are those of chapter 3.
 #[derive(Clone, Copy, PartialEq, Eq)]
 pub enum Module {
     /// Best-effort broadcast (Module 3.1; Algorithm 3.1, Basic Broadcast): a message is delivered once it came from its origin.
     BestEffort,
-    /// Reliable broadcast (Module 3.2; Algorithm 3.2, Lazy Reliable Broadcast): a message is relayed once its origin is noticed to
-    /// have crashed.
+    /// Reliable broadcast (Module 3.2; Algorithm 3.2, Lazy Reliable Broadcast): a message is relayed once its origin is noticed as
+    /// crashed.
     Lazy,
     /// Reliable broadcast (Module 3.2; Algorithm 3.3, Eager Reliable Broadcast): every message is relayed.
     Eager,
     /// Uniform reliable broadcast (Module 3.3; Algorithm 3.4, All-Ack Uniform Reliable Broadcast): a message is delivered once
-    /// every member not noticed holds it.
+    /// every member that is not noticed holds it.
     AllAck,
     /// Uniform reliable broadcast (Module 3.3; Algorithm 3.5, Majority-Ack Uniform Reliable Broadcast): a message is delivered once
     /// more than half of the members hold it.

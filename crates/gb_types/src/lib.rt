@@ -1,5 +1,5 @@
-//! The types that every crate shares: limits, nodes, addresses, kinds, requests and replies. There is no state and no rule here.
-//! gb_spelling has the words for them. Read `request::Request` and `reply::Reply` first.
+//! The types that every crate shares: limits, nodes, addresses, kinds, requests and replies. This crate has no state and no rule.
+//! gb_spelling has the words for these types. Read `request::Request` and `reply::Reply` first.
 #![tactic(auto)]
 
 pub mod address;

@@ -1,36 +1,36 @@
-//! The limits of the service. Every table over nodes has `NODES` places.
+//! The limits of the service. Every table over nodes has `NODES` entries.
 
-/// The greatest number of nodes of a cluster, under any version of the packet text. Nodes are numbered from 0.
+/// The greatest number of nodes of a cluster, in any version of the packet text. Nodes are numbered from 0.
 pub const NODES: usize = 32;
 
 /// The greatest number of groups of a tenant.
 pub const GROUPS: u32 = 256;
 
-/// The greatest number of messages that a member says in a group, for life.
+/// The greatest number of messages that a member may ever say in a group.
 pub const MESSAGES: u32 = 1_024;
 
-/// The greatest number of payload bytes that a member says in a group, for life.
+/// The greatest number of payload bytes that a member may ever say in a group.
 pub const BYTES: u32 = 65_536;
 
-/// The greatest number of a member's own messages that are unfinished at once.
+/// The greatest number of a member's own messages that may be unfinished at once.
 pub const WINDOW: u32 = 1_024;
 
-/// The length of the longest payload in bytes, under any version of the packet text.
+/// The length of the longest payload in bytes, in any version of the packet text.
 pub const PAYLOAD: usize = 4_096;
 
 /// The length of the longest packet in bytes, of any version.
 pub const PACKET: usize = 16_384;
 
-/// The greatest number of frames of a link that are unacknowledged at once.
+/// The greatest number of frames of a link that may be unacknowledged at once.
 pub const LINK_WINDOW: u64 = 64;
 
-/// The last frame number of a link. After it the link has no room.
+/// The last frame number of a link. After that frame the link has no room.
 pub const LAST_FRAME: u64 = 18_446_744_073_709_551_614;
 
-/// The fewest ticks without a good packet after which a node is noticed.
+/// The least number of ticks without a good packet after which a node may be noticed.
 pub const SILENCE_MIN: u16 = 2;
 
-/// The most ticks without a good packet after which a node is noticed.
+/// The greatest number of ticks without a good packet after which a node may be noticed.
 pub const SILENCE_MAX: u16 = 1_000;
 
 /// The greatest number of entries that a fetch returns.

@@ -1,4 +1,4 @@
-//! The error that memory was refused.
+//! The error of a refused request for memory.
 ghost use Rattle.std.specs.Prelude.{◌≡◌, ◌++◌, OnOk, OnErr};
 
 use std::alloc::{AllocError, AllocFailed};
@@ -21,7 +21,7 @@ impl<T: Drop> From<AllocFailed<T>> for OutOfMemory {
     }
 }
 
-/// Appends the bytes to `out`. `Err` if there is no memory; then `out` is as it was.
+/// Appends the bytes to `out`. Returns `Err` if there is no memory; then `out` is as it was.
 #[inline(always)]
 pub fn put_bytes(out: &mut Vec<u8>, bytes: &[u8]) -> Result<(), OutOfMemory>
     ensures ok { OnOk result (out.new.items ≡ out.old.items ++ bytes.now) }

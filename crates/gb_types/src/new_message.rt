@@ -5,15 +5,15 @@ use crate::memory::OutOfMemory;
 use crate::payload::Payload;
 use std::alloc::Global;
 
-/// What a member says: a payload, and the number that the message must get, if the caller names one. A say that names its number is
-/// done once, however often it is sent. So a caller whose answer was lost may send it again.
+/// The message of a say: a payload, and the number that the message must get, if the caller names one. A say that names its number is done
+/// once, however often it is sent. So a caller that lost the answer may send it again.
 pub struct NewMessage {
     pub payload: Payload,
     /// The sequence number that the message must get, as the caller wrote it: 0 to 4,294,967,295.
     pub seq: Option<u32>,
 }
 
-// Not derived: what is derived is proved anew in each crate that ends one.
+// Not derived, because a derived `Drop` is proved anew in each crate that drops one.
 impl Drop for NewMessage {
     fn drop(self) {
         let NewMessage { payload: _, seq: _ } = self;
@@ -21,14 +21,14 @@ impl Drop for NewMessage {
 }
 
 impl NewMessage {
-    /// Returns a message with this payload, for which the caller names no number. It gets the next number of its origin.
+    /// Returns a message with this payload and without a number. It will get the next number of its origin.
     pub fn new(payload: Payload) -> NewMessage
         ensures { result ≡ record { payload = payload; seq = None } }
     {
         NewMessage { payload, seq: None }
     }
 
-    /// Returns a copy of the message. `Err` if there is no memory for its payload.
+    /// Returns a copy of the message. Returns `Err` if there is no memory for its payload.
     pub fn duplicate(&self, alloc: Global) -> Result<NewMessage, OutOfMemory>
         ensures { IfOk result (λ message. message ≡ self.now) }
     {

@@ -26,7 +26,7 @@ impl NodeId {
         NodeId { number }
     }
 
-    /// Returns the node with this number. `None` if the number is `NODES` or greater.
+    /// Returns the node with this number, or `None` if the number is `NODES` or greater.
     pub fn from_number(number: u8) -> Option<NodeId>
         ensures none { IsNone result ↔ (NODES ≤ number) }
         ensures some { IfSome result (λ n. n.number ≡ number) }
@@ -66,14 +66,14 @@ impl Model for NodeSet {
     ghost view = { λ a. of_bits a.bits };
 }
 
-/// Returns true if each node of `bits` is in `first` or in `second`.
+/// Returns true if each node of `bits` is in `first` or in `second`, and false otherwise.
 fn is_within(bits: u32, first: u32, second: u32) -> bool
     ensures { result ≡ list_all (λ p. set.contains (of_bits first) p || set.contains (of_bits second) p) (set.items (of_bits bits)) }
 {
     bits & (first | second) == bits
 }
 
-/// Returns true if each node of `bits` has a number below `bound`.
+/// Returns true if each node of `bits` has a number below `bound`, and false otherwise.
 fn is_all_below(bits: u32, bound: usize) -> bool
     ensures { result ≡ list_all (λ p. nat_lt p bound) (set.items (of_bits bits)) }
 {
@@ -126,7 +126,7 @@ impl NodeSet {
         is_within(self.bits, other.bits, other.bits)
     }
 
-    /// Returns the node of the set with the least number that is `number` or greater. `None` if there is no such node.
+    /// Returns the node of the set with the least number that is `number` or greater, or `None` if there is no such node.
     pub fn next_from(&self, number: usize) -> Option<NodeId>
         ensures { MatchOption result (rising_from self.now number ≡ [])
             (λ n. rising_from self.now number ≡ n.number ∷ rising_from self.now (n.number + 1)) }
@@ -147,7 +147,7 @@ impl NodeSet {
         ensures rising { result ≡ rising self.now }
         ensures whole { AreNodes self.now }
     {
-        // The proof reads the word.
+        // The proof needs a read of the word.
         let _ = &self.bits;
         Nodes::new(self)
     }
@@ -161,14 +161,14 @@ impl NodeSet {
         }
     }
 
-    /// Returns true if each node of this set is in `first` or in `second`.
+    /// Returns true if each node of this set is in `first` or in `second`, and false otherwise.
     pub fn is_covered(&self, first: &NodeSet, second: &NodeSet) -> bool
         ensures { result ≡ list_all (λ p. set.contains first.now p || set.contains second.now p) (set.items self.now) }
     {
         is_within(self.bits, first.bits, second.bits)
     }
 
-    /// Returns true if each node of this set has a number below `bound`.
+    /// Returns true if each node of this set has a number below `bound`, and false otherwise.
     pub fn is_below(&self, bound: usize) -> bool
         ensures { result ≡ list_all (λ p. nat_lt p bound) (set.items self.now) }
     {
@@ -182,14 +182,14 @@ impl NodeSet {
         count_both(self.bits, other.bits)
     }
 
-    /// Returns true if more than half of the nodes of `members` are in this set.
+    /// Returns true if more than half of the nodes of `members` are in this set, and false otherwise.
     pub fn has_majority_of(&self, members: &NodeSet) -> bool
         ensures { result ≡ has_majority (set.contains members.now) (set.contains self.now) }
     {
         members.count_in(self) > members.count_in(members) / 2
     }
 
-    /// Adds the node to this set. If it is in the set already, nothing changes.
+    /// Adds the node to this set. Changes nothing if it is in the set already.
     pub fn insert(&mut self, node: NodeId)
         ensures { self.new ≡ set.insert self.old node.number }
     {

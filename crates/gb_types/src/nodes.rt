@@ -5,7 +5,7 @@ ghost use Rattle.gb_types.specs.Rising.{rising};
 use crate::node::{NodeId, NodeSet};
 use std::marker::Model;
 
-/// The remaining nodes of a set, rising. Contracts see the list of their numbers.
+/// The nodes of a set that an iteration has not yet yielded, by rising numbers. Contracts see the list of their numbers.
 #[derive(Drop)]
 pub struct Nodes<'a> {
     set: &'a NodeSet,
@@ -23,7 +23,7 @@ impl<'a> Model for Nodes<'a> {
 }
 
 impl<'a> Nodes<'a> {
-    /// Returns the nodes of this set.
+    /// Returns an iterator over the nodes of this set.
     pub(crate) fn new(set: &'a NodeSet) -> Nodes<'a>
         ensures { result ≡ rising set.now }
     {

@@ -5,12 +5,12 @@ use crate::memory::OutOfMemory;
 use std::alloc::Global;
 use std::marker::Model;
 
-/// The greatest number of bytes that are kept in the payload itself. A longer payload has memory of its own.
+/// The greatest number of bytes that are stored in the payload's value. A longer payload has memory of its own.
 pub const INLINE: usize = 16;
 
 const _: () = prove!(INLINE == 16);
 
-/// Up to `INLINE` bytes, in place. Contracts see the list of the bytes.
+/// At most `INLINE` bytes, stored in the value. Contracts see the list of the bytes.
 #[derive(Drop)]
 struct Few {
     array: [u8; INLINE],
@@ -54,19 +54,19 @@ impl Few {
     }
 }
 
-/// Up to `INLINE` bytes in place, or any number of bytes in memory of their own.
+/// At most `INLINE` bytes stored in the value, or any number of bytes in memory of their own.
 #[derive(Drop)]
 enum Bytes {
     Few(Few),
     Many(Vec<u8>),
 }
 
-/// The bytes that a message carries, as they were given. Up to `INLINE` bytes take no memory. Contracts see the list of the bytes.
+/// The bytes that a message carries, unchanged. At most `INLINE` bytes take no memory. Contracts see the list of the bytes.
 pub struct Payload {
     bytes: Bytes,
 }
 
-// Not derived: what is derived is proved anew in each crate that ends one.
+// Not derived, because a derived `Drop` is proved anew in each crate that drops one.
 impl Drop for Payload {
     fn drop(self) {
         let Payload { bytes: _ } = self;
@@ -105,8 +105,8 @@ impl Payload {
         }
     }
 
-    /// Returns a payload with a copy of these bytes. Up to 16 bytes take no memory, so the call succeeds. `Err` if there is no memory
-    /// for more.
+    /// Returns a payload with a copy of these bytes. At most 16 bytes take no memory, so the call succeeds. Returns `Err` if there are more
+    /// and there is no memory for them.
     pub fn from_slice(alloc: Global, bytes: &[u8]) -> Result<Payload, OutOfMemory>
         ensures ok { IfOk result (λ p. p ≡ bytes.now) }
         ensures succeeds { length bytes.now ≤ INLINE → IsOk result }
@@ -143,8 +143,8 @@ impl Payload {
         }
     }
 
-    /// Returns the bytes of the payload and ends it. Bytes in memory of their own are not copied. `Err` if there is no memory to copy
-    /// the others, which are at most 16.
+    /// Returns the bytes of the payload, and consumes it. Bytes in memory of their own are not copied. Returns `Err` if there is no memory
+    /// to copy the others, which are at most 16.
     pub fn into_vec(self, alloc: Global) -> Result<Vec<u8>, OutOfMemory>
         ensures { IfOk result (λ v. v.items ≡ self) }
     {
@@ -155,7 +155,8 @@ impl Payload {
         }
     }
 
-    /// Returns a copy of the payload. Up to 16 bytes take no memory, so the call succeeds. `Err` if there is no memory for more.
+    /// Returns a copy of the payload. At most 16 bytes take no memory, so the call succeeds. Returns `Err` if there are more and there is
+    /// no memory for them.
     pub fn duplicate(&self, alloc: Global) -> Result<Payload, OutOfMemory>
         ensures ok { IfOk result (λ p. p ≡ self.now) }
         ensures succeeds { length self.now ≤ INLINE → IsOk result }

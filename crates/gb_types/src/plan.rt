@@ -1,4 +1,4 @@
-//! The plan of a cluster: what it is started with.
+//! The plan of a cluster: the parameters with which it is started.
 ghost use Rattle.std.specs.Prelude.{◌≡◌};
 ghost use Rattle.gb_types.specs.Version.{bounds_of, version_at};
 
@@ -6,19 +6,19 @@ use crate::limits::NODES;
 use crate::node::NodeId;
 use crate::version::Version;
 
-/// What a cluster is started with.
+/// The parameters with which a cluster is started.
 #[derive(Clone, Copy)]
 pub struct Plan {
-    /// How many nodes there are: 1 to 32, and no more than the version of each of them can name.
+    /// The number of nodes: 1 to 32, and not more than the version of each of them can name.
     pub nodes: u8,
-    /// The version of the packet text that each node sends, by its number. Those past the last node's are not read.
+    /// The version of the packet text that each node sends, by the node's number. Entries behind the last node's are not read.
     pub versions: [Version; NODES],
-    /// After how many ticks without a good packet a node is noticed: 2 to 1,000.
+    /// The number of ticks without a good packet after which a node is noticed: 2 to 1,000.
     pub silence: u16,
-    /// How many rooms the tenants of a node may reserve in all: 1,024 at most.
+    /// The number of rooms that the tenants of a node may reserve in all: at most 1,024.
     pub places: u16,
-    /// The most bytes of the items of a packet; no more than a packet of the sender's version has room for. Where the first item that
-    /// waits is longer than this, the packet may hold as many bytes of items as the longest message takes.
+    /// The greatest number of bytes of the items of a packet; not more than a packet of the sender's version has room for. If the first
+    /// item that waits is longer than this, the packet may hold as many bytes of items as the longest message takes.
     pub room: u16,
     /// The key of the packets between the nodes.
     pub cluster_key: [u8; 32],
@@ -26,7 +26,7 @@ pub struct Plan {
     pub admin_key: [u8; 32],
 }
 
-/// What a group reads of its cluster: the number of nodes, and the version that each of them sends.
+/// The part of a cluster's plan that groups read: the number of nodes, and the version that each of them sends.
 #[derive(Clone, Copy)]
 pub struct Bounds {
     pub nodes: u8,

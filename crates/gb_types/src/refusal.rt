@@ -1,4 +1,4 @@
-//! Why a request is refused.
+//! The reasons why a request is refused.
 use thiserror::Error;
 
 /// Why a request was refused. A refused request changes nothing.
@@ -16,7 +16,7 @@ pub enum Refusal {
     /// The set of members is empty, lacks this node, or names a node that is not in the cluster.
     #[error("bad members")]
     BadMembers,
-    /// The request exceeds what the tenant has or what the service allows, or asks for 0 where at least 1 is needed.
+    /// The request exceeds the tenant's limits or those of the service, or asks for 0 where at least 1 is needed.
     #[error("over the reserve")]
     OverReserve,
     /// The group is not in the phase that the request needs.
@@ -31,10 +31,10 @@ pub enum Refusal {
     /// The payload would exceed the bytes that the group allows this member.
     #[error("the budget of bytes is spent")]
     Bytes,
-    /// As many of the member's own messages are unfinished as the group allows.
+    /// The number of the member's own messages that are unfinished is the greatest that the group allows.
     #[error("the window is full")]
     Window,
-    /// The place is beyond the end of the log, too many entries are asked for, or a say names another number than the next.
+    /// The index is beyond the end of the log, too many entries are asked for, or a say names another number than the next.
     #[error("bad place")]
     BadPlace,
     /// The node has no place for another tenant or group.

@@ -11,14 +11,14 @@ use std::alloc::Global;
 #[derive(Drop)]
 pub enum Reply {
     Done,
-    /// The message was said, with this number among its origin's messages in the group.
+    /// The message was said and has this number among its origin's messages in the group.
     Said(u16),
     Log(Entries),
     Refused(Refusal),
 }
 
 impl Reply {
-    /// Returns a copy of the reply. Only a log takes memory. `Err` if there is none for it.
+    /// Returns a copy of the reply. Only a log takes memory. Returns `Err` if there is none for it.
     pub fn duplicate(&self, alloc: Global) -> Result<Reply, OutOfMemory>
         ensures ok { IfOk result (λ r. r ≡ self.now) }
         ensures err { OnErr result ((entries : List EntryValue) × (self.now ≡ Reply.Log entries)) }

@@ -11,15 +11,15 @@ pub struct Request {
     pub what: Action,
 }
 
-/// What a request asks of a node.
+/// The action that a request asks of a node.
 pub enum Action {
     /// Adds a tenant.
     AddTenant(TenantRow),
-    /// Does something in the group with this address.
+    /// Gives a command to the group with this address.
     Group(Addr, GroupCommand),
 }
 
-/// What a request asks of a group.
+/// The command that a request gives to a group.
 pub enum GroupCommand {
     /// Makes the group, in which nothing can be said yet.
     Make(Spec),
@@ -36,7 +36,7 @@ pub enum GroupCommand {
 }
 
 impl Request {
-    /// Returns a request for a command in the group with this address.
+    /// Returns a request with a command for the group with this address.
     pub fn of_group(token: [u8; 32], addr: Addr, command: GroupCommand) -> Request
         ensures { result ≡ record { token = token; what = Action.Group addr command } }
     {
@@ -47,7 +47,7 @@ impl Request {
     }
 }
 
-// These are not derived: what is derived is proved anew in each crate that ends one.
+// These are not derived, because a derived `Drop` is proved anew in each crate that drops one.
 impl Drop for Request {
     fn drop(self) {
         let Request { token: _, what: _ } = self;

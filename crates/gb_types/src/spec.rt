@@ -10,11 +10,11 @@ use crate::node::NodeSet;
 pub struct Spec {
     pub kind: Kind,
     pub members: NodeSet,
-    /// The number of messages that each member may say, for life.
+    /// The number of messages that each member may say in all.
     pub msgs: u32,
-    /// The number of payload bytes that each member may say, for life.
+    /// The number of payload bytes that each member may say in all.
     pub bytes: u32,
-    /// The number of own messages that a member may have unfinished at once.
+    /// The number of its own messages that a member may have unfinished at once.
     pub window: u32,
 }
 

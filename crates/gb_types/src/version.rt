@@ -1,4 +1,4 @@
-//! The versions of the packet text, and what each allows.
+//! The versions of the packet text, and the limits of each.
 ghost use Rattle.std.specs.Prelude.{◌≡◌, ◌≤◌};
 ghost use Rattle.gb_types.specs.Version.{limits_of, version_named, AreWithinGreatest};
 
@@ -9,7 +9,7 @@ pub enum Version {
     One,
     /// 32 nodes, payloads of 4,096 bytes, packets of 16,384 bytes.
     Two,
-    /// The limits of version 2. Each item names the generation of its group.
+    /// The limits of version 2. In addition, each item names the generation of its group.
     Three,
 }
 
@@ -24,13 +24,13 @@ pub struct VersionLimits {
     pub payload: usize,
     /// The length of the longest packet in bytes.
     pub packet: usize,
-    /// The bytes of an item before its payload: 9, and 4 more if the item names its generation.
+    /// The number of bytes of an item before its payload: 9, and 4 more if the item names its generation.
     pub item_header: usize,
 }
 
 impl Version {
-    /// Returns the limits of this version of the packet text: its byte, how many nodes, payload bytes and packet bytes it allows, and
-    /// the bytes of an item before its payload.
+    /// Returns the limits of this version of the packet text: its version byte, the number of nodes, the longest payload, the longest
+    /// packet, and the number of bytes of an item before its payload.
     pub fn limits(self) -> VersionLimits
         ensures value { result ≡ limits_of self }
         ensures greatest { AreWithinGreatest result }
@@ -61,7 +61,7 @@ impl Version {
         }
     }
 
-    /// Returns the version of the packet text that a packet's version byte, 1 to 3, stands for. `None` for any other byte.
+    /// Returns the version of the packet text that has this version byte, 1 to 3, or `None` for any other byte.
     pub fn from_byte(byte: u8) -> Option<Version>
         ensures { result ≡ version_named byte }
     {

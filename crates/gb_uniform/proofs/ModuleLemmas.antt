@@ -1,4 +1,4 @@
--- Relays by these rules are the modules.
+-- Relays with these rules are the modules.
 use Rattle.gb_types.specs.declared.kind.Module.TheVariants.{AllAck, Majority}
 use Rattle.gb_layer.proofs.RelayModuleLemmas.{IsModule, is_module}
 use Rattle.gb_uniform.specs.Rules.{all_ack_rules, majority_ack_rules}

@@ -5,8 +5,8 @@ ghost use Rattle.gb_uniform.specs.AllAckLemmas.{all_ack_more, all_ack_delivers_m
 use gb_layer::Rule;
 use gb_types::{MsgId, NodeId, NodeSet};
 
-/// The rule of all-ack uniform reliable broadcast (Cachin, Guerraoui, Rodrigues 2011, Algorithm 3.4): a message is broadcast as soon
-/// as it is here, and delivered once each member was noticed or holds it.
+/// The rule of all-ack uniform reliable broadcast (Cachin, Guerraoui, Rodrigues 2011, Algorithm 3.4). A message is broadcast as soon
+/// as it is at the node, and delivered once each member was noticed or holds it.
 #[derive(Clone, Copy, Drop)]
 pub struct AllAcked;
 

@@ -5,8 +5,8 @@ ghost use Rattle.gb_uniform.specs.MajorityAckLemmas.{majority_ack_more, majority
 use gb_layer::Rule;
 use gb_types::{MsgId, NodeId, NodeSet};
 
-/// The rule of majority-ack uniform reliable broadcast (Cachin, Guerraoui, Rodrigues 2011, Algorithm 3.5): a message is broadcast as
-/// soon as it is here, and delivered once more than half of the members hold it, whoever was noticed.
+/// The rule of majority-ack uniform reliable broadcast (Cachin, Guerraoui, Rodrigues 2011, Algorithm 3.5). A message is broadcast as
+/// soon as it is at the node, and delivered once more than half of the members hold it, whoever was noticed.
 #[derive(Clone, Copy, Drop)]
 pub struct MajorityAcked;
 

@@ -1,5 +1,5 @@
 //! The version of the programs, in one place.
 #![tactic(auto)]
 
-/// The version that each program names with `-V`; CHANGELOG.md says what it has.
+/// The version that each program prints for `-V`; CHANGELOG.md lists its changes.
 pub const VERSION: &str = "0.1.0";

@@ -1,5 +1,5 @@
-//! Serves a page, and the sessions of a node by WebSocket. Writes where it serves, and why it does not; why words are refused is told on
-//! standard error.
+//! Serves a page, and the sessions of a node by WebSocket. Writes the address that it serves, or the reason why it does not serve. The
+//! reason why words are refused is written to standard error.
 #![tactic(auto)]
 
 use gb_door::web_main::{tell, web_main};
@@ -9,7 +9,7 @@ use std::io;
 use std::io::{ErrorKind, Write};
 use std::process::ExitCode;
 
-// The words of the command line; none if they cannot be read although there is memory.
+// Returns the words of the command line, or none if they cannot be read although there is memory.
 fn words_of(rt: &HostRuntime, alloc: Global) -> Result<Vec<String>, AllocError> {
     match std::env::args(rt) {
         Ok(words) => words.collect(alloc),
@@ -20,7 +20,7 @@ fn words_of(rt: &HostRuntime, alloc: Global) -> Result<Vec<String>, AllocError> 
     }
 }
 
-// The same, borrowed.
+// Returns the same words, borrowed.
 fn texts_of(alloc: Global, words: &[String]) -> Result<Vec<&str>, AllocError> {
     let mut texts: Vec<&str> = Vec::new(alloc);
     for word in words {
@@ -29,13 +29,13 @@ fn texts_of(alloc: Global, words: &[String]) -> Result<Vec<&str>, AllocError> {
     Ok(texts)
 }
 
-// Tells that there is no memory for the words. The exit status.
+// Writes that there is no memory for the words. Returns the exit status.
 fn give_up(rt: &HostRuntime) -> ExitCode {
     let _ = tell(&mut io::writer(rt), "out of memory\n");
     ExitCode::from(1)
 }
 
-// Prints what was asked for. The exit status.
+// Writes the text that was asked for. Returns the exit status.
 fn show(rt: &HostRuntime, text: &str) -> ExitCode {
     if tell(&mut io::writer(rt), text) {
         ExitCode::from(0)
@@ -44,7 +44,7 @@ fn show(rt: &HostRuntime, text: &str) -> ExitCode {
     }
 }
 
-/// Status 0: all connections were served, or help was asked for; 1: a fault; 2: refused words.
+/// Ends with status 0 if all connections were served, or if help was asked for; 1 for a fault; 2 for refused words.
 fn main(rt: HostRuntime) -> ExitCode {
     let alloc = rt.alloc();
     let Ok(strings) = words_of(&rt, alloc) else {

@@ -1,4 +1,4 @@
-//! Worked words, and the requests and tokens that they ask for.
+//! Worked command lines of the client, and the requests and tokens that they ask for.
 use clap::ArgMatches;
 use gb_cap::Need;
 use gb_client::blame::blame;
@@ -23,7 +23,7 @@ static KEYS: &[u8] =
 
 static GIVEN: &[u8] = b"token 000000000000000000000000000000000000000000000000000000000000000A\n";
 
-// The secrets of a text that has no bad line.
+// Returns the secrets of a text that has no bad line.
 fn secrets(alloc: Global, text: &[u8]) -> Result<Secrets, ClientFault> {
     match read_secrets(alloc, text) {
         Ok(secrets) => Ok(secrets),
@@ -31,7 +31,7 @@ fn secrets(alloc: Global, text: &[u8]) -> Result<Secrets, ClientFault> {
     }
 }
 
-// The body of what a plan asks first, or the line of the token that it asks for.
+// Returns the body of the first request of a plan, or the line of the token that it asks for.
 fn told_of(alloc: Global, secrets: &Secrets, plan: &Plan<'_>) -> Result<Vec<u8>, ClientFault> {
     match &plan.task {
         Task::Token(need) => {
@@ -42,7 +42,7 @@ fn told_of(alloc: Global, secrets: &Secrets, plan: &Plan<'_>) -> Result<Vec<u8>,
     }
 }
 
-// The body of what is asked first.
+// Returns the body of the first request of an errand.
 fn body_of(alloc: Global, secrets: &Secrets, errand: &Errand<'_>) -> Result<Vec<u8>, ClientFault> {
     match errand {
         Errand::Ask(node, asked) => request_of(alloc, secrets, *node, asked),
@@ -66,7 +66,7 @@ fn body_of(alloc: Global, secrets: &Secrets, errand: &Errand<'_>) -> Result<Vec<
     }
 }
 
-// The body of what is asked of the last of some nodes.
+// Returns the body of the request to the last of some nodes.
 fn at_last(
     alloc: Global,
     secrets: &Secrets,
@@ -79,7 +79,7 @@ fn at_last(
     request_of(alloc, secrets, *node, asked)
 }
 
-// What is told of words that were read.
+// Returns what `told_of` returns for words that were read.
 fn told_by(
     alloc: Global,
     secrets: &Secrets,
@@ -91,7 +91,7 @@ fn told_by(
     }
 }
 
-// The body of what the words ask first, or the line of the token that they ask for.
+// Returns the body of the first request of the words, or the line of the token that they ask for.
 fn told(alloc: Global, secrets: &Secrets, words: &[&str]) -> Result<Vec<u8>, ClientFault> {
     match command(alloc)?.try_get_matches_from(words) {
         Ok(matches) => told_by(alloc, secrets, &matches),
@@ -101,7 +101,7 @@ fn told(alloc: Global, secrets: &Secrets, words: &[&str]) -> Result<Vec<u8>, Cli
 
 const FIRST_WORDS: &[&str] = &["gb_ctl", "--port", "42000", "--node", "2"];
 
-// The words of a line, behind those for node 2.
+// Returns the words of a line, behind those for node 2.
 fn line_words<'a>(alloc: Global, line: &'a str) -> Result<Vec<&'a str>, OutOfMemory> {
     let mut words: Vec<&str> = Vec::new(alloc);
     for word in FIRST_WORDS {
@@ -113,7 +113,7 @@ fn line_words<'a>(alloc: Global, line: &'a str) -> Result<Vec<&'a str>, OutOfMem
     Ok(words)
 }
 
-// What is told at node 2 for the words of a line; `!` and the exit status where that is a fault.
+// Returns what `told` returns at node 2 for the words of a line. For a fault, returns `!` and the exit status.
 fn line(alloc: Global, secrets: &Secrets, line: &str) -> Result<Vec<u8>, ClientFault> {
     let words = line_words(alloc, line)?;
     match told(alloc, secrets, &words) {
@@ -122,7 +122,7 @@ fn line(alloc: Global, secrets: &Secrets, line: &str) -> Result<Vec<u8>, ClientF
     }
 }
 
-// A request's text without its token.
+// Returns a request's text without its token.
 fn without_token(alloc: Global, text: &[u8]) -> Result<Vec<u8>, ClientFault> {
     let mut out = Vec::new(alloc);
     for (place, word) in split_words(alloc, text)?.as_slice().iter().enumerate() {
@@ -137,7 +137,7 @@ fn without_token(alloc: Global, text: &[u8]) -> Result<Vec<u8>, ClientFault> {
     Ok(out)
 }
 
-// Whether this request is asked for, but for its token.
+// Returns whether the words ask for this request, which is given without its token.
 fn asks(alloc: Global, secrets: &Secrets, words: &str, wanted: &str) -> Result<bool, ClientFault> {
     let text = line(alloc, secrets, words)?;
     let found = without_token(alloc, &text)?;
@@ -207,13 +207,13 @@ fn words_become_requests(rt: HostRuntime) -> Result<(), Fail> {
     Ok(())
 }
 
-// Whether this is told for the words of a line.
+// Returns whether `line` returns this for the words of a line.
 fn tells(alloc: Global, secrets: &Secrets, words: &str, wanted: &str) -> Result<bool, ClientFault> {
     let found = line(alloc, secrets, words)?;
     Ok(found.as_slice() == wanted.as_bytes())
 }
 
-// Whether the token that was given is the request's.
+// Returns whether the request has the token that the secrets give.
 fn tells_given(alloc: Global) -> Result<bool, ClientFault> {
     let given = secrets(alloc, GIVEN)?;
     tells(
@@ -224,7 +224,7 @@ fn tells_given(alloc: Global) -> Result<bool, ClientFault> {
     )
 }
 
-// Computed by another implementation of HMAC-SHA-256.
+// Tokens that another implementation of HMAC-SHA-256 computed.
 const TOKENS: &[(&str, &str)] = &[
     (
         "token admin",
@@ -256,7 +256,7 @@ const TOKENS: &[(&str, &str)] = &[
     ("token member 7 65536", "!2"),
 ];
 
-// Whether the keys' tokens are those of the table.
+// Returns whether the keys' tokens are those of the table.
 fn tells_tokens(alloc: Global) -> Result<bool, ClientFault> {
     let keys = secrets(alloc, KEYS)?;
     for (words, wanted) in TOKENS {
@@ -275,7 +275,7 @@ fn keys_become_tokens(rt: HostRuntime) -> Result<(), Fail> {
     Ok(())
 }
 
-// Whether words without an option in front of the subcommand are taken.
+// Returns whether words without an option in front of the subcommand are taken.
 fn is_taken(alloc: Global, line: &str) -> Result<bool, ClientFault> {
     let keys = secrets(alloc, KEYS)?;
     let words: Vec<&str> = line.split(' ').collect(alloc)?;
@@ -328,7 +328,7 @@ fn a_port_and_a_node_are_needed_where_one_is_asked(rt: HostRuntime) -> Result<()
     Ok(())
 }
 
-// What is told of the wrong word of a request.
+// The message about the wrong word of a request.
 const BLAMED: &[(Head, &str, bool, &str)] = &[
     (
         Head::Group(CommandHead::Open),
@@ -392,7 +392,7 @@ const BLAMED: &[(Head, &str, bool, &str)] = &[
     ),
 ];
 
-// Whether this is told of a request.
+// Returns whether this is the message about a request.
 fn is_blamed(
     alloc: Global,
     head: Head,
@@ -418,7 +418,7 @@ fn the_wrong_word_is_told(rt: HostRuntime) -> Result<(), Fail> {
     Ok(())
 }
 
-// Whether a node with this number may be asked.
+// Returns whether a request may be made at the node with this number.
 fn is_asked(alloc: Global, number: u8) -> Result<bool, ClientFault> {
     let given = secrets(alloc, GIVEN)?;
     let number = format!(in alloc; "{number}")?;

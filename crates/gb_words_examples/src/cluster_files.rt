@@ -1,4 +1,4 @@
-//! Files of clusters, and what is told of wrong ones.
+//! Files of clusters, and the messages about wrong ones.
 use gb_cluster_file::fault::NodeFault;
 use gb_cluster_file::field::PlaceField;
 use gb_cluster_file::place::place_of;
@@ -9,12 +9,12 @@ use gb_types::Version;
 use std::alloc::{AllocError, Global};
 use std::test::Fail;
 
-// Whether a place has this host and this port.
+// Returns whether a place has this host and this port.
 fn is_at(place: &Place, host: &str, port: u16) -> bool {
     place.host.as_str() == host && place.port == port
 }
 
-// Whether a text writes this place.
+// Returns whether a text writes this place.
 fn writes(text: &str, host: &str, port: u16) -> bool {
     match place_of(text) {
         Some(place) => place.host == host && place.port == port,
@@ -22,7 +22,7 @@ fn writes(text: &str, host: &str, port: u16) -> bool {
     }
 }
 
-// Returns why a text is refused, in words; an empty text where it is taken.
+// Returns the reason why a text is refused, in words, or an empty text if it is taken.
 fn told(alloc: Global, text: &str) -> Result<String, AllocError> {
     match read_cluster(alloc, text) {
         Ok(_) => Ok(String::new(alloc)),
@@ -35,7 +35,7 @@ fn with_top(alloc: Global, top: &str) -> Result<String, AllocError> {
     format!(in alloc; "{top}\n[[node]]\npackets = \"a:1\"\nsessions = \"a:2\"\n")
 }
 
-// Returns a file of run 1 with this version and this many nodes, each with places of its own.
+// Returns a file of run 1 with this version and this number of nodes, each with places of its own.
 fn with_nodes(alloc: Global, version: u8, nodes: usize) -> Result<String, AllocError> {
     let mut text = format!(in alloc; "run = 1\nversion = {version}\n")?;
     for node in 0..nodes {
@@ -75,7 +75,7 @@ fn a_whole_file(rt: HostRuntime) -> Result<(), Fail> {
     Ok(())
 }
 
-// Lines at the top of a file: run, tick, silence, the version's byte and the room that it says.
+// Lines at the top of a file, and the run, the tick, the silence, the version's byte and the room that they mean.
 static NUMBERS: [(&str, u64, u16, u16, u8, u16); 12] = [
     ("run = 1", 1, 64, 469, 3, 1_400),
     ("run = 1\nroom = 256", 1, 64, 469, 3, 256),
@@ -236,7 +236,7 @@ fn texts_that_are_refused(rt: HostRuntime) -> Result<(), Fail> {
     Ok(())
 }
 
-// Texts that are no documents, and how the line begins that says so.
+// Texts that are no documents, and the beginning of the line that says so.
 static NO_DOCUMENTS: [(&str, &str); 3] = [
     ("run = 1\ntick = 64\nsilence 50\n", "line 3: "),
     ("run = 1\nrun = 2\n", "line 2: "),
@@ -301,7 +301,7 @@ fn the_longest_name(rt: HostRuntime) -> Result<(), Fail> {
     Ok(())
 }
 
-// Versions and numbers of nodes, and why they are refused.
+// Versions and numbers of nodes, and the reason why they are refused; it is empty if they are taken.
 static SIZES: [(u8, usize, &str); 5] = [
     (1, 16, ""),
     (1, 17, "node: packets of version 1 can name 16 nodes"),
@@ -329,7 +329,7 @@ fn the_last_of_thirty_two_nodes(rt: HostRuntime) -> Result<(), Fail> {
     Ok(())
 }
 
-// The fault of a text; none where it is taken.
+// Returns the fault of a text, or `None` if it is taken.
 fn fault_of(alloc: Global, text: &str) -> Option<FileFault> {
     match read_cluster(alloc, text) {
         Ok(_) => None,

@@ -1,4 +1,4 @@
-//! Directory files, and what is told where they do not say what is asked.
+//! Directory files, and the messages if they do not have the wanted node.
 use gb_directory_file::read::{read_directory, sessions_of};
 use gb_directory_file::words::{fault_text, text_fault_text};
 use gb_types::NodeId;
@@ -21,7 +21,7 @@ nodes = []\n\
 65535 = \"west\"\n\
 011 = \"west\"\n";
 
-// Texts, a tenant, a node, and where it is, or why that is not said.
+// Texts, a tenant and a node, and the place of the node's sessions, or the reason why there is none.
 static CASES: [(&str, u16, u8, &str); 19] = [
     (GOOD, 7, 0, "10.0.0.1 24064"),
     (GOOD, 7, 1, "::1 24065"),
@@ -109,7 +109,7 @@ static CASES: [(&str, u16, u8, &str); 19] = [
     ("[tenant]\n7 \"a\"\n", 7, 0, "line 2: "),
 ];
 
-// Returns where a node is by a directory, or why that is not said.
+// Returns the place of a node's sessions by a directory, or the reason why there is none.
 fn told_of(alloc: Global, file: &Value, tenant: u16, node: NodeId) -> Result<String, AllocError> {
     match sessions_of(file, tenant, node) {
         Ok(place) => {
@@ -120,7 +120,7 @@ fn told_of(alloc: Global, file: &Value, tenant: u16, node: NodeId) -> Result<Str
     }
 }
 
-// The same by a text, or why it is no directory.
+// Returns the same for a text, or the reason why it is no directory.
 fn told(alloc: Global, text: &str, tenant: u16, node: u8) -> Result<String, AllocError> {
     let Some(node) = NodeId::from_number(node) else {
         return Ok(String::new(alloc));

@@ -1,5 +1,5 @@
-//! What a person writes, as tests: the command lines of the client, the server and gb_peer, the file of a cluster and directory files. They
-//! show what each word asks for, and why others are refused. This crate has tests only.
+//! Texts that a person writes, as tests: the command lines of the client, the server and gb_peer, the file of a cluster, and directory
+//! files. They show what each word asks for, and why other words are refused. This crate has tests only.
 #![tactic(auto)]
 
 #[cfg(test)]

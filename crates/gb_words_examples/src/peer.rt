@@ -1,16 +1,16 @@
-//! Worked words of gb_peer, what they name and tell a node, and what is said of words that are refused.
+//! Worked command lines of gb_peer, the files and plans that they name, and the messages about words that are refused.
 use gb_peer_words::PeerPlan;
 use gb_peer_words::words::{asked_text, read_words, refusal_text};
 use gb_serve_words::{NamedLimit, TenantLimit, TenantLimits, WordFault};
 use std::alloc::{AllocError, Global};
 use std::net::{Ipv4Addr, Ipv6Addr, SocketAddr, SocketAddrV4, SocketAddrV6};
 
-// The words of a line.
+// Returns the words of a line.
 fn words_of(alloc: Global, line: &str) -> Result<Vec<&str>, AllocError> {
     line.split(' ').collect(alloc)
 }
 
-// Whether the words of a line name this cluster file and this folder, and are this plan.
+// Returns whether the words of a line name this cluster file and this folder, and mean this plan.
 fn is_read(alloc: Global, line: &str, cluster: &str, dir: &str, plan: PeerPlan) -> bool {
     let Ok(words) = words_of(alloc, line) else {
         return false;
@@ -21,7 +21,7 @@ fn is_read(alloc: Global, line: &str, cluster: &str, dir: &str, plan: PeerPlan) 
     }
 }
 
-// The limits of tenants if the words give none.
+// Returns the limits of tenants if the words give none.
 fn no_limits() -> TenantLimits {
     TenantLimits {
         each: limit(0, 0, 0),
@@ -29,7 +29,7 @@ fn no_limits() -> TenantLimits {
     }
 }
 
-// Limits of a tenant.
+// Returns these limits of a tenant.
 fn limit(requests: u32, bytes: u32, waits: u16) -> TenantLimit {
     TenantLimit {
         requests,
@@ -38,7 +38,7 @@ fn limit(requests: u32, bytes: u32, waits: u16) -> TenantLimit {
     }
 }
 
-// The plan of words that name node 0 and nothing else that can be left out.
+// Returns the plan of words that name node 0 and nothing that may be left out.
 fn plain_plan() -> PeerPlan {
     PeerPlan {
         node: 0,
@@ -93,7 +93,7 @@ fn words_name_a_node_a_file_and_a_folder(rt: HostRuntime) {
     }
 }
 
-// Options with a number, and the wait, the sessions, the idle seconds, the connections and the requests that they are.
+// Options with a number, and the wait, the sessions, the idle seconds, the connections and the requests that they mean.
 static NUMBERS: [(&str, u16, u16, u16, u16, u32); 10] = [
     ("--wait 0", 0, 0, 300, 1_024, 0),
     ("--wait 60000", 60_000, 0, 300, 1_024, 0),
@@ -121,7 +121,7 @@ static NUMBERS: [(&str, u16, u16, u16, u16, u32); 10] = [
     ),
 ];
 
-// Whether the words that must be given and these options are this plan.
+// Returns whether the words that must be given, with these options, mean this plan.
 fn is_plan(alloc: Global, options: &str, plan: PeerPlan) -> bool {
     let line = format!(in alloc; "gb_peer --cluster c.toml --node 0 --dir marks {options}");
     match line {
@@ -212,7 +212,7 @@ fn words_limit_what_tenants_may_ask_a_node(rt: HostRuntime) {
     assert!(rt; is_plan(rt.alloc(), options, for_three));
 }
 
-// All options, each with another value than the one that stands for it.
+// All options, each with another value than its default.
 static ALL: &str =
     "gb_peer --cluster c.toml --node 2 --dir marks --wait 5 --sessions 6 --connections 7 --idle 8 \
 --session-requests 9 --remote-sessions --status 10.0.0.1:9100 --stop-at-end --quiet --record --sync --resume \
@@ -298,7 +298,7 @@ static REFUSED: [&str; 48] = [
     "gb_peer --help",
 ];
 
-// Whether the words of a line are refused.
+// Returns whether the words of a line are refused.
 fn is_refused(alloc: Global, line: &str) -> bool {
     let Ok(words) = words_of(alloc, line) else {
         return false;
@@ -368,7 +368,7 @@ static EXPLAINED: [(&str, &str); 13] = [
     ("gb_peer --cluster c.toml --node 0 --dir marks", ""),
 ];
 
-// Whether this is said of the words of a line.
+// Returns whether this is the message about the words of a line.
 fn is_said(alloc: Global, line: &str, want: &str) -> bool {
     let Ok(words) = words_of(alloc, line) else {
         return false;
@@ -386,13 +386,13 @@ fn refusals_of_a_node_are_explained(rt: HostRuntime) {
     }
 }
 
-// What a line asks for.
+// Returns the text that a line asks for, or `None`.
 fn asked(alloc: Global, line: &str) -> Option<String> {
     let words = words_of(alloc, line).ok()?;
     asked_text(alloc, &words).unwrap_or(None)
 }
 
-// Whether a line asks for a text that has this text in it.
+// Returns whether a line asks for a text that contains this text.
 fn asks_for(alloc: Global, line: &str, part: &str) -> bool {
     match asked(alloc, line) {
         Some(text) => text.contains(part),
@@ -400,7 +400,7 @@ fn asks_for(alloc: Global, line: &str, part: &str) -> bool {
     }
 }
 
-// Whether a line asks for this text.
+// Returns whether a line asks for this text.
 fn is_asked(alloc: Global, line: &str, want: &str) -> bool {
     match asked(alloc, line) {
         Some(text) => text.as_str() == want,
@@ -408,7 +408,7 @@ fn is_asked(alloc: Global, line: &str, want: &str) -> bool {
     }
 }
 
-// What the help has in it.
+// Parts of the help.
 static HELP: [&str; 10] = [
     "\nUsage: gb_peer ",
     "--cluster <FILE>",

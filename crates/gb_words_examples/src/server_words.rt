@@ -1,16 +1,16 @@
-//! Worked words, the plans that they are, and what is said of words that are refused.
+//! Worked command lines of the server, the plans that they mean, and the messages about words that are refused.
 use gb_serve_words::words::{asked_text, read_words, refusal_text};
 use gb_serve_words::{NamedLimit, ServePlan, TenantLimit, TenantLimits, WordFault};
 use gb_types::Version;
 use std::alloc::{AllocError, Global};
 use std::net::{Ipv4Addr, Ipv6Addr, SocketAddr, SocketAddrV4, SocketAddrV6};
 
-// The words of a line.
+// Returns the words of a line.
 fn words_of(alloc: Global, line: &str) -> Result<Vec<&str>, AllocError> {
     line.split(' ').collect(alloc)
 }
 
-// What the words of a line are.
+// Returns the plan that the words of a line mean, or their fault.
 fn read(alloc: Global, line: &str) -> Result<ServePlan, WordFault> {
     let words = words_of(alloc, line)?;
     match read_words(alloc, &words) {
@@ -19,7 +19,7 @@ fn read(alloc: Global, line: &str) -> Result<ServePlan, WordFault> {
     }
 }
 
-// The limits of tenants if the words give none.
+// Returns the limits of tenants if the words give none.
 fn no_limits() -> TenantLimits {
     TenantLimits {
         each: limit(0, 0, 0),
@@ -27,7 +27,7 @@ fn no_limits() -> TenantLimits {
     }
 }
 
-// Limits of a tenant.
+// Returns these limits of a tenant.
 fn limit(requests: u32, bytes: u32, waits: u16) -> TenantLimit {
     TenantLimit {
         requests,
@@ -36,7 +36,7 @@ fn limit(requests: u32, bytes: u32, waits: u16) -> TenantLimit {
     }
 }
 
-// Lines, and the number of nodes, the version, the base port, the silence and the sessions that they are, and whether there are tapes.
+// Lines, and the number of nodes, the version, the base port, the silence and the sessions that they mean, and whether there are tapes.
 static PLANS: [(&str, u8, Version, u16, u16, u16, bool); 14] = [
     (
         "gb_serve --nodes 1 --base-port 1024",
@@ -193,7 +193,7 @@ fn words_are_plans(rt: HostRuntime) {
     }
 }
 
-// Lines with options of the loops, and the milliseconds of a tick, the idle seconds, the connections and the requests that they are.
+// Lines with options of the loops, and the milliseconds of a tick, the idle seconds, the connections and the requests that they mean.
 static BEHAVIOURS: [(&str, u16, u16, u16, u32); 7] = [
     ("gb_serve --nodes 1 --base-port 1024", 64, 300, 1_024, 0),
     (
@@ -285,7 +285,7 @@ fn words_say_what_the_end_of_input_does(rt: HostRuntime) {
     }
 }
 
-// Where the line at this place of the list below wants the status to be told.
+// Returns the address at which the line with this index of the list below asks for the status, or `None`.
 fn wanted_status(place: usize) -> Option<SocketAddr> {
     let four = Ipv4Addr::new(127, 0, 0, 1);
     let six = Ipv6Addr::new(0, 0, 0, 0, 0, 0, 0, 1);
@@ -323,7 +323,7 @@ fn words_say_where_the_status_is_told(rt: HostRuntime) {
     }
 }
 
-// Lines, and whether they want records, whether these are to be on the disk, and the folder that they name.
+// Lines, and whether they ask for records, whether these are to be on the disk, and the folder that they name.
 static RECORDS: [(&str, bool, bool, &str); 4] = [
     (
         "gb_serve --nodes 1 --base-port 1024 --dir d --record",
@@ -351,7 +351,7 @@ static RECORDS: [(&str, bool, bool, &str); 4] = [
     ),
 ];
 
-// Returns true if the words of a line say this of records.
+// Returns whether the words of a line mean this about records.
 fn is_recorded(alloc: Global, line: &str, records: bool, sync: bool, dir: &str) -> bool {
     let Ok(words) = words_of(alloc, line) else {
         return false;
@@ -423,7 +423,7 @@ fn wanted_limits(place: usize) -> TenantLimits {
     limits
 }
 
-// A tenant with limits of its own.
+// Returns a tenant with limits of its own.
 fn row(tenant: u16, limit: TenantLimit) -> NamedLimit {
     NamedLimit { tenant, limit }
 }
@@ -681,7 +681,7 @@ static EXPLAINED: [(&str, &str); 21] = [
     ("gb_serve --nodes 32 --base-port 42000 --version 2", ""),
 ];
 
-// Whether this is said of the words of a line.
+// Returns whether this is the message about the words of a line.
 fn is_said(alloc: Global, line: &str, want: &str) -> bool {
     let Ok(words) = words_of(alloc, line) else {
         return false;
@@ -699,13 +699,13 @@ fn refusals_are_explained(rt: HostRuntime) {
     }
 }
 
-// What a line asks for.
+// Returns the text that a line asks for, or `None`.
 fn asked(alloc: Global, line: &str) -> Option<String> {
     let words = words_of(alloc, line).ok()?;
     asked_text(alloc, &words).unwrap_or(None)
 }
 
-// Whether a text has this line in it.
+// Returns whether a text contains this line.
 fn has_line(text: &Option<String>, line: &str) -> bool {
     match text {
         Some(text) => text.contains(line),
@@ -713,7 +713,7 @@ fn has_line(text: &Option<String>, line: &str) -> bool {
     }
 }
 
-// Whether a line asks for this text.
+// Returns whether a line asks for this text.
 fn asks_for(alloc: Global, line: &str, want: &str) -> bool {
     match asked(alloc, line) {
         Some(text) => text.as_str() == want,

@@ -13,7 +13,7 @@ else `NAME: differs from byte N on`.\n\n\
 Exit status: 0 when all are as written, 1 when one differs, 2 without a name, 4 when a file could not be read, a line not be\n\
 written, or memory was refused.\n";
 
-/// Why no schedule can be run.
+/// Why a schedule could not be run.
 #[derive(Drop)]
 enum Trouble {
     /// A file could not be read, or a line could not be written.
@@ -40,7 +40,7 @@ impl<T: Drop> From<AllocFailed<T>> for Trouble {
     }
 }
 
-// Writes a text and sees that it is written.
+// Writes a text and flushes it.
 fn print(rt: &HostRuntime, text: &[u8]) -> Result<(), Trouble> {
     let mut writer = io::writer(rt);
     writer.write_all(text)?;
@@ -48,7 +48,7 @@ fn print(rt: &HostRuntime, text: &[u8]) -> Result<(), Trouble> {
     Ok(())
 }
 
-// Returns the answers to a schedule. A bad line ends them, as it ends gb_sim's.
+// Returns the answers to a schedule. A bad line ends them, as in gb_sim.
 fn answers_of(alloc: Global, schedule: &[u8]) -> Result<Vec<u8>, Trouble> {
     let mut answers = Vec::new(alloc);
     let mut cluster = None;
@@ -59,13 +59,13 @@ fn answers_of(alloc: Global, schedule: &[u8]) -> Result<Vec<u8>, Trouble> {
     }
 }
 
-// Returns the first place where two texts differ.
+// Returns the index of the first byte at which two texts differ, or `None` if they are equal.
 fn first_difference(found: &[u8], written: &[u8]) -> Option<usize> {
     let most = found.len().max(written.len());
     (0..most).find(|at| found.get(*at) != written.get(*at))
 }
 
-// Runs the schedule of a name. Returns true if its answers are as written.
+// Runs the schedule of this name. Returns true if its answers are as written, and false otherwise.
 fn run_one(rt: &HostRuntime, name: &str) -> Result<bool, Trouble> {
     let alloc = rt.alloc();
     let schedule = fs::read(rt, format!(in alloc; "{name}.schedule")?.as_str())?;

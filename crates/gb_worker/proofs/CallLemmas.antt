@@ -1,4 +1,4 @@
--- A request is asked by a call, and what the client is told.
+-- A request is executed by a call, and its reply to the client.
 use Rattle.gb_types.specs.Common.{◌≡◌, ◌⊎◌, ◌+◌, ◌∙◌, ℕ, inl, inr, ◌&&◌, ◌||◌, not, Bool, true, false, List, [], ◌∷◌, ◌++◌, ap, arith, cond, refl, Result, Ok, Err, nat_cmp, IfOk, IfErr, OnErr}
 use Rattle.std.specs.FinSet as set
 use Rattle.gb_types.specs.declared.{node.NodeId.NodeId, refusal.Refusal.TheVariants.Stopped, refusal.Refusal.TheVariants.OutOfMemory, reply.Reply.Reply, reply.Reply.TheVariants.Refused, request.Request.Request}
@@ -9,7 +9,7 @@ use Rattle.gb_host.specs.declared.fault.HostFault.TheVariants.{NoNode, ForeignSe
 use Rattle.gb_worker.specs.Answered.{is_stopped, stops_in}
 use Rattle.gb_worker.specs.Asked.{AnswersAt, reply_at, reply_of}
 
--- what goes to a recorder is kept
+-- an entry that goes to a recorder is kept
 kept_by_ring : (tape ring : Bool) → (ring && not tape) ≡ true → (tape || ring) ≡ true
 kept_by_ring true ring h = refl
 kept_by_ring false true h = refl
@@ -23,7 +23,7 @@ told_at p here seat node ForeignSeat why is = absurd why
 told_at p here seat node (Differs difference) why is = absurd why
 told_at p here seat node Full why is = inl is
 
--- where the call was made, the client is told the node's reply, else that nothing was asked
+-- if the call was made, the client receives the node's reply, otherwise a reply that nothing was executed
 pub told : {reply : Reply} (p : HostPlan) (here : set.FinSet nat_cmp) (s t : SeatValue) (node : NodeId) (request : Request) (outcome : Result NodeAnswer HostFault)
     → IfOk outcome (λ a. t.calls ≡ s.calls ++ record { node = node; event = Asked request; answer = a } ∷ []) → OnErr outcome (t ≡ s) → IfErr outcome (IsRefused p here s node)
     → IfOk outcome (λ a. reply ≡ reply_of a) → IfErr outcome (λ why. reply ≡ reply_at why)

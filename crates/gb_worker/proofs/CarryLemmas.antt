@@ -1,4 +1,4 @@
--- What travels at a port, call by call.
+-- The bytes that travel at a port, call by call.
 use Rattle.gb_types.specs.Common.{◌≡◌, ◌≢◌, ◌⊎◌, inl, inr, ℕ, Bool, List, [], ◌∷◌, ◌++◌, refl, sym, ap, ap₂, ◌∙◌, append_assoc, Option, Some, Result, Ok, Err, subst}
 use Rattle.std.specs.declared.{vec.Vec.Vec, alloc.Global.Global}
 use Rattle.gb_types.specs.declared.node.NodeId.{NodeId}
@@ -42,11 +42,11 @@ carried_more sends receives p q r old mid new g h = (
   travels_append g.2 h.2 ∙ (ap₂ (λ xs ys. xs ++ ys) g.4 h.4 ∙ sym (traffic_append g.0 h.0)),
 )
 
--- nothing was called
+-- no call was made
 pub carried_none : {P : Type 0} (sends : Sends P) (receives : Receives P) (p : P) (list : List NodeStep) → HasCarried sends receives p p list list
 carried_none sends receives p list = ([], sym (append_nil list), [], refl, refl)
 
--- nothing came
+-- no bytes came
 pub carried_nothing : {P : Type 0} (sends : Sends P) (receives : Receives P) (p q : P) (list : List NodeStep) → GivesNothing receives p q → HasCarried sends receives p q list list
 carried_nothing sends receives p q list g = ([], sym (append_nil list), Received g.0 ∷ [], (q, g.1, refl), append_nil (travels_in (Received g.0)) ∙ g.2)
 
@@ -54,7 +54,7 @@ carried_nothing sends receives p q list g = ([], sym (append_nil list), Received
 pub carried_in : {P : Type 0} (sends : Sends P) (receives : Receives P) (p q : P) (old new : List NodeStep) (me : NodeId) (bytes : Vec ℕ Global) (text : List ℕ) (a : NodeAnswer) → receives p (Ok (Some bytes)) q → text ≡ bytes.items → new ≡ old ++ noted me (events.Packet text) a ∷ [] → HasCarried sends receives p q old new
 carried_in sends receives p q old new me bytes text a r same h = (noted me (events.Packet text) a ∷ [], h, Received (Ok (Some bytes)) ∷ [], (q, r, refl), ap (λ xs. Came xs ∷ []) (sym same))
 
--- to where an event sends
+-- the node to which an event sends
 goes : (e : NodeEvent) (to : NodeId) (a : NodeAnswer) → destination e ≡ Some to → traffic_of e a ≡ goes_to to a
 goes (events.Request request) to a h = absurd cc
 goes (events.Packet bytes) to a h = absurd cc
@@ -64,7 +64,7 @@ goes (events.Ack b) to a h = let e : b ≡ to = cc in ap (λ n. goes_to n a) e
 goes events.Tick to a h = absurd cc
 goes events.Stop to a h = absurd cc
 
--- an answer gave a packet, which was sent
+-- an answer had a packet, which was sent
 pub carried_out : {P : Type 0} (sends : Sends P) (receives : Receives P) (p q : P) (old new : List NodeStep) (me : NodeId) (e : NodeEvent) (to : NodeId) (a : NodeAnswer) (text bytes : List ℕ) (r : Result Bool PortFault)
     → destination e ≡ Some to → a ≡ answers.Sent (sents.Packet text) → bytes ≡ text → sends p to bytes r q → new ≡ old ++ noted me e a ∷ [] → HasCarried sends receives p q old new
 carried_out sends receives p q old new me e to a text bytes r d is same s h = (
@@ -79,12 +79,12 @@ carried_out sends receives p q old new me e to a text bytes r d is same s h = (
 pub carried_in_stopped : {P : Type 0} (sends : Sends P) (receives : Receives P) (p q : P) (old new : List NodeStep) (me : NodeId) (bytes : Vec ℕ Global) (text : List ℕ) → receives p (Ok (Some bytes)) q → text ≡ bytes.items → Gains (IsStopped me (events.Packet text)) old new → HasCarried sends receives p q old new
 carried_in_stopped sends receives p q old new me bytes text r same g = carried_in sends receives p q old new me bytes text g.2.0 r same (g.1 ∙ ap (λ es. old ++ es) g.2.2)
 
--- why a call ended a worker
+-- the reasons why a call ended a worker
 pub by_why : (A : Type 0) (why : Why) → (why ≡ Stopped) ⊎ (why ≡ Fault) → (why ≡ Stopped → A) → (why ≡ Fault → A) → A
 by_why A why (inl e) stopped fault = stopped e
 by_why A why (inr e) stopped fault = fault e
 
--- what went well was no fault
+-- a success is no fault
 pub ok_is_no_fault : {A : Type 0} (x : A) → ◌≢◌ {A = Result A Why} (Ok x) (Err Fault)
 ok_is_no_fault x = λ e. absurd cc
 

@@ -1,4 +1,4 @@
--- What a list gains, call by call.
+-- The entries that a list gains, call by call.
 use Rattle.gb_types.specs.Common.{◌≡◌, List, [], ◌∷◌, ◌++◌, ap, ◌∙◌, refl, append_assoc}
 use Rattle.gb_node.specs.declared.step.NodeStep.{NodeStep}
 

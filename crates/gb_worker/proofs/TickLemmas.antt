@@ -1,4 +1,4 @@
--- What ticks add to a list.
+-- The entries that ticks add to a list.
 use Rattle.gb_types.specs.Common.{◌≡◌, ℕ, ◌+◌, List, [], ◌∷◌, ◌++◌, refl, sym, ap, ◌∙◌, append_assoc, add-one, nat_cmp}
 use Rattle.std.specs.FinSet as set
 use Rattle.gb_types.specs.declared.node.NodeId.{NodeId}
@@ -11,7 +11,7 @@ events_append : (xs ys : List NodeStep) → events_of (xs ++ ys) ≡ events_of x
 events_append [] ys = refl
 events_append (x ∷ xs) ys = ap (λ zs. (x.node.number, x.event) ∷ zs) (events_append xs ys)
 
--- what a node more adds
+-- the entries that one more node adds
 pub ticked_more : (here : set.FinSet nat_cmp) (nodes t k : ℕ) (node : NodeId) (old now new : List NodeStep) → node.number ≡ k → Gains (AreTicks here nodes t k) old now → Gains (IsTick here node) now new → Gains (AreTicks here nodes t (k + 1)) old new
 ticked_more here nodes t k node old now new is g h =
     let turns : List (ℕ × NodeEvent) = tick_turns here nodes t in

@@ -20,13 +20,13 @@ due_made me e is_given is_due old new due g =
     let P : Bool → Type 0 = λ t. IfDue t (IsNoted me e) g.0 in
     (g.0, g.1, subst P (sym due) (noted_made me e is_given g.0 g.2))
 
--- What a turn sends to one node.
+-- The entries that a turn sends to one node.
 
 for_due : (event : NodeId → NodeEvent) (me to : NodeId) (t : Bool) (es : List NodeStep) → IfDue t (IsNoted me (event to)) es → IfDue t (IsFor event me to.number) es
 for_due event me to true es h = (h.0, h.1, (h.2.0, (to, refl, h.2.1)))
 for_due event me to false es h = h
 
--- one that is due, made up
+-- if one is due, there are such entries
 some_due : (event : NodeId → NodeEvent) (me to : NodeId) (t : Bool) → (es : List NodeStep) × IfDue t (IsFor event me to.number) es
 some_due event me to true = (noted me (event to) (Sent Nothing) ∷ [], (noted me (event to) (Sent Nothing), refl, (refl, (to, refl, refl))))
 some_due event me to false = ([], refl)
@@ -71,7 +71,7 @@ begun_part r me to is_heard es (inr h) = let P : List NodeStep → Type 0 = IsPa
 pub part_pack : (r : ℕ) (me to : NodeId) (is_heard : Bool) (old new : List NodeStep) → Gains (IsBegun me (Pack to)) old new → Gains (IsPartTo r me to.number is_heard) old new
 part_pack r me to is_heard old new g = (g.0, g.1, begun_part r me to is_heard g.0 g.2)
 
--- what has begun of one that is due is the beginning of it
+-- a beginning of the entries of an event that is due
 due_begun : (event : NodeId → NodeEvent) (me to : NodeId) (t : Bool) (es : List NodeStep) → t ≡ true → IsBegun me (event to) es → (rest : List NodeStep) × IfDue t (IsFor event me to.number) (es ++ rest)
 due_begun event me to true es due (inl e) =
     let some = some_due event me to true in
@@ -108,12 +108,12 @@ part_ack r me to is_heard is_given old mid late new g h due k =
       subst P (sym g.2.2) (z.0, subst Q (sym (append_assoc h.0 k.0 z.0)) (sends r me to is_heard g.2.0 h.0 (k.0 ++ z.0) y z.1)),
     )
 
--- What a turn sends to all nodes.
+-- The entries that a turn sends to all nodes.
 
 next_is : (b : ℕ) → b + 1 ≡ suc b
 next_is b = omega arith
 
--- what is sent to one node more
+-- the entries that are sent to one more node
 all_more : (r : ℕ) (me : NodeId) (heard : set.FinSet nat_cmp) (b : ℕ) (xs ys : List NodeStep) → b ≢ me.number → SendsAll r me heard b xs → SendsTo r me b (set.contains heard b) ys → SendsAll r me heard (b + 1) (xs ++ ys)
 all_more r me heard b xs ys ne x y =
     let P : ℕ → Type 0 = λ n. SendsAll r me heard n (xs ++ ys) in
@@ -126,7 +126,7 @@ all_skip r me heard b xs e x =
     let Q : Bool → Type 0 = λ t. MatchBool t (SendsAll r me heard b xs) ((us vs : List NodeStep) × (xs ≡ us ++ vs) × SendsAll r me heard b us × SendsTo r me b (set.contains heard b) vs) in
     subst P (sym (next_is b)) (subst Q (sym (eq-eqb b me.number e)) x)
 
--- something to one node, made up
+-- there are entries that are sent to one node
 some_to : (r : ℕ) (me : NodeId) (is_heard : Bool) (b : ℕ) → b < NODES → (es : List NodeStep) × SendsTo r me b is_heard es
 some_to r me is_heard b below =
     let to : NodeId = record { number = b; below = below } in
@@ -134,7 +134,7 @@ some_to r me is_heard b below =
     let p = pack_part r me to is_heard a in
     (noted me (Pack to) a ∷ p.0, p.1)
 
--- whatever was sent to the first nodes, a turn can go on
+-- whatever was sent to the first nodes, a turn can continue
 complete_by : (r : ℕ) (me : NodeId) (heard : set.FinSet nat_cmp) (n b : ℕ) (xs : List NodeStep) → b < NODES → ((eqb b me.number ≡ true) × (b ≡ me.number)) ⊎ ((eqb b me.number ≡ false) × (b ≢ me.number)) → SendsAll r me heard b xs
     → ((ys : List NodeStep) → SendsAll r me heard (b + 1) ys → (rest : List NodeStep) × SendsAll r me heard (n + (b + 1)) (ys ++ rest))
     → (rest : List NodeStep) × SendsAll r me heard (suc n + b) (xs ++ rest)
@@ -181,7 +181,7 @@ sent_part r me heard nodes b old mid new g ne under below h =
     let P : List NodeStep → Type 0 = SendsAll r me heard nodes in
     (g.0 ++ h.0, joined old mid new g.0 h.0 g.1 h.1, (rest ++ more.0, subst P e more.1))
 
--- What a turn receives.
+-- The entries that a turn receives.
 
 packets_snoc : (me : NodeId) (es : List NodeStep) (e : NodeStep) → ArePackets me es → e.node ≡ me → ((bytes : List ℕ) × (e.event ≡ Packet bytes)) → ArePackets me (es ++ e ∷ [])
 packets_snoc me [] e h n p = (n, p, tt)

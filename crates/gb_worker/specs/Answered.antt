@@ -1,4 +1,4 @@
--- What a worker reads in an answer.
+-- The parts of an answer that a worker reads.
 use Rattle.std.specs.Prelude.{ℕ, ◌+◌, Bool, true, false, cond, List, [], ◌∷◌, fold, Option, Some, None}
 use Rattle.std.specs.FinSet as set
 use Rattle.std.specs.Ordering.{nat_cmp}
@@ -17,7 +17,7 @@ abbrev pub stops_in : List NodeStep → ℕ
 stops_in [] = 0
 stops_in (e ∷ es) = cond (is_stopped e.answer) 1 0 + stops_in es
 
--- the number of such answers that a worker had that ended for this reason
+-- the number of Stopped answers of a worker that ended for this reason
 abbrev pub stops_by : Why → ℕ
 stops_by StoppedThere = 1
 stops_by other = 0
@@ -27,7 +27,7 @@ abbrev pub gives_packet : NodeAnswer → Bool
 gives_packet (Sent (SentPacket text)) = true
 gives_packet other = false
 
--- these nodes, with the one whose good packet was taken, if one was
+-- these nodes, and the node whose good packet was taken, if one was
 abbrev pub and_heard : set.FinSet nat_cmp → NodeAnswer → set.FinSet nat_cmp
 and_heard nodes (Taken (TakenGood good)) = set.insert nodes good.from.number
 and_heard nodes other = nodes

@@ -1,4 +1,4 @@
--- Why a worker ends, and which calls it counts.
+-- The reasons why a worker ends, and the calls that it counts.
 use Rattle.std.specs.Prelude.{◌≡◌, ◌⊎◌, ◌-◌, ◌^◌, false, slice_index}
 use Rattle.std.specs.FinSet as set
 use Rattle.std.specs.Ordering.{nat_cmp}

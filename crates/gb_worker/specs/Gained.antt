@@ -1,4 +1,4 @@
--- What calls add to a seat's list.
+-- The entries that calls add to a seat's list.
 use Rattle.std.specs.Prelude.{◌≡◌, ◌⊎◌, Bool, true, false, List, [], ◌∷◌, ◌++◌, Option, Some, None}
 use Rattle.gb_types.specs.declared.node.NodeId.{NodeId}
 use Rattle.gb_node.specs.declared.{answer.NodeAnswer.NodeAnswer, event.NodeEvent.NodeEvent, step.NodeStep.NodeStep}
@@ -8,7 +8,7 @@ use Rattle.gb_worker.specs.Answered.{is_stopped, gives_packet}
 abbrev pub Gains : (List NodeStep → Type 0) → List NodeStep → List NodeStep → Type 0
 Gains P old new = (es : List NodeStep) × (new ≡ old ++ es) × P es
 
--- a call, as a seat notes it
+-- a call, as a seat records it
 abbrev pub noted : NodeId → NodeEvent → NodeAnswer → NodeStep
 noted node event answer = record { node = node; event = event; answer = answer }
 
@@ -21,7 +21,7 @@ IsCalled node event None old new = new ≡ old
 abbrev pub IsStopped : NodeId → NodeEvent → List NodeStep → Type 0
 IsStopped node event es = (answer : NodeAnswer) × (is_stopped answer ≡ true) × (es ≡ noted node event answer ∷ [])
 
--- one call, which gave a packet or did not
+-- one call, whose answer has a packet or has none
 abbrev pub IsMade : NodeId → NodeEvent → Bool → List NodeStep → Type 0
 IsMade node event is_given es = (answer : NodeAnswer) × (gives_packet answer ≡ is_given) × (es ≡ noted node event answer ∷ [])
 

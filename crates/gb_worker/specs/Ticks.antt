@@ -1,4 +1,4 @@
--- What a ticker adds to its seat's calls.
+-- The calls that a ticker adds to its seat.
 use Rattle.std.specs.Prelude.{ℕ, zero, suc, ◌≡◌, ◌≢◌, ◌≤◌, cond, List, [], ◌∷◌, ◌++◌}
 use Rattle.std.specs.FinSet as set
 use Rattle.std.specs.Ordering.{nat_cmp}

@@ -1,4 +1,4 @@
--- What a pump adds to its seat's list.
+-- The entries that a pump adds to its seat's list.
 use Rattle.std.specs.Prelude.{ℕ, zero, suc, ◌≡◌, ◌⊎◌, ◌≤◌, ◌%◌, ◌==◌, ◌&&◌, ◌||◌, not, Bool, List, [], ◌∷◌, ◌++◌, length}
 use Rattle.std.specs.{Bool.MatchBool, Ordering.nat_cmp}
 use Rattle.std.specs.FinSet as set
@@ -26,8 +26,8 @@ is_again_due r answer = not (gives_packet answer) && (r % AGAIN == 0)
 abbrev pub is_ack_due : ℕ → Bool → Bool
 is_ack_due r is_heard = is_heard || (r % ACK == 0)
 
--- What turn r sends to node b: a pack; if that gave no packet and 8 divides r, an again of the lowest frame; and if a
--- good packet of b came in the turn, or 16 divides r, an ack.
+-- The entries that turn r sends to node b: a pack; if that gave no packet and 8 divides r, an again of the lowest frame; and if a good packet of b
+-- came in the turn, or 16 divides r, an ack.
 pub record SendsTo (r : ℕ) (me : NodeId) (b : ℕ) (is_heard : Bool) (es : List NodeStep) : Type 0 where
   pub pack : NodeStep
   pub again : List NodeStep
@@ -37,17 +37,17 @@ pub record SendsTo (r : ℕ) (me : NodeId) (b : ℕ) (is_heard : Bool) (es : Lis
   pub resends : IfDue (is_again_due r pack.answer) (IsFor (λ to. Again to 0) me b) again
   pub acknowledges : IfDue (is_ack_due r is_heard) (IsFor Ack me b) ack
 
--- what a pump sends in a turn to one node, or a beginning of it
+-- the entries that a pump sends in a turn to one node, or a beginning of them
 abbrev pub IsPartTo : ℕ → NodeId → ℕ → Bool → List NodeStep → Type 0
 IsPartTo r me b is_heard es = (rest : List NodeStep) × SendsTo r me b is_heard (es ++ rest)
 
--- what a pump sends in a turn to each other node below b, in rising order; `heard` are the nodes that were heard
+-- the entries that a pump sends in a turn to each other node below b, in rising order; `heard` are the nodes that were heard
 abbrev pub SendsAll : ℕ → NodeId → set.FinSet nat_cmp → ℕ → List NodeStep → Type 0
 SendsAll r me heard zero es = es ≡ []
 SendsAll r me heard (suc b) es = MatchBool (b == me.number) (SendsAll r me heard b es)
     ((xs ys : List NodeStep) × (es ≡ xs ++ ys) × SendsAll r me heard b xs × SendsTo r me b (set.contains heard b) ys)
 
--- what a pump sends in a turn to all nodes, or a beginning of it
+-- the entries that a pump sends in a turn to all nodes, or a beginning of them
 abbrev pub IsPartAll : ℕ → NodeId → set.FinSet nat_cmp → ℕ → List NodeStep → Type 0
 IsPartAll r me heard nodes es = (rest : List NodeStep) × SendsAll r me heard nodes (es ++ rest)
 
@@ -59,7 +59,7 @@ IsReceived me n es = ArePackets me es × (length es ≤ n)
 abbrev pub HasReceived : NodeId → ℕ → set.FinSet nat_cmp → List NodeStep → Type 0
 HasReceived me n heard es = IsReceived me n es × (heard ≡ heard_in es)
 
--- turn r: at most 16 packets that came, then what is sent to each other node, in rising order
+-- turn r: at most 16 packets that came, then the entries that are sent to each other node, in rising order
 pub record IsTurn (r : ℕ) (me : NodeId) (nodes : ℕ) (es : List NodeStep) : Type 0 where
   pub received : List NodeStep
   pub sent : List NodeStep

@@ -37,8 +37,8 @@ fn is_passing(fault: &HostFault) -> bool
     }
 }
 
-// Makes the event happen at the node and returns its answer. Returns `None` if the host could not keep the call, and counts that
-// in `refused`. `Err` at any other fault of the host, which ends the worker.
+// Executes the event at the node and returns its answer. Returns `None` if the host could not keep the call, and counts that in `refused`.
+// `Err` at any other fault of the host, which ends the worker.
 pub(crate) fn ask<L: Tapes, H: Wait>(
     rt: &H,
     host: &Host<L>,

@@ -1,9 +1,9 @@
-//! How a worker ends.
+//! The end of a worker.
 
-/// Why a worker ended.
+/// The reason why a worker ended.
 #[derive(Clone, Copy, PartialEq, Eq)]
 pub enum Why {
-    /// It made all turns that were asked for.
+    /// It made all turns that were requested.
     Turns,
     /// Its gate returned false.
     Gate,
@@ -13,13 +13,12 @@ pub enum Why {
     Fault,
 }
 
-/// How a worker ended.
+/// The result of a worker: its turns and refused calls, and the reason why it ended.
 #[derive(Clone, Copy, PartialEq, Eq)]
 pub struct WorkerEnd {
     /// The number of whole turns that it made.
     pub turns: u64,
-    /// The number of calls that the host refused with OutOfMemory or Behind; it stops counting at 2^64 - 1. Nothing happened in
-    /// them.
+    /// The number of calls that the host refused with OutOfMemory or Behind; the count stops at 2^64 - 1. Nothing happened in these calls.
     pub refused: u64,
     pub why: Why,
 }

@@ -1,7 +1,7 @@
-//! The workers of a host: functions that run, each in a thread of its own, until they are told to end. A pump carries a node's
-//! packets (`pump::pump`). A ticker makes the time tick (`ticker::ticker`). A session answers a client's requests at a node
-//! (`session::session`, and `sessions::sessions` for many at once). Each worker calls the host through a seat of its own and
-//! waits at its gate. Nothing here knows what a port or a stream is made of. Read `pump::pump` first.
+//! The workers of a host: functions that run, each in a thread of its own, until their gates end them. A pump carries a node's packets
+//! (`pump::pump`). A ticker makes the time tick (`ticker::ticker`). A session answers a client's requests at a node (`session::session`,
+//! and `sessions::sessions` for many at once). Each worker calls the host through a seat of its own and waits at its gate. The workers do
+//! not depend on the kind of a port or a stream. Read `pump::pump` first.
 #![tactic(auto)]
 
 pub mod calling;

@@ -19,7 +19,7 @@ use gb_port::Port;
 use gb_types::{NodeId, NodeSet};
 use std::sync::Wait;
 
-/// The number of packets that a turn receives at most.
+/// The maximum number of packets that a turn receives.
 pub const PACKETS: usize = 16;
 
 /// Every `AGAIN`-th turn, the lowest unacknowledged frame is sent again to each node for which the turn's pack had no packet.
@@ -89,8 +89,8 @@ fn destination(event: &NodeEvent) -> Option<NodeId>
     }
 }
 
-// Receives at most 16 packets that have come, and returns the nodes from which a good packet came. Stops when nothing is there
-// or the port fails.
+// Receives at most 16 packets that have come, and returns the nodes from which a good packet came. Stops when no packet is there or the
+// port fails.
 fn receive<L: Tapes, H: Wait, P: Port>(
     turn: &Turn<'_, L, H>,
     seat: &mut Seat<L>,
@@ -123,8 +123,7 @@ fn receive<L: Tapes, H: Wait, P: Port>(
     Ok(heard)
 }
 
-// Makes one event happen by which a node sends to another, and sends the packet of its answer at once. Returns whether there was
-// a packet.
+// Executes one event by which a node sends to another, and sends the packet of its answer at once. Returns true if there was a packet.
 fn send_one<L: Tapes, H: Wait, P: Port>(
     turn: &Turn<'_, L, H>,
     seat: &mut Seat<L>,
@@ -204,7 +203,7 @@ fn is_ack_due(turn: u64, is_heard: bool) -> bool
     is_heard || turn % ACK == 0
 }
 
-// Sends what the turn has for one node.
+// Executes the sending events that the turn has for one node.
 fn send_to<L: Tapes, H: Wait, P: Port>(
     turn: &Turn<'_, L, H>,
     seat: &mut Seat<L>,
@@ -247,7 +246,7 @@ fn send_to<L: Tapes, H: Wait, P: Port>(
     }
 }
 
-// Sends what the turn has for each other node, in rising order of their numbers.
+// Executes the sending events that the turn has for each other node, in rising order of their numbers.
 fn send_all<L: Tapes, H: Wait, P: Port>(
     turn: &Turn<'_, L, H>,
     seat: &mut Seat<L>,
@@ -279,7 +278,7 @@ fn send_all<L: Tapes, H: Wait, P: Port>(
     Ok(())
 }
 
-// Makes one turn.
+// Executes one turn.
 fn make_turn<L: Tapes, H: Wait, P: Port>(
     turn: &Turn<'_, L, H>,
     seat: &mut Seat<L>,
@@ -308,14 +307,13 @@ fn make_turn<L: Tapes, H: Wait, P: Port>(
     }
 }
 
-/// Carries the packets of a node of a host, from a seat and over a port, for at most `turns` turns, numbered from 1. Each turn passes
-/// the gate and then receives at most 16 packets from the port, each of which is an event at the node. Then it does this for each other
-/// node, in rising order: a pack; if that returned no packet and 8 divides the turn's number, an again of the lowest unacknowledged
-/// frame; if a good packet of that node came in this turn or 16 divides the turn's number, an ack. Each packet is handed to the port at
-/// once; a packet that the port does not take is lost. Returns the number of whole turns, the number of calls that the host could not
-/// keep, and why it ended: all turns were made, the gate returned false, the node answered Stopped, or the host had another fault. A
-/// call that the host could not keep did not happen; if it was to take a packet, that packet is lost. None is counted if the host keeps
-/// no calls.
+/// Carries the packets of a node of a host, from a seat and over a port, for at most `turns` turns, numbered from 1. Each turn passes the
+/// gate and then receives at most 16 packets from the port, each of which is an event at the node. Then it does this for each other node,
+/// in rising order: a pack; if that returned no packet and 8 divides the turn's number, an again of the lowest unacknowledged frame; if a
+/// good packet of that node came in this turn or 16 divides the turn's number, an ack. Each packet is passed to the port at once; a packet
+/// that the port does not take is lost. Returns the number of whole turns, the number of calls that the host could not keep, and the reason
+/// why it ended: all turns were made, the gate returned false, the node answered Stopped, or the host had another fault. A call that the
+/// host could not keep did not happen; if it was to take a packet, that packet is lost. None is counted if the host keeps no calls.
 pub fn pump<L: Tapes, H: Wait, P: Port, G: Gate>(
     rt: &H,
     host: &Host<L>,

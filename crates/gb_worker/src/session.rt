@@ -13,7 +13,7 @@ use std::alloc::Global;
 use std::io::{Read, Write};
 use std::sync::Wait;
 
-// Returns what the client is told of a call.
+// Returns the client's reply for the outcome of a call.
 fn reply_of(outcome: Result<NodeAnswer, HostFault>) -> Reply
     ensures answered { IfOk outcome (λ a. result ≡ reply_of a) }
     ensures fault { IfErr outcome (λ why. result ≡ reply_at why) }
@@ -26,7 +26,7 @@ fn reply_of(outcome: Result<NodeAnswer, HostFault>) -> Reply
     }
 }
 
-// Answers a session's requests: a node of a host, which it asks from a seat, as long as it passes a gate.
+// Answers a session's requests with the replies of a node of a host, which it calls from a seat, as long as it passes a gate.
 #[derive(Drop)]
 struct Desk<'a, L: Tapes, H, G> {
     rt: &'a H,
@@ -62,11 +62,11 @@ impl<'a, L: Tapes, H: Wait, G: Gate> Answers for Desk<'a, L, H, G> {
     }
 }
 
-/// Holds a client's session at a node of a host, from a seat: answers the requests of `reader` by calls at the node, and writes each
-/// reply to `writer`, as `gb_session::serve::serve` does. Returns how the session ended, with the same `Err`. The gate is passed before
-/// each call. Once it has returned false, no call is made and each reply is Stopped. The reply to an operation is Denied. If the host
-/// had no memory for a call, or the node's recorder is behind, the reply is OutOfMemory; at any other fault of the host it is Stopped.
-/// In all these cases nothing happened at the node.
+/// Holds a client's session at a node of a host, from a seat: answers the requests of `reader` by calls at the node, and writes each reply
+/// to `writer`, as `gb_session::serve::serve` does. Returns the end of the session, with the same `Err`. The gate is passed before each
+/// call. Once it has returned false, no call is made and each reply is Stopped. The reply to an operation is Denied. If the host had no
+/// memory for a call, or the node's recorder is behind, the reply is OutOfMemory; at any other fault of the host it is Stopped. In all
+/// these cases nothing happened at the node.
 pub fn session<L: Tapes, H: Wait, R: Read, W: Write, G: Gate>(
     rt: &H,
     alloc: Global,

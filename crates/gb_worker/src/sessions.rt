@@ -12,7 +12,7 @@ use std::sync::Wait;
 use std::thread;
 use std::thread::Threads;
 
-/// A client: the node that it asks, the end from which its requests are read, and the end to which the replies are written.
+/// A client: the node that it calls, the end from which its requests are read, and the end to which the replies are written.
 #[derive(Drop)]
 pub struct Stream<R, W> {
     pub node: NodeId,
@@ -20,12 +20,12 @@ pub struct Stream<R, W> {
     pub writer: W,
 }
 
-/// How one of the sessions ended.
+/// The end of one of the sessions.
 pub type Ending = Result<SessionEnd, SessionFault>;
 
-/// Holds a session with each client of a host, all at once, each in a thread of its own, from a seat and by a gate of its own. If no
-/// thread can be made, the sessions are held one after the other. Returns how each ended, in the order of `streams`. `Err`, once all
-/// have ended, if there is no memory for that list.
+/// Holds a session with each client of a host, all at once, each in a thread of its own, from a seat and by a gate of its own. If no thread
+/// can be made, the sessions are held one after the other. Returns the end of each, in the order of `streams`. `Err`, once all have ended,
+/// if there is no memory for that list.
 pub fn sessions<
     L: Tapes + Send + Sync,
     H: Threads + Wait + Sync,

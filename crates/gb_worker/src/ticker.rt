@@ -35,10 +35,10 @@ fn tick<L: Tapes, H: Wait>(
     }
 }
 
-/// Makes the time of a host's nodes tick, from a seat, for at most `turns` turns. Each turn passes the gate and then makes a tick at
-/// each node that is here, in rising order; a node that has stopped is asked too. Returns the number of whole turns, the number of
-/// ticks that the host could not keep, and why it ended: all turns were made, the gate returned false, or the seat has called a node
-/// 2^64 - 1 times. A tick that the host could not keep did not happen. None is counted if the host keeps no calls.
+/// Makes the time of a host's nodes tick, from a seat, for at most `turns` turns. Each turn passes the gate and then makes a tick at each
+/// node that is here, in rising order, also at a node that has stopped. Returns the number of whole turns, the number of ticks that the
+/// host could not keep, and the reason why it ended: all turns were made, the gate returned false, or the seat has called a node 2^64 - 1
+/// times. A tick that the host could not keep did not happen. None is counted if the host keeps no calls.
 pub fn ticker<L: Tapes, H: Wait, G: Gate>(
     rt: &H,
     host: &Host<L>,

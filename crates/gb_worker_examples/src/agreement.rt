@@ -4,7 +4,7 @@ use gb_node::{NodeStep, Tape, TapeEntry};
 use gb_types::OutOfMemory;
 use std::alloc::Global;
 
-// Returns the calls of a seat, copied.
+// Returns a copy of the calls of a seat.
 fn copied(alloc: Global, calls: &[NodeStep]) -> Result<Vec<NodeStep>, OutOfMemory> {
     let mut copies = Vec::new(alloc);
     for call in calls {
@@ -49,7 +49,7 @@ fn is_call(entry: &TapeEntry, calls: &[NodeStep], place: Option<usize>) -> bool 
     entry.event.is(&call.event) && entry.answer.is(&call.answer)
 }
 
-// Returns true if a seat's entries in a node's tape are its calls at the node, in turn, each once.
+// Returns true if a seat's entries in a node's tape are its calls at the node, in order, each once.
 fn is_told_at(tape: &[TapeEntry], seat: usize, calls: &[NodeStep], node: usize) -> bool {
     let mut next = next_at(calls, 0, node);
     for entry in tape {

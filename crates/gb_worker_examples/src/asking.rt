@@ -36,7 +36,7 @@ pub const WORDS: &[u8] = b"hello";
 
 pub const LONG: &[u8] = &[b'a'; 4_096];
 
-/// The most times that a caller asks, a millisecond apart.
+/// The greatest number of times that a caller repeats a call, a millisecond apart.
 pub const PATIENCE: u64 = 10_000;
 
 fn lacks_memory(answer: &NodeAnswer) -> bool {
@@ -47,7 +47,7 @@ fn lacks_memory(answer: &NodeAnswer) -> bool {
     }
 }
 
-/// Why a call was not answered.
+/// The reason why a call was not answered.
 #[derive(Clone, Copy)]
 pub enum Unanswered {
     NoNode,
@@ -76,7 +76,7 @@ pub fn call<L: Tapes, R: Wait, G: Gate>(
     }
 }
 
-// Asks once. The caller, the host or the node may be out of memory.
+// Calls once. The caller, the host or the node may be out of memory.
 fn ask_once<L: Tapes, R: Wait>(
     rt: &R,
     alloc: Global,
@@ -94,9 +94,9 @@ fn ask_once<L: Tapes, R: Wait>(
     }
 }
 
-/// Calls a node of a host from a seat with a copy of `event`, and returns the node's answer. While there is no memory for it, asks
-/// again each millisecond, 10,000 times in all at most. `None` if there is no memory even then, or if the host refuses the call for
-/// another reason.
+/// Calls a node of a host from a seat with a copy of `event`, and returns the node's answer. While there is no memory for it, repeats the
+/// call each millisecond, 10,000 times in all at most. `None` if there is no memory even then, or if the host refuses the call for another
+/// reason.
 pub fn ask<L: Tapes, R: Wait + Clock>(
     rt: &R,
     alloc: Global,
@@ -216,7 +216,7 @@ pub fn prepare_both<L: Tapes, R: Wait + Clock>(
     }
 }
 
-// Returns the number of a message, if the answer is that it was said.
+// Returns the number of a message, if the answer is that it was said. `None` for any other answer.
 fn said(answer: &Option<NodeAnswer>) -> Option<u16> {
     match answer {
         Some(NodeAnswer::Reply(Reply::Said(seq))) => Some(*seq),

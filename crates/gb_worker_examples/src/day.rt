@@ -29,9 +29,8 @@ fn jobs_of<'s, 'r, 'a, L: Tapes, P>(
     }
 }
 
-/// Runs each role in a thread of its own, from the seat with its number, on one host, until all have ended. Returns what each of at
-/// most four roles counted, in their order, as `roles::work` returns it; 0 where there is no role, and four zeros if there was no
-/// memory for them.
+/// Runs each role in a thread of its own, from the seat with its number, on one host, until all have ended. Returns the counts of at most
+/// four roles, in their order, as `roles::work` returns them; 0 for a missing role, and four zeros if there was no memory for them.
 pub fn all_work<L: Tapes + Send + Sync, P: Port + Send + Drop, R: Threads + Wait + Clock + Sync>(
     rt: &R,
     alloc: Global,
@@ -62,7 +61,7 @@ fn first_four(counts: &[u64]) -> [u64; 4] {
     four
 }
 
-// Returns a day of two nodes that send this version, with tapes or without, and with the group of both or without.
+// Returns the results of a day of two nodes that send this version, with tapes or without, and with the group of both or without.
 fn day<P: Port + Send + Drop, R: Threads + Wait + Clock + Sync>(
     rt: &R,
     alloc: Global,
@@ -80,8 +79,8 @@ fn day<P: Port + Send + Drop, R: Threads + Wait + Clock + Sync>(
     whole(rt, alloc, version, tape, count, &mut scene).ok()
 }
 
-/// Opens a host of two nodes, with tapes or without, runs two roles on it, each in a thread of its own, and closes it. Returns what is
-/// left of the host. `None` if there is no memory or the host refuses. No group has both nodes as members.
+/// Opens a host of two nodes, with tapes or without, runs two roles on it, each in a thread of its own, and closes it. Returns the results
+/// of the host. `None` if there is no memory or the host refuses. No group has both nodes as members.
 pub fn day_of_two<R: Threads + Wait + Clock + Sync>(
     rt: &R,
     alloc: Global,
@@ -94,7 +93,7 @@ pub fn day_of_two<R: Threads + Wait + Clock + Sync>(
 }
 
 /// Opens a host of two nodes with tapes, runs four roles on it, each in a thread of its own, and closes it. The roles have the seats in
-/// this order: `first.0`, `second.0`, `first.1`, `second.1`. Returns what is left of the host. `None` if there is no memory or the host
+/// this order: `first.0`, `second.0`, `first.1`, `second.1`. Returns the results of the host. `None` if there is no memory or the host
 /// refuses. No group has both nodes as members.
 pub fn day_of_four<'a, R: Threads + Wait + Clock + Sync>(
     rt: &R,
@@ -110,7 +109,7 @@ pub fn day_of_four<'a, R: Threads + Wait + Clock + Sync>(
     day(rt, alloc, Version::One, true, false, roles)
 }
 
-// Returns a day with a pump for each of two nodes, over these ports, and two more roles.
+// Returns the results of a day with a pump for each of two nodes, over these ports, and two more roles.
 fn day_with_pumps<'a, P: Port + Send + Drop, R: Threads + Wait + Clock + Sync>(
     rt: &R,
     alloc: Global,
@@ -189,8 +188,8 @@ fn two_ticks(rt: HostRuntime) {
     assert!(rt; left.counts[0] == 2 && left.ticks == [2, 2] && left.agree);
 }
 
-// Two callers say ten messages each, more than the group takes: the first four of each are said. Their nodes' packets travel
-// over rings. Node 0's port fails at the call `at`; 0: at none.
+// Two callers say ten messages each, more than the group takes: the first four of each are said. Their nodes' packets travel over rings.
+// Node 0's port fails at the call `at`; at no call if `at` is 0.
 fn two_callers<R: Threads + Wait + Clock + Sync>(rt: &R, alloc: Global, at: u64) -> Option<Left> {
     let (first, second) = rings(alloc)?;
     let ports = (FailAt::new(first, at), FailAt::new(second, 0));

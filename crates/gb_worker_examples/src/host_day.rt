@@ -19,7 +19,7 @@ fn read_own_say(rt: HostRuntime) {
     }
 }
 
-// At the end the tapes have as many entries of each seat as it made calls. Without tapes nothing is noted.
+// At the end the tapes have as many entries of each seat as it made calls. Without tapes nothing is recorded.
 #[test]
 fn tapes_and_seats_agree(rt: HostRuntime) {
     for (tape, noted) in [(true, 6), (false, 0)] {

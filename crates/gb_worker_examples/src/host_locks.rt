@@ -40,7 +40,7 @@ impl Meeting {
     }
 }
 
-// Waits until a count is two. Returns true if it came to that.
+// Waits until a count is two. Returns true if the count reached two.
 fn wait_for_two<R: Clock>(rt: &R, count: &AtomicU64) -> bool {
     for _ in 0..PATIENCE {
         if count.load(Ordering::SeqCst) == 2 {

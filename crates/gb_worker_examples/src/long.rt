@@ -1,4 +1,4 @@
-// The longest packet: messages that fill it are said at a node of a host, and it is brought to another node. A tape of many calls. And a
+// The longest packet: messages that fill it are said at a node of a host, and it is carried to another node. A tape of many calls. And a
 // host of as many nodes as there may be, each with a seat of its own.
 use crate::asking::{BOTH, LONG, ask, call, log, say};
 use crate::plans::{FIRST, SECOND, most_nodes};
@@ -46,7 +46,7 @@ fn packed<L: Tapes, R: Wait + Clock>(
     }
 }
 
-// Returns the number of the messages that stand in a log at their index.
+// Returns the number of the messages that are in a log at their index.
 fn count_said(entries: &[Entry]) -> u64 {
     let mut count: u64 = 0;
     for (entry, words) in entries.iter().zip(&SAID) {
@@ -70,9 +70,9 @@ fn count_found<L: Tapes, R: Wait + Clock>(
     }
 }
 
-/// Says the four messages that fill the longest packet in the group `BOTH` at node 0 of a host, packs them there, and brings the packet
-/// to node 1. All calls are from the first seat. Returns four numbers: the messages that were said, the bytes of the packet, the
-/// messages that are found in the log at node 1, and 0. All are 0 without a seat.
+/// Says the four messages that fill the longest packet in the group `BOTH` at node 0 of a host, packs them there, and carries the packet to
+/// node 1. All calls are from the first seat. Returns four numbers: the messages that were said, the bytes of the packet, the messages that
+/// are found in the log at node 1, and 0. All are 0 without a seat.
 pub fn fill_a_packet<L: Tapes, R: Wait + Clock>(
     rt: &R,
     alloc: Global,

@@ -24,7 +24,7 @@ enum Answered {
     Other,
 }
 
-// Asks for a tick at a node.
+// Calls a node with a tick. Returns its answer.
 fn tick<L: Tapes, R: Wait>(rt: &R, host: &Host<L>, seat: &mut Seat<L>, node: NodeId) -> Answered {
     match call(rt, host, seat, node, NodeEvent::Tick, &mut Open) {
         Ok(_) => Answered::Well,
@@ -45,8 +45,8 @@ fn left_of(closed: &Closed) -> [(bool, usize); 2] {
     left
 }
 
-// Opens a host of node 1 alone, asks for a tick at each of both nodes, and makes three turns of ticks. Returns the answers to the
-// ticks, and what is left of each node.
+// Opens a host of node 1 alone, calls each of both nodes with a tick, and makes three turns of ticks. Returns the answers to the ticks, and
+// the results of each node.
 fn run<L: Tapes, R: Wait>(
     rt: &R,
     alloc: Global,

@@ -8,7 +8,7 @@ use std::sync::ledger::{Blank, Ledger, Share};
 use std::test::*;
 use std::thread::{Threads, join};
 
-/// What was said, and the number of lines that were said before it.
+/// A text that was said, and the number of lines that were said before it.
 #[derive(Clone, Copy)]
 struct Line {
     before: u64,

@@ -20,20 +20,20 @@ use std::time::Clock;
 // The most entries that wait for a recorder.
 const WAITING: u64 = 16_384;
 
-// What is done at a node that has a recorder.
+// The trials of a node that has a recorder.
 #[derive(Clone, Copy)]
 enum Trial {
     // Three calls are made and taken.
     InOrder,
-    // It is asked for packets, before and after it has one to send.
+    // It is called for packets, before and after it has one to send.
     Sending,
-    // It is asked for what changes nothing, and for what does.
+    // It is called with requests that change nothing, and with some that do.
     Vain,
     // Its ring is filled with entries, and one entry is taken.
     Full,
 }
 
-// Makes a call at node 1. Returns its answer, if it was answered.
+// Makes a call at node 1. Returns its answer. `None` if it was not answered.
 fn made<L: Tapes, R: Wait>(
     rt: &R,
     host: &Host<L>,
@@ -75,7 +75,7 @@ fn take_in_order<L: Tapes, R: Wait>(
     is_empty && are_taken && recorder.take().is_none()
 }
 
-// Asks node 1 for a packet. Returns whether there was one, or `None` if the answer is another one.
+// Calls node 1 for a packet. Returns true if there was one, or `None` if the answer is another one.
 fn sends<L: Tapes, R: Wait>(
     rt: &R,
     host: &Host<L>,
@@ -89,8 +89,8 @@ fn sends<L: Tapes, R: Wait>(
     }
 }
 
-// Asks for packets to node 0 while nothing waits for it, and then for those with a message. Returns true if exactly the seven
-// events that are not left out are entries, and the last one has its number among these.
+// Calls for packets to node 0 while nothing waits for it, and then for those with a message. Returns true if exactly the seven events that
+// are not left out are entries, and the last one has its number among these.
 fn send<L: Tapes, R: Wait + Clock>(
     rt: &R,
     alloc: Global,
@@ -135,7 +135,7 @@ fn send<L: Tapes, R: Wait + Clock>(
         && left == (7, 6)
 }
 
-// Makes an event happen at node 1, which is left out if its answer says that it is none. Returns its answer, if it was answered.
+// Executes an event at node 1, which is left out if its answer says that it is none. Returns its answer. `None` if it was not answered.
 fn skipped<L: Tapes, R: Wait>(
     rt: &R,
     host: &Host<L>,
@@ -167,9 +167,9 @@ fn noise(alloc: Global) -> Option<NodeEvent> {
     Some(NodeEvent::Packet(PacketText::from(bytes)))
 }
 
-// Asks for a tenant with a wrong token, and sends bytes that are no packet: these are no entries. The tenant is added, and asked for
-// again, which is refused behind the right token; and it is asked for with the wrong token by a call that leaves nothing out. Returns
-// true if exactly these three are entries, and the last one has its number among these.
+// Requests a tenant with a wrong token, and sends bytes that are no packet: these are no entries. The tenant is added, and requested again,
+// which is refused although the token is right; and it is requested with the wrong token by a call that leaves nothing out. Returns true if
+// exactly these three are entries, and the last one has its number among these.
 fn ask_in_vain<L: Tapes, R: Wait>(
     rt: &R,
     alloc: Global,
@@ -193,7 +193,7 @@ fn ask_in_vain<L: Tapes, R: Wait>(
     are_refused && is_fault(&noted) && is_empty && left == (3, 2)
 }
 
-// Asks for `times` ticks. Returns the number of ticks that are answered.
+// Makes `times` ticks. Returns the number of ticks that are answered.
 fn tick<L: Tapes, R: Wait>(rt: &R, host: &Host<L>, seat: &mut Seat<L>, times: u64) -> u64 {
     let mut count: u64 = 0;
     for _ in 0..times {
@@ -216,7 +216,7 @@ fn drain<L: Tapes>(recorder: &mut Recorder<L>) -> (u64, u64) {
     (count, last)
 }
 
-// Asks for a tenant. Returns true if it is added, and true if the answer is that the recorder is behind.
+// Requests a tenant. Returns two flags: the tenant is added, and the answer is that the recorder is behind.
 fn add<L: Tapes, R: Wait>(rt: &R, host: &Host<L>, seat: &mut Seat<L>) -> (bool, bool) {
     let event = NodeEvent::Request(add_tenant());
     match call(rt, host, seat, SECOND, event, &mut Open) {
@@ -226,8 +226,8 @@ fn add<L: Tapes, R: Wait>(rt: &R, host: &Host<L>, seat: &mut Seat<L>) -> (bool, 
     }
 }
 
-// Fills the ring with ticks, and asks for a tenant, which is refused. Once an entry is taken, asks for the tenant again. Returns
-// true if the next call of the seat then adds it, as a tenant that the node does not have.
+// Fills the ring with ticks, and requests a tenant, which is refused. Once an entry is taken, requests the tenant again. Returns true if
+// the next call of the seat then adds it, as a tenant that the node does not have.
 fn fill<L: Tapes, R: Wait>(
     rt: &R,
     host: &Host<L>,
@@ -246,7 +246,7 @@ fn fill<L: Tapes, R: Wait>(
         && left == (WAITING, WAITING)
 }
 
-// The result of a trial: true if all was as expected; true if the recorder was not told of the end before it, and was told of it
+// The result of a trial: true if all was as expected; true if the recorder was not notified of the end before it, and was notified of it
 // next; and true if the recorder then had the whole past of node 1.
 type Tried = (bool, bool, bool);
 

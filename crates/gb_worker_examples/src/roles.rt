@@ -1,4 +1,4 @@
-// What each thread of a day does, from its own seat.
+// The roles of the threads of a day, each with its own seat.
 use crate::asking::{ALONE, BOTH, PATIENCE, WORDS, ask, fetch, prepare, say};
 use crate::host_faults::is_refused;
 use crate::host_locks::{Meeting, call_behind, hold};
@@ -18,7 +18,7 @@ use std::time::{Clock, Duration};
 /// The least number of turns of a pump. Its port is asked in each turn, so each call up to this number is made.
 pub const TURNS: u64 = 50;
 
-/// What a thread does.
+/// The role of a thread.
 #[derive(Drop)]
 pub enum Role<'a, P> {
     /// Carries a node's packets until no caller is left, and for at least `TURNS` turns.
@@ -131,8 +131,8 @@ fn wait_for_message<L: Tapes, R: Wait + Clock>(
     false
 }
 
-// Makes a group of a node alone, says something and fetches it, and packs for the other node. Returns true if the message was its
-// first one, and the fetch returned exactly that message.
+// Makes a group of a node alone, says a message and fetches it, and packs for the other node. Returns true if the message was its first
+// one, and the fetch returned exactly that message.
 fn keep_to_itself<L: Tapes, R: Wait + Clock>(
     rt: &R,
     alloc: Global,
@@ -147,8 +147,8 @@ fn keep_to_itself<L: Tapes, R: Wait + Clock>(
     seq == 1 && is_fetched
 }
 
-/// Runs a role on a host, from a seat, to its end. Returns one number by the role: for a pump the failures of its port, for a ticker
-/// its turns, for a sayer the messages that were said; for each other role 1 if it went as expected, else 0. A caller that ends takes 1
+/// Runs a role on a host, from a seat, to its end. Returns one number by the role: for a pump the failures of its port, for a ticker its
+/// turns, for a sayer the messages that were said; for each other role 1 if it went as expected, otherwise 0. A caller that ends takes 1
 /// from `callers`.
 pub fn work<L: Tapes, P: Port, R: Wait + Clock>(
     rt: &R,

@@ -22,14 +22,14 @@ use std::sync::Wait;
 use std::thread::Threads;
 use std::time::Clock;
 
-/// What the seats of a host do.
+/// The actions of the seats of a host.
 #[derive(Drop)]
 pub enum Scene<'a, P> {
     /// Each role in its own thread, from the seat with its number.
     Roles(Vec<Role<'a, P>>),
     /// The same, once the group of both nodes was made from the last seat.
     InGroup(Vec<Role<'a, P>>),
-    /// Once the group of both nodes was made, messages are said in it at node 0 that fill a packet, and it is brought to node 1.
+    /// Once the group of both nodes was made, messages are said in it at node 0 that fill a packet, and the packet is carried to node 1.
     FullPacket,
     /// A node ticks a hundred thousand times.
     LongTape,
@@ -39,7 +39,7 @@ pub enum Scene<'a, P> {
     LostSeat,
 }
 
-// Plays a scene. Returns what was counted.
+// Plays a scene. Returns its counts.
 fn play<L: Tapes + Send + Sync, P: Port + Send + Drop, R: Threads + Wait + Clock + Sync>(
     rt: &R,
     alloc: Global,
@@ -66,9 +66,9 @@ fn play<L: Tapes + Send + Sync, P: Port + Send + Drop, R: Threads + Wait + Clock
     }
 }
 
-/// The results of a host: what was counted; for each of the first two seats the number of calls that it noted, and the number of
-/// its entries in the tapes; the number of ticks in each node's tape; true if the tapes agree with the list of each seat; and true
-/// if they were merged into as many events as they have entries.
+/// The results of a host: the counts of its scene; for each of the first two seats the number of calls that it recorded, and the number of
+/// its entries in the tapes; the number of ticks in each node's tape; true if the tapes agree with the list of each seat; and true if they
+/// were merged into as many events as they have entries.
 #[derive(Clone, Copy)]
 pub struct Left {
     pub counts: [u64; 4],
@@ -79,7 +79,7 @@ pub struct Left {
     pub merged: bool,
 }
 
-/// Why a host has no results.
+/// The reason why a host has no results.
 #[derive(Clone, Copy)]
 pub enum Refused {
     ForeignSeat,
@@ -101,7 +101,7 @@ fn ticks_of(tapes: &[Tape]) -> [usize; 2] {
     ticks
 }
 
-// Returns the number of calls that each of the first two seats noted.
+// Returns the number of calls that each of the first two seats recorded.
 fn calls_of(lists: &[Vec<NodeStep>]) -> [usize; 2] {
     let mut calls = [0; 2];
     for seat in 0..2 {
@@ -176,8 +176,8 @@ fn run<L: Tapes + Send + Sync, P: Port + Send + Drop, R: Threads + Wait + Clock 
     left_of(alloc, plan, counts, &close(host, seats), &lists)
 }
 
-/// Opens a host of this plan with `count` seats, plays a scene on it, and closes it. Returns what is left of the host: what was
-/// counted, and what its tapes and seats say. `Err` with `ForeignSeat` if the seats at the end are not all those of the host, and with
+/// Opens a host of this plan with `count` seats, plays a scene on it, and closes it. Returns the results of the host: the counts of the
+/// scene, and those of its tapes and seats. `Err` with `ForeignSeat` if the seats at the end are not all those of the host, and with
 /// `Other` if the host could not be opened or closed.
 pub fn whole_of<P: Port + Send + Drop, R: Threads + Wait + Clock + Sync>(
     rt: &R,
@@ -194,8 +194,8 @@ pub fn whole_of<P: Port + Send + Drop, R: Threads + Wait + Clock + Sync>(
     run::<Brand, P, R>(rt, alloc, plan, count, scene, pasts)
 }
 
-/// Opens a host of two nodes that send this version of the packet text, with tapes if `tape` and with `count` seats, plays a scene on
-/// it, and closes it. Returns what `whole_of` returns.
+/// Opens a host of two nodes that send this version of the packet text, with tapes if `tape` and with `count` seats, plays a scene on it,
+/// and closes it. Returns the results that `whole_of` returns.
 pub fn whole<P: Port + Send + Drop, R: Threads + Wait + Clock + Sync>(
     rt: &R,
     alloc: Global,

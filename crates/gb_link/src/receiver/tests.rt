@@ -4,14 +4,14 @@ ghost use Rattle.gb_types.specs.declared.limits.TheConstants.{LAST_FRAME};
 use super::*;
 use std::process::Abort;
 
-/// A receiver that received every number below the base.
+/// Returns a receiver that received every number below the base.
 fn received_below(base: u64) -> Receiver
     requires { (1 ≤ base) × (base ≤ LAST_FRAME + 1) }
 {
     Receiver { base, mask: 0 }
 }
 
-/// Each number arrives, and is answered so; the acknowledgement is then this.
+/// Lets each number arrive, and compares the result. Compares the acknowledgement at the end.
 fn arrive(
     rt: &impl Abort,
     receiver: &mut Receiver,
@@ -27,10 +27,10 @@ fn arrive(
     assert!(rt; found == acknowledgement);
 }
 
-/// The first number beyond the window, and the last within it.
+/// The first number beyond the window, and the last number in it.
 const EDGES: &[(u64, Admission)] = &[(65, Admission::Outside), (64, Admission::First)];
 
-/// Number 1 moves the window by one.
+/// The arrival of number 1 moves the window by one.
 const MOVED: &[(u64, Admission)] = &[
     (1, Admission::First),
     (65, Admission::First),
@@ -46,7 +46,7 @@ fn the_window_has_64_numbers(rt: HostRuntime) {
     arrive(&rt, &mut receiver, MOVED, (2, 3 << 62));
 }
 
-/// Bit 2 of the mask stands for base + 2.
+/// Bit 2 of the mask means that base + 2 was received.
 const REPEATED: &[(u64, Admission)] = &[
     (2, Admission::First),
     (2, Admission::Seen),
@@ -74,14 +74,14 @@ fn the_base_moves_over_a_full_window(rt: HostRuntime) {
     arrive(&rt, &mut receiver, THE_FIRST, (65, 0));
 }
 
-/// No frame has the number after the last frame's.
+/// No frame has the number after that of the last frame.
 const THE_LAST: &[(u64, Admission)] = &[
     (1, Admission::Seen),
     (LAST_FRAME, Admission::First),
     (u64::MAX, Admission::Outside),
 ];
 
-/// The last number but one fills the gap below the last.
+/// The last number but one fills the gap below the last number.
 const THE_LAST_BUT_ONE: &[(u64, Admission)] = &[
     (LAST_FRAME - 1, Admission::First),
     (u64::MAX, Admission::Outside),

@@ -2,7 +2,7 @@ use super::*;
 use std::process::Abort;
 use std::test::Fail;
 
-/// A call of a sender, and what it answers. `Pushed` is a number and its frame, `Again` a number, `Acked` base and mask.
+/// A call of a sender, and its result. `Pushed` has a number and its frame, `Again` a number, and `Acked` the base and the mask.
 #[derive(Clone, Copy)]
 enum Told {
     Room(bool),
@@ -11,7 +11,7 @@ enum Told {
     Acked(u64, u64, Option<(u64, u64)>),
 }
 
-/// Makes one call, and compares its answer.
+/// Makes one call, and compares its result.
 fn call(rt: &impl Abort, sender: &mut Sender<u64>, told: Told) -> Result<(), Fail> {
     match told {
         Told::Room(open) => {
@@ -35,7 +35,7 @@ fn call(rt: &impl Abort, sender: &mut Sender<u64>, told: Told) -> Result<(), Fai
     Ok(())
 }
 
-/// Pushes so many frames, 10, 20, 30, .., and then makes these calls.
+/// Pushes this number of frames, 10, 20, 30, .., and then makes these calls.
 fn follow(
     rt: &impl Abort,
     sender: &mut Sender<u64>,
@@ -51,7 +51,7 @@ fn follow(
     Ok(())
 }
 
-/// Frame 65 is 64 above frame 1, and 66 above frame 2; frame 3 is done out of order.
+/// Frame 65 is 64 above frame 1, and frame 66 is 64 above frame 2. Frame 3 is done out of order.
 const THE_WINDOW_ENDS: &[Told] = &[
     Told::Room(false),
     Told::Acked(1, 1 << 2, Some((3, 30))),
@@ -67,7 +67,7 @@ fn room_ends_with_the_window(rt: HostRuntime) -> Result<(), Fail> {
     follow(&rt, &mut Sender::new(rt.alloc()), 64, THE_WINDOW_ENDS)
 }
 
-/// Number 0 stands for the lowest one; frame 4 was never pushed, and what is done is not given again.
+/// Number 0 means the lowest frame. Frame 4 was never pushed, and a frame that is done is not returned again.
 const GIVEN_AGAIN: &[Told] = &[
     Told::Again(0, Some((1, 10))),
     Told::Again(3, Some((3, 30))),
@@ -96,7 +96,7 @@ fn a_mask_of_all_ones_covers_its_base(rt: HostRuntime) -> Result<(), Fail> {
     call(&rt, &mut sender, Told::Acked(1, u64::MAX, None))
 }
 
-/// Bit 1 stands for base + 1; then come a repeated acknowledgement, a stale one, and one of a frame never pushed.
+/// Bit 1 means base + 1. Then come a repeated acknowledgement, a stale one, and one of a frame that was never pushed.
 const STALE_AND_REPEATED: &[Told] = &[
     Told::Acked(3, 2, Some((1, 10))),
     Told::Acked(3, 2, Some((2, 20))),
@@ -112,7 +112,7 @@ fn stale_and_repeated_acknowledgements_cover_nothing_more(rt: HostRuntime) -> Re
     follow(&rt, &mut Sender::new(rt.alloc()), 5, STALE_AND_REPEATED)
 }
 
-/// After the last frame there is no room, whatever is done; base + 1 passes 2^64.
+/// After the last frame there is no room, whichever frames are done. The sum base + 1 exceeds 64 bits.
 const THE_LAST_FRAMES: &[Told] = &[
     Told::Room(true),
     Told::Pushed(18_446_744_073_709_551_613, 1),

@@ -2,7 +2,7 @@ use super::*;
 use std::process::Abort;
 use std::test::Fail;
 
-/// Builds a frame in the spare, and makes it the next one. Gives its number.
+/// Builds a frame in the spare, and makes it the next one. Returns its number.
 fn build(rt: &impl Abort, sender: &mut SpacedSender<Vec<u8>>, frame: &[u8]) -> Result<u64, Fail> {
     assert!(rt; !frame.is_empty());
     assert!(rt; sender.room());
@@ -12,7 +12,7 @@ fn build(rt: &impl Abort, sender: &mut SpacedSender<Vec<u8>>, frame: &[u8]) -> R
     Ok(sender.commit())
 }
 
-/// Pushes a copy of a frame, and gives its number.
+/// Pushes a copy of a frame, and returns its number.
 fn push(
     rt: &impl Abort,
     alloc: Global,
@@ -23,7 +23,7 @@ fn push(
     Ok(sender.push(Vec::from_slice(alloc, frame)?)?)
 }
 
-/// Whether the lowest undone frame has this number and these bytes.
+/// Returns whether the lowest undone frame has this number and these bytes.
 fn is_lowest(sender: &SpacedSender<Vec<u8>>, number: u64, bytes: &[u8]) -> bool {
     match sender.again(0) {
         Some((lowest, frame)) => lowest == number && frame.as_slice() == bytes,
@@ -31,7 +31,7 @@ fn is_lowest(sender: &SpacedSender<Vec<u8>>, number: u64, bytes: &[u8]) -> bool 
     }
 }
 
-/// Whether the acknowledgement hands out the frame with this number and these bytes.
+/// Returns whether `acked` returns the frame with this number and these bytes for the acknowledgement.
 fn is_done(
     sender: &mut SpacedSender<Vec<u8>>,
     base: u64,
@@ -45,7 +45,7 @@ fn is_done(
     }
 }
 
-/// Bit 1 of the mask stands for base + 1.
+/// Bit 1 of the mask means base + 1.
 #[test]
 fn a_frame_is_built_where_it_stays(rt: HostRuntime) -> Result<(), Fail> {
     let mut sender = SpacedSender::new(rt.alloc());

@@ -9,7 +9,7 @@ use Rattle.gb_fifo.specs.Marks.{marked, AreCounted}
 use Rattle.gb_fifo.proofs.MarksLemmas.{next_within_place, next_there, next_given, next_picked, next_found, next_counted}
 use Rattle.gb_fifo.proofs.marks.give_next.Goals as goal
 
--- the place that was found, as the count says it of the entries
+-- the position that was found for the count is that of the next entry
 found : (ms : List MsgId) (ks xs : List Mark) (given : List ℕ) (origin : NodeId) (node : ℕ) (o : Option ℕ) → xs ≡ ks → node ≡ origin.number → AreCounted given (marked ms ks)
     → IsPlace (is_next origin.number (slice_index given node)) (marked ms xs) o → IsPlace (next_of origin.number (marked ms ks)) (marked ms ks) o
 found ms ks xs given origin node o same is counted h =

@@ -23,7 +23,7 @@ loop-i-init g c =
       room = c.requires.room;
     }
 
--- the entries from a place on are the one there and those after it
+-- the entries from a place on are the one at the place and those after it
 split : (zs es : List Entry) (f : Entry → Entry) (i : ℕ) → es ≡ map f (take i zs) ++ drop i zs → i < length zs → i < length es → drop i zs ≡ get_or es i no_entry ∷ drop (i + 1) zs
 split zs es f i e lt lt' =
     let x = get_or es i no_entry in

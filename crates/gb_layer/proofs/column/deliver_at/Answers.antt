@@ -8,7 +8,7 @@ use Rattle.gb_layer.specs.Column.{entry_of, zipped, no_entry}
 use Rattle.gb_layer.proofs.ColumnLemmas.{zipped_get, zipped_set}
 use Rattle.gb_layer.proofs.column.deliver_at.Goals as goal
 
--- the entry at a place, from what the column has there
+-- the entry at a place, from the column's element there
 entry_at : (ms : List MsgId) (hs : List Held) (i : ℕ) (x : Held) → i < length hs → length hs ≤ length ms → x ≡ get_or hs i x → get_or (zipped ms hs) i no_entry ≡ entry_of (message_at ms i) x
 entry_at ms hs i x lt le is =
     get_or_from_slice_get (zipped ms hs) i (entry_of (message_at ms i) (get_or hs i x)) no_entry (zipped_get ms hs i x lt le) ∙ ap (entry_of (message_at ms i)) (sym is)

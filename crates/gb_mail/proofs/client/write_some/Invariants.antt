@@ -2,7 +2,7 @@ use Rattle.gb_types.specs.Common.{◌≡◌, ◌++◌, List, ℕ}
 use Rattle.std.specs.Io.KnownBytes.{Appends}
 use Rattle.gb_mail.proofs.client.write_some.Given as goal
 
--- what stands before the rest is written
+-- the bytes before the rest are written
 abbrev pub invariant-writes : goal.invariant-writes
 invariant-writes g l = record {
   part : List ℕ;

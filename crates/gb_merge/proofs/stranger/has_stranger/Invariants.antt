@@ -2,7 +2,7 @@ use Rattle.gb_types.specs.Common.{length}
 use Rattle.gb_merge.specs.Woven.{HasStranger}
 use Rattle.gb_merge.proofs.stranger.has_stranger.Given as goal
 
--- what is left has one just where the whole has one
+-- the rest has one if and only if the whole has one
 abbrev pub invariant-loop-entry : goal.invariant-loop-entry
 invariant-loop-entry l =
     (HasStranger l.reader l.a l.sent l.left → HasStranger l.reader l.a l.sent l.fn.left) × (HasStranger l.reader l.a l.sent l.fn.left → HasStranger l.reader l.a l.sent l.left)

@@ -1,4 +1,4 @@
--- The parts of the word, one a turn.
+-- The parts of the word are read one after the other.
 use Rattle.gb_types.specs.Common.{◌≡◌, ◌<◌, ◌≤◌, ◌+◌, length, get_or, sym, ap, ◌∙◌, subst, arith, rules, tests, eqb, refl, length_push, limits_of}
 use Rattle.std.specs.Slice.Iter.{split_rest, split_done, split_callee}
 use Rattle.std.proofs.{lemmas.Iterator.Consumers.YieldsList-turn, lemmas.Iterator.Consumers.YieldsList-end, lemmas.Iterator.Splits.YieldsList-from_slice_split}

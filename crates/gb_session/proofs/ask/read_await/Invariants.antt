@@ -3,7 +3,7 @@ use Rattle.gb_session.specs.Asks.{SpellsPlaces}
 use Rattle.gb_session.proofs.AskLemmas.{AreOnly}
 use Rattle.gb_session.proofs.ask.read_await.Given as goal
 
--- the words up to the rest spell these places, and no others
+-- the words before the rest spell these places, and no others
 abbrev pub invariant-places : goal.invariant-places
 invariant-places l = record {
   spelt : SpellsPlaces l.places.items (map (λ word. word.now) l.words) (map (λ word. word.now) l.rest);

@@ -4,7 +4,7 @@ use Rattle.gb_session.specs.Runs.{IsRun}
 use Rattle.gb_session.specs.Settled.{FindsNone}
 use Rattle.gb_session.proofs.session.find.Given as goal
 
--- there is nothing at the places so far
+-- the places so far have nothing
 abbrev pub invariant-places : goal.invariant-places
 invariant-places g l = record {
   within : l.at ≤ length l.places;

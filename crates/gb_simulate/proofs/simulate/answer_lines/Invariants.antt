@@ -4,7 +4,7 @@ use Rattle.gb_simulate.specs.Progress.{IsAt}
 use Rattle.gb_simulate.specs.Schedule.{HasNodes}
 use Rattle.gb_simulate.proofs.simulate.answer_lines.Given as goal
 
--- from where this began the lines so far are answered
+-- the lines since the loop began are answered
 abbrev pub invariant-loop-run : goal.invariant-loop-run
 invariant-loop-run g l = record {
   at : (input before : List ℕ) → IsAt input before l.initial.run.number (Some l.initial.cluster) (left l.initial.run.lines (g.R.Read.remaining l.initial.reader)) (g.W.Write.contents l.initial.writer) l.initial.run.gathered.items

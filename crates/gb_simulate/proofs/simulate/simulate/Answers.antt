@@ -23,7 +23,7 @@ stopped same_end (Err Read) equal = absurd (false≢true equal)
 stopped same_end (Err OutOfMemory) equal = absurd (false≢true equal)
 stopped same_end (Err Write) equal = refl
 
--- at the end
+-- at the end the text is written
 written : (g : Over) (c : goal.After-drop-run-4 g) (i b : List ℕ) → IsAt i b 1 None (prepend_known [] (g.R.Read.remaining c.args.reader.now)) (g.W.Write.contents c.args.writer.now) []
     → IsWrittenTo c.answer_all-outcome.result i b (g.R.Read.remaining c.answer_all-outcome.new.reader) (g.W.Write.contents c.if-ne.writer)
 written g c i b start =

@@ -3,7 +3,7 @@ use Rattle.std.specs.Io.KnownBytes.{Appends}
 use Rattle.gb_simulate.proofs.WritingLemmas.{appends_more}
 use Rattle.gb_simulate.proofs.writing.write_text.Goals as goal
 
--- what is behind a front, as a slice gives it
+-- an upper bound on the length of a slice of the bytes behind a prefix
 within_rest : (text : List ℕ) (k n : ℕ) → k ≤ length text → n ≤ length (take (length text - k) (drop k text)) → n ≤ length text - k
 within_rest text k n low high =
     let rest : length (drop k text) ≡ length text - k = length-drop k text in

@@ -2,7 +2,7 @@ use Rattle.gb_types.specs.Common.{◌≤◌, length, take}
 use Rattle.std.specs.Io.KnownBytes.{Appends}
 use Rattle.gb_simulate.proofs.writing.write_text.Given as goal
 
--- a front is written
+-- a prefix is written
 abbrev pub invariant-loop : goal.invariant-loop
 invariant-loop g l = record {
   within : l.written ≤ length l.text;

@@ -1,4 +1,4 @@
--- The parts of the word, one a turn.
+-- The parts of the word, one in each turn of the loop.
 use Rattle.gb_types.specs.Common.{◌≡◌, ◌<◌, length, get_or, sym, ap, ◌∙◌, arith, rules, tests, eqb, refl, length_push}
 use Rattle.std.specs.Slice.Iter.{split_rest, split_done, split_callee}
 use Rattle.std.proofs.{lemmas.Fmt.decimal_injective, lemmas.Iterator.Consumers.YieldsList-turn, lemmas.Iterator.Consumers.YieldsList-end, lemmas.Iterator.Splits.YieldsList-from_slice_split}

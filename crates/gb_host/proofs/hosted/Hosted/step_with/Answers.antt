@@ -154,7 +154,7 @@ returns-clause-goes_on g c = λ _.
     subst (λ (v : SeatValue). GoesOn p c.args.self.now.me v new c.args.event answer) c.seat.view_is
     (subst (λ (v : HostedValue). GoesOn p v.me old new c.args.event answer) c.self.view_is goes)
 
--- what the law says of what is left out
+-- the law of events that are left out
 pub invariant_of-self-then-is_left_out : goal.invariant_of-self-then-is_left_out
 invariant_of-self-then-is_left_out g c =
     let h = c.self.inside in
