@@ -320,7 +320,10 @@ fn audit_files(rt: &HostRuntime, names: &Names<'_>) -> Result<u8, Trouble> {
         print(rt, &lines)?;
         return Ok(1);
     };
-    let Joined { names: files, texts } = joined;
+    let Joined {
+        names: files,
+        texts,
+    } = joined;
     let mut sources: Vec<Source<'_>> = Vec::new(alloc);
     for place in 0..files.len().min(texts.len()) {
         sources.push(Source {

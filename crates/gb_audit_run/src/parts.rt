@@ -1,9 +1,8 @@
 //! Records that have parts, as they are audited: the parts of a node's record are one text, that of a record without parts.
-use gb_record_text::PartFault;
-use gb_record_text::PartHead;
 use gb_record_text::head::put_head;
 use gb_record_text::part_head::read_part_head;
 use gb_record_text::reader::cut_line;
+use gb_record_text::{PartFault, PartHead};
 use gb_spelling::number::put_number;
 use gb_types::OutOfMemory;
 use gb_types::limits::NODES;
@@ -64,12 +63,7 @@ fn put_field(out: &mut Vec<u8>, name: &[u8], number: u64) -> Result<(), OutOfMem
 }
 
 // Appends the line `gap FILE line 1`, or `not one cluster: FILE`.
-fn refuse(
-    lines: &mut Vec<u8>,
-    front: &[u8],
-    name: &str,
-    back: &[u8],
-) -> Result<bool, OutOfMemory> {
+fn refuse(lines: &mut Vec<u8>, front: &[u8], name: &str, back: &[u8]) -> Result<bool, OutOfMemory> {
     put_bytes(lines, front)?;
     put_bytes(lines, name.as_bytes())?;
     put_bytes(lines, back)?;
@@ -185,9 +179,11 @@ fn join_node(
     put_bytes(&mut joining.text, b"\n")?;
     let mut least: u64 = 0;
     while let Some(place) = next_part(heads, first.cluster.node.number, least) {
-        let (Some(Some(head)), Some(name), Some(text)) =
-            (heads.get(place), names.get(place), texts.get(place))
-        else {
+        let (Some(Some(head)), Some(name), Some(text)) = (
+            heads.get(place),
+            names.get(place),
+            texts.get(place),
+        ) else {
             return Ok(None);
         };
         if !joining.add(name, head, text, lines)? {
@@ -242,7 +238,9 @@ pub fn join_parts(
                         return Ok(None);
                     }
                     let Joining {
-                        name: whole, text, ..
+                        name: whole,
+                        text,
+                        ..
                     } = made;
                     joined.names.push(whole)?;
                     joined.texts.push(text)?;

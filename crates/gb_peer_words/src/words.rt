@@ -9,8 +9,8 @@ use clap::{ArgMatches, Command};
 use gb_serve_words::limits::{limit_arg, limits_given, limits_refusal};
 use gb_serve_words::options::{
     CONNECTIONS, IDLE, connections_arg, fault_from, flag_arg, folder_refusal, idle_arg, is_folder,
-    may_stand, number_arg, quiet_arg, record_arg, requests_arg, resume_arg, sessions_arg, status_arg, status_of,
-    status_refusal, stop_arg, sync_arg, text_arg, text_asked,
+    may_stand, number_arg, quiet_arg, record_arg, requests_arg, resume_arg, sessions_arg,
+    status_arg, status_of, status_refusal, stop_arg, sync_arg, text_arg, text_asked,
 };
 use gb_serve_words::{TenantLimits, WordFault};
 use gb_types::limits::NODES;

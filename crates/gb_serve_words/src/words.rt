@@ -8,8 +8,8 @@ use crate::fault::WordFault;
 use crate::limits::{limit_arg, limits_given, limits_refusal};
 use crate::options::{
     CONNECTIONS, HINT, IDLE, connections_arg, fault_from, flag_arg, folder_refusal, idle_arg,
-    is_folder, may_stand, number_arg, quiet_arg, record_arg, requests_arg, resume_arg, sessions_arg, status_arg,
-    status_of, status_refusal, stop_arg, sync_arg, text_arg, text_asked,
+    is_folder, may_stand, number_arg, quiet_arg, record_arg, requests_arg, resume_arg,
+    sessions_arg, status_arg, status_of, status_refusal, stop_arg, sync_arg, text_arg, text_asked,
 };
 use crate::plan::{ServePlan, ServeWords};
 use clap::{ArgMatches, Command};

@@ -19,7 +19,12 @@ use std::io::Write;
 use std::net::SocketAddr;
 
 /// Appends a number, with words before it and behind it.
-pub(crate) fn put_with(text: &mut Vec<u8>, front: &[u8], number: u64, back: &[u8]) -> Result<(), OutOfMemory>
+pub(crate) fn put_with(
+    text: &mut Vec<u8>,
+    front: &[u8],
+    number: u64,
+    back: &[u8],
+) -> Result<(), OutOfMemory>
     ensures { OnOk result (text.new.items ≡ text.old.items ++ (front.now ++ decimal number ++ back.now)) }
 {
     put_bytes(text, front)?;

@@ -17,12 +17,7 @@ fn put_part(text: &mut Vec<u8>, part: u32, why: &[u8]) -> Result<(), OutOfMemory
 }
 
 // Appends which part it is, and what is wrong with a line of it.
-fn put_line(
-    text: &mut Vec<u8>,
-    place: Place,
-    front: &[u8],
-    back: &[u8],
-) -> Result<(), OutOfMemory>
+fn put_line(text: &mut Vec<u8>, place: Place, front: &[u8], back: &[u8]) -> Result<(), OutOfMemory>
     ensures { OnOk result (text.new.items ≡ text.old.items ++ line_words place front.now back.now) }
 {
     put_part(text, place.part, front)?;
@@ -46,7 +41,11 @@ fn put_record_words(text: &mut Vec<u8>, fault: ResumeFault) -> Result<(), OutOfM
             b"it is of another node, or of a cluster with another number of nodes, silence, room or version",
         ),
         ResumeFault::OtherKey(part) => {
-            put_part(text, part, b"it was written under other keys or another plan")
+            put_part(
+                text,
+                part,
+                b"it was written under other keys or another plan",
+            )
         }
         ResumeFault::Unsynced(part) => put_part(
             text,
@@ -69,12 +68,7 @@ fn put_record_words(text: &mut Vec<u8>, fault: ResumeFault) -> Result<(), OutOfM
 }
 
 // Appends for how long a node was down.
-fn put_down(
-    text: &mut Vec<u8>,
-    node: u8,
-    seconds: u64,
-    silence: u64,
-) -> Result<(), OutOfMemory>
+fn put_down(text: &mut Vec<u8>, node: u8, seconds: u64, silence: u64) -> Result<(), OutOfMemory>
     ensures { OnOk result (text.new.items ≡ text.old.items ++ down_words node seconds silence) }
 {
     put_two(
@@ -85,7 +79,12 @@ fn put_down(
         seconds,
         b" seconds, longer than the silence of ",
     )?;
-    put_with(text, b"", silence, b": the others have noticed it. Start all nodes in the next run")
+    put_with(
+        text,
+        b"",
+        silence,
+        b": the others have noticed it. Start all nodes in the next run",
+    )
 }
 
 /// Appends why a node does not go on from its record. `Err` if there is no memory.

@@ -32,7 +32,11 @@ pub enum NotResumed {
     Running(u8),
     /// The node was down for this number of seconds, longer than the silence, in seconds.
     #[error("node {node} was down for {seconds} s")]
-    Down { node: u8, seconds: u64, silence: u64 },
+    Down {
+        node: u8,
+        seconds: u64,
+        silence: u64,
+    },
     /// The system does not tell its boot.
     #[error("the boot of the system is not known")]
     NoBoot,

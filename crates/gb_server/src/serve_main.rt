@@ -126,11 +126,7 @@ fn options_of(plan: ServePlan, connections: u64, resumes: bool) -> LoopOptions
 }
 
 // What a server is told by its plan.
-fn service_of(
-    alloc: Global,
-    plan: ServePlan,
-    starts: &[PartStart],
-) -> Result<Service, OutOfMemory>
+fn service_of(alloc: Global, plan: ServePlan, starts: &[PartStart]) -> Result<Service, OutOfMemory>
     requires { IsWithin plan }
     ensures { IfOk result (λ service. service.line.items ≡ serving_line plan.nodes plan.base_port) }
 {

@@ -375,7 +375,11 @@ fn words_say_where_records_are_kept(rt: HostRuntime) {
 // Lines, the number of the run that they name, and whether nodes go on.
 static RUNS: [(&str, Option<u64>, bool); 4] = [
     ("gb_serve --nodes 1 --base-port 1024", None, false),
-    ("gb_serve --nodes 1 --base-port 1024 --run 0", Some(0), false),
+    (
+        "gb_serve --nodes 1 --base-port 1024 --run 0",
+        Some(0),
+        false,
+    ),
     (
         "gb_serve --nodes 1 --base-port 1024 --run 18446744073709551615",
         Some(18_446_744_073_709_551_615),
