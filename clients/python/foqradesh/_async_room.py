@@ -130,7 +130,8 @@ class AsyncRoom(RoomBase):
         - `repeat` is for the last say of the same room; otherwise ValueError is raised. If the
           message has a position in the order, it is found, and otherwise it is said anew: once in
           all.
-        - UnknownOutcomeError: the message was said, and is not delivered here yet. It may pass.
+        - UnknownOutcomeError: the message was said, and is not delivered here yet. It may pass. If
+          its `__cause__` is SpentError it does not: the generation that shows it was dropped here.
 
         SpentError: the last generation, 4,294,967,295, is full. The other refusals are those of
         `make`, `open` and `say`. MissingTokenError is raised if a client has no token for a

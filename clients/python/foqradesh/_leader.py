@@ -20,10 +20,10 @@ from ._errors import (
     WrongPhaseError,
 )
 from ._generations import LAST_GENERATION, LIVING, MARKER, Pause, Plan, asked, between_tries
-from ._leader_log import SEAL, LedLog, LedNodes, decide, ends_message, said_message
+from ._leader_log import SEAL, LedLog, LedNodes, ends_message, said_message
 from ._reading import Ended, Reader, ReadLog
 from ._replies import Entry
-from ._speaking import AGAIN, RoomNumber, Speaker
+from ._speaking import AGAIN, RoomNumber, Speaker, Speech
 from ._words import LONGEST_PAYLOAD, MOST_ENTRIES
 
 
@@ -51,8 +51,7 @@ class LedReader(Reader):
 
     def _show_all(self) -> None:
         logs = self._led_logs()
-        self._led.note_seals(logs)
-        decide(logs)
+        self._led.judge(logs)
         for log in logs:
             self.ready.extend(log.fresh())
             if not log.is_over():
@@ -116,8 +115,9 @@ class LedSpeaker(Speaker):
         log = self._logs.get(generation)
         if log is None:
             log = self._logs[generation] = LedLog(generation, self._led, self._led.node)
-            for old in [it for it in self._logs if it < generation - 2 * LIVING]:
-                del self._logs[old]
+            for old, known in list(self._logs.items()):
+                if old < generation - 2 * LIVING and known.is_over():
+                    del self._logs[old]
             self._others = {it: at for it, at in self._others.items() if it[1] in self._logs}
             self._seals = {it for it in self._seals if it[1] in self._logs}
         return log
@@ -126,6 +126,17 @@ class LedSpeaker(Speaker):
         """Return True if seals end a generation, because its leader crashed for some member."""
         crashed = self._led.speaker(generation) in self._led.absent
         return crashed or self._log(generation).sealed is not None
+
+    def _go_on(self, speech: Speech, end: float) -> Plan[None]:
+        """Start the next generation, and close this one.
+
+        If this one's leader crashed before anything was said here, some nodes may lack it. It is
+        made there first, because a room at a node without it does not say its end.
+        """
+        generation = speech.generation
+        if self._is_cut(generation) and self._log(generation).place == 0:
+            yield from self._led.start(generation, end)
+        yield from super()._go_on(speech, end)
 
     def _close(self, generation: int, end: float) -> Plan[None]:
         """End the messages that count in a generation, by its leader's marker or by seals."""
@@ -173,8 +184,9 @@ class LedSpeaker(Speaker):
             for log in logs[-LIVING:]:
                 is_living = yield from nodes.look(nodes.node, log.generation)
                 log.is_gone = is_living is False
-                if is_living is None:
+                if is_living is None:  # The server was started anew.
                     self._logs.pop(log.generation, None)
+                    nodes.ends.pop(log.generation, None)
         else:
             log = logs[-LIVING:][found.index]
             for entry in found.entries:
@@ -182,9 +194,7 @@ class LedSpeaker(Speaker):
                 log.take(entry, nodes.spec)
             if not found.entries:
                 return False
-        every = [self._logs[it] for it in sorted(self._logs)]
-        nodes.note_seals(every)
-        decide(every)
+        nodes.judge([self._logs[it] for it in sorted(self._logs)])
         return True
 
     def _read_all(self) -> Plan[None]:
@@ -193,10 +203,19 @@ class LedSpeaker(Speaker):
             pass
 
     def _extend(self) -> Plan[None]:
-        """Read the next generation too, once the members go on to it."""
+        """Read the next generation too, once the members go on to it.
+
+        The one behind a generation that is not over is read too. It may have that one's end.
+        """
         if not self._logs:
             return
         nodes, newest = self._led, self._logs[max(self._logs)]
+        for generation in range(min(self._logs), newest.generation):
+            log = self._logs.get(generation)
+            if log is None or log.is_over() or generation + 1 in self._logs:
+                continue
+            if (yield from nodes.look(nodes.node, generation + 1)):
+                self._log(generation + 1)
         if newest.generation == LAST_GENERATION or not newest.is_left():
             return
         is_living = yield from nodes.look(nodes.node, newest.generation + 1)
@@ -238,23 +257,26 @@ class LedSpeaker(Speaker):
         number, message = RoomNumber(generation, 1), ends_message(ends)
         try:
             yield from self._settled(message, number, repeated=False)
-        except WrongPhaseError:
+        except (WrongPhaseError, NoGroupError):
             yield from self._led.start(generation, end)
             yield from self._settled(message, number, repeated=False)
 
     def _ends_before(self, generation: int, end: float) -> Plan[Dict[int, int]]:
         """Close the generations before one, and return how many messages of the sealed ones count.
 
-        It goes down to one whose first message has the ends of those before it. It ends early if
-        another room has said the first message of this generation.
+        It goes down to one whose first message has the ends of those before it, or that was dropped
+        here, because its end and theirs were known then. It ends early if another room has said the
+        first message of this generation.
         """
         nodes, ends = self._led, {}
         for lower in range(generation - 1, max(-1, generation - 1 - LIVING), -1):
             if not (yield from nodes.look(nodes.node, lower)):
-                continue
+                return ends
             log = self._log(lower)
             while not log.is_over() and not self._has_first(generation):
                 yield from self._close(lower, end)
+                if log.is_over():
+                    break
                 cut = (yield from self._cut(lower, end)) if self._is_cut(lower) else None
                 if cut is not None:
                     ends[lower], first = cut
@@ -397,7 +419,8 @@ class LedSpeaker(Speaker):
         except (BudgetError, BytesError):
             self._open, self.speech.is_full = None, True
             return None
-        except WrongPhaseError:
+        except (WrongPhaseError, NoGroupError):
+            # A client has begun the generation, and may not have made it at the leader's node.
             self._open = None
             if self.speech.was_opened:
                 raise
@@ -446,11 +469,15 @@ class LedSpeaker(Speaker):
 
     def _wait_for(self, number: RoomNumber, message: bytes, end: float) -> Plan[bool]:
         log = self._log(number.generation)
-        while log.count() < number.number and not log.is_over():
+
+        def is_known() -> bool:
+            return log.count() >= number.number or log.is_over()
+
+        while not is_known():
             self._doubt = (number.generation, float("inf"))
             if not log.is_decided and self._led.speaker(log.generation) in self._led.absent:
                 yield from self._prepare(len(message), end)
-            elif not (yield from self._read(end)) and self._led.clock() >= end:
+            if not is_known() and not (yield from self._read(end)) and self._led.clock() >= end:
                 raise self._late("it", number.generation)
         if log.is_gone and log.count() < number.number:
             raise SpentError(f"{SpentError.text()}: {self._led.text(log.generation)}")

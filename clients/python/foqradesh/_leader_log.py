@@ -16,7 +16,7 @@ from __future__ import annotations
 import struct
 from typing import Dict, List, Mapping, Optional, Sequence
 
-from ._generations import LIVING, MARKER, Nodes
+from ._generations import LIVING, LOOKED_AT, MARKER, Nodes
 from ._operations import Operations
 from ._reading import ReadLog, RoomEntry
 from ._replies import Entry
@@ -87,21 +87,51 @@ class LedNodes(Nodes):
                 f" 3 messages, {2 * _LONGEST_ENDS} bytes"
             )
         self.leader = leader
+        # How many messages count in the latest generations whose end is known. None: all up to the
+        # marker.
+        self.ends: Dict[int, Optional[int]] = {}
 
     def speaker(self, generation: int) -> int:
         """Return the node that leads a generation: the members take turns, from the first on."""
         members = self.spec.members
         return members[(members.index(self.leader) + generation) % len(members)]
 
-    def note_seals(self, logs: Sequence[LedLog]) -> None:
-        """Note that the leaders have crashed whose generations this member has sealed here.
+    def judge(self, logs: Sequence[LedLog]) -> None:
+        """Note what the logs at this member's node show. They are given lowest first.
 
-        So it is enough to call `exclude` for one room.
+        A generation that is missing between two of them no longer lives there. If this member has
+        sealed a generation, its leader has crashed, so it is enough to call `exclude` for one room.
         """
         for log in logs:
             leader = self.speaker(log.generation)
             if log.sealed is not None and leader != self.node:
                 self.absent.add(leader)
+        for place in range(len(logs) - 1, -1, -1):
+            self._decide(logs[place], logs[place + 1 :])
+
+    def _decide(self, log: LedLog, later_logs: Sequence[LedLog]) -> None:
+        """Note how many messages count in a generation, if the later ones show it.
+
+        The first message of the next generation in which something counts has the ends of all those
+        before it that no other one has. If it does not name one, that one ends with its marker. A
+        sealed generation is skipped if nothing shows its end any more.
+        """
+        generation = log.generation
+        if generation not in self.ends:
+            for expected, later in enumerate(later_logs, generation + 1):
+                is_missing = later.generation != expected
+                first = None if is_missing else later.first()
+                if first is not None:
+                    self.ends[generation] = read_ends(first).get(generation)
+                elif is_missing or later.is_gone:
+                    log.is_gone = log.is_gone or log.sealed is not None
+                elif later.is_over():
+                    continue
+                break
+        if generation in self.ends:
+            log.decide(self.ends[generation])
+            for old in [it for it in self.ends if it <= generation - LOOKED_AT]:
+                del self.ends[old]
 
     def sealing(self, generation: int) -> List[int]:
         """Return the nodes whose members seal a generation: those that run, without its leader."""
@@ -168,10 +198,6 @@ class LedLog(ReadLog):
         """Return the first message that counts and is no marker, if one is known."""
         return self.messages[0] if self.count() > 0 and self.messages[0] != MARKER else None
 
-    def is_empty(self) -> bool:
-        """Return True if no message that was said here counts."""
-        return self.is_over() and self.first() is None
-
     def fresh(self) -> List[RoomEntry]:
         """Return the messages that count and were not shown before."""
         entries = []
@@ -182,22 +208,3 @@ class LedLog(ReadLog):
                 entries.append(RoomEntry(origin, self.generation, number, payload))
         self._shown = max(self._shown, self.count())
         return entries
-
-
-def decide(logs: Sequence[LedLog]) -> None:
-    """Note the ends in the first messages of generations. The logs are given lowest first.
-
-    The first message of the next generation in which something counts has the ends of all those
-    before it that no other one has. If it does not name one, that one ends with its marker.
-    """
-    for place in range(len(logs) - 2, -1, -1):
-        for later in logs[place + 1 :]:
-            first = later.first()
-            if first is not None:
-                logs[place].decide(read_ends(first).get(logs[place].generation))
-                break
-            if later.is_gone:
-                logs[place].is_gone = logs[place].is_gone or logs[place].sealed is not None
-                break
-            if not later.is_empty():
-                break

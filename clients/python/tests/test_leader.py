@@ -26,17 +26,18 @@ from foqradesh import (
     RoomEntry,
     RoomNumber,
     Spec,
+    SpentError,
     TimedOutError,
     TooLongError,
     UnansweredError,
     UnknownOutcomeError,
 )
+from foqradesh._leader import LedSpeaker
 from foqradesh._leader_log import (
     ENDS,
     SEAL,
     LedLog,
     LedNodes,
-    decide,
     ends_message,
     read_ends,
     said_message,
@@ -151,7 +152,10 @@ class OrderTests(Ordered):
                 self.assertEqual([len(it) for it in cluster.living()], [1] * 3)
                 self.assertLessEqual(max(node.most for node in cluster.nodes), 3)
                 for room in rooms:
-                    self.assertLess(len(room._plans.nodes.marked), 20)
+                    nodes = room._plans.nodes
+                    assert isinstance(nodes, LedNodes)
+                    self.assertLess(len(nodes.marked), 20)
+                    self.assertLessEqual(len(nodes.ends), 16)
 
     def test_a_say_returns_when_it_stands_at_the_members_own_node(self) -> None:
         cluster = timed()
@@ -191,6 +195,23 @@ class OrderTests(Ordered):
             assert error.number is not None
             room.say(b"+1", repeat=RoomNumber(0, error.number))
         self.assertEqual([it.payload for it in rooms[0].follow(idle=0.5)], [b"+1"] * 3)
+
+    def test_a_generation_that_is_half_made(self) -> None:
+        # It is made and opened at each node, also where the room's own member's node alone has it.
+        for steps in range(7):
+            with self.subTest(steps=steps):
+                cluster = timed()
+                room, clients = room_of(cluster, 0), cluster.clients()
+                for count in range(6):
+                    room.say(str(count).encode())
+                for node in ALL[:steps]:
+                    clients[node].make(7, Generation(1, 1), SPEC)
+                for node in ALL[: max(0, steps - 3)]:
+                    clients[node].open(7, Generation(1, 1))
+                self.assertEqual(room_of(cluster, 0).say(b"6"), (1, 1))
+                self.assertEqual(room_of(cluster, 2).say(b"7"), (1, 2))
+                heard = [it.payload for it in room_of(cluster, 1).follow(idle=1.0)]
+                self.assertEqual(heard, [str(count).encode() for count in range(8)])
 
     def test_what_cannot_be(self) -> None:
         cluster = timed()
@@ -374,6 +395,156 @@ class CrashTests(Ordered):
         hear(rooms[1:], heard[1:], 1.0)
         self.assert_one_order(heard[1:], [b"a", b"b", b"c"])
 
+    def test_what_was_said_behind_the_seals_is_not_taken_as_said(self) -> None:
+        # The leader runs on, and was excluded. It takes node 2's message, whose reply is lost. Then
+        # generation 1, which says the end, is dropped at node 2.
+        for is_read in (True, False):
+            with self.subTest(is_read=is_read):
+                cluster = timed()
+                spec = Spec("fmajority", ALL, 8, 4_096, 8)
+                rooms = [room_of(cluster, node, spec, patience=30.0) for node in ALL]
+                heard: List[List[RoomEntry]] = [[], []]
+                rooms[2].say(b"a")
+                rooms[1].exclude(0)
+                rooms[1].say(b"b")
+                cluster.fate = lambda node, body: "no reply" if body.startswith("say") else "carry"
+                with self.assertRaises(TimedOutError) as caught:
+                    rooms[2].say(b"c")
+                self.assertEqual((caught.exception.generation, caught.exception.number), (0, 2))
+                cluster.fate = lambda node, body: "carry"
+                ends = [payload[-1:] for payload in cluster.payloads(2, 0)]
+                self.assertEqual(ends, [b"a", SEAL, SEAL, b"c"])
+                for count in range(6):
+                    rooms[1].say(str(count).encode())
+                if is_read:
+                    hear(rooms[1:], heard, 1.0)
+                    hear(rooms[1:], heard, 1.0)
+                else:
+                    cluster.client(2).drop(7, Generation(1, 1))
+                self.assertEqual(cluster.living()[2], [0, 2])
+                if is_read:
+                    self.assertEqual(rooms[2].say(b"c", repeat=RoomNumber(0, 2)), (2, 3))
+                else:
+                    with self.assertRaises(UnknownOutcomeError) as unknown:
+                        rooms[2].say(b"c", repeat=RoomNumber(0, 2))
+                    self.assertIsInstance(unknown.exception.__cause__, SpentError)
+                self.assertEqual(rooms[2].say(b"d").generation, 2)
+                hear(rooms[1:], heard, 1.0)
+                hear(rooms[1:], heard, 1.0)
+                if is_read:
+                    said = [b"a", b"b", *(str(count).encode() for count in range(6)), b"c", b"d"]
+                    self.assert_one_order(heard, said)
+                else:
+                    self.assertEqual([it.payload for it in heard[1]], [b"a", b"4", b"5", b"d"])
+
+    def test_a_generation_between_is_read_for_an_end(self) -> None:
+        # The room speaks in generation 2, because its reader has read the one before to its end.
+        cluster = timed()
+        spec = Spec("fmajority", ALL, 8, 4_096, 8)
+        rooms = [room_of(cluster, node, spec, patience=30.0) for node in ALL]
+        rooms[2].say(b"a")
+        rooms[1].exclude(0)
+        rooms[1].say(b"b")
+        cluster.fate = lambda node, body: "no reply" if body.startswith("say") else "carry"
+        self.assertRaises(TimedOutError, rooms[2].say, b"c")
+        cluster.fate = lambda node, body: "carry"
+        for count in range(6):
+            rooms[1].say(str(count).encode())
+        self.assertEqual(len(list(rooms[2].follow(idle=1.0, drops=False))), 8)
+        self.assertEqual(cluster.living()[2], [0, 1, 2])
+        nodes = rooms[2]._plans.nodes
+        assert isinstance(nodes, LedNodes)
+        self.assertEqual(nodes.ends, {0: 1})
+        nodes.ends.clear()  # As if many generations had ended since.
+        self.assertEqual(rooms[2].say(b"c", repeat=RoomNumber(0, 2)), (2, 3))
+
+    def test_a_say_is_repeated_many_generations_later(self) -> None:
+        # The ends of the latest 16 generations are known.
+        for later, is_known in ((45, True), (120, False)):
+            with self.subTest(later=later):
+                cluster = timed()
+                spec = Spec("fmajority", ALL, 8, 4_096, 8)
+                rooms = [room_of(cluster, node, spec, patience=1_000.0) for node in ALL]
+                heard: List[List[RoomEntry]] = [[], []]
+                rooms[2].say(b"a")
+                rooms[1].exclude(0)
+                rooms[1].say(b"b")
+                cluster.fate = lambda node, body: "no reply" if body.startswith("say") else "carry"
+                self.assertRaises(TimedOutError, rooms[2].say, b"c")
+                cluster.fate = lambda node, body: "carry"
+                said = [b"a", b"b", *(str(count).encode() for count in range(later)), b"c"]
+                for text in said[2:-1]:
+                    rooms[1].say(text)
+                    hear(rooms[1:], heard)
+                hear(rooms[1:], heard, 1.0)
+                newest = cluster.living()[1][0]
+                self.assertEqual(cluster.living()[1:], [[newest], [0, newest]])
+                begun = cluster.clock()
+                if is_known:
+                    number = rooms[2].say(b"c", repeat=RoomNumber(0, 2))
+                    self.assertGreaterEqual(number.generation, newest)
+                else:
+                    with self.assertRaises(UnknownOutcomeError) as caught:
+                        rooms[2].say(b"c", repeat=RoomNumber(0, 2))
+                    self.assertIsInstance(caught.exception.__cause__, SpentError)
+                    rooms[2].say(b"c")
+                self.assertLess(cluster.clock() - begun, 1.0)
+                hear(rooms[1:], heard, 1.0)
+                self.assert_one_order(heard, said)
+
+    def test_a_wait_for_what_nothing_shows_ends_in_time(self) -> None:
+        cluster = timed()
+        room = room_of(cluster, 2, patience=1.0)
+        room.join()
+        cluster.held = {(0, 1), (0, 2)}
+        self.assertRaises(UnknownOutcomeError, room.say, b"a")
+        room.exclude(0)
+        begun = cluster.clock()
+        with mock.patch.object(LedSpeaker, "_prepare", side_effect=[iter(()) for _ in range(9)]):
+            with self.assertRaises(UnknownOutcomeError) as caught:
+                room.say(b"a", repeat=RoomNumber(0, 1))
+        self.assertIsInstance(caught.exception.__cause__, TimedOutError)
+        self.assertLess(cluster.clock() - begun, 1.1)
+
+    def test_the_next_generation_is_at_one_node_alone(self) -> None:
+        # The client that went on crashed too, before the next leader's node had the generation.
+        cluster = timed()
+        room = room_of(cluster, 2)
+        room.say(b"a")
+        cluster.crash(0)
+        cluster.client(2).make(7, Generation(1, 1), SPEC)
+        late = room_of(cluster, 2)
+        late.exclude(0)
+        self.assertEqual(late.say(b"b"), (1, 2))
+        self.assertEqual(cluster.payloads(1, 1)[0], ends_message({0: 1}))
+        self.assertEqual([it.payload for it in late.follow(idle=1.0)], [b"a", b"b"])
+
+    def test_a_generation_that_is_half_made_when_its_leader_crashes(self) -> None:
+        # Node 0 was to lead generation 1, which node 2 lacks. The room that says the first message
+        # of generation 2 has to know of it.
+        cluster = timed()
+        old, clients = room_of(cluster, 1, leader=2), cluster.clients()
+        for count in range(6):
+            old.say(str(count).encode())
+        for node in (0, 1):
+            clients[node].make(7, Generation(1, 1), SPEC)
+        cluster.crash(0)
+        rooms = [room_of(cluster, node, leader=2, patience=1.0) for node in (1, 2)]
+        rooms[0].exclude(0)
+        ends = f" 7 1.2 {ENDS.hex()}"
+        cluster.fate = lambda node, body: "no request" if ends in body else "carry"
+        self.assertRaises(TimedOutError, rooms[0].say, b"a")
+        self.assertEqual(rooms[0].generation, 2)
+        cluster.fate = lambda node, body: "carry"
+        rooms[1].exclude(0)
+        rooms[1].say(b"b")
+        rooms[0].say(b"c")
+        heard: List[List[RoomEntry]] = [[], []]
+        hear(rooms, heard, 1.0)
+        hear(rooms, heard, 1.0)
+        self.assert_one_order(heard, [*(str(count).encode() for count in range(6)), b"b", b"c"])
+        self.assertEqual(cluster.living()[1:], [[2], [2]])
+
     def test_the_next_leader_crashes_too(self) -> None:
         cluster = timed(4)
         spec = Spec("fallack", (0, 1, 2, 3), 8, 4_096, 8)
@@ -543,11 +714,12 @@ class Walk:
 class LogTests(unittest.TestCase):
     """The messages of a log that count."""
 
-    def logs(self, count: int = 3) -> List[LedLog]:
-        """Return the logs of the first generations at node 2."""
+    @staticmethod
+    def logs() -> Tuple[LedNodes, List[LedLog]]:
+        """Return nodes of a room at node 2, and the logs of its first three generations there."""
         operations = {node: client.operations for node, client in timed().clients().items()}
         nodes = LedNodes(operations, 7, 1, SPEC, 2, 0)
-        return [LedLog(generation, nodes, 2) for generation in range(count)]
+        return nodes, [LedLog(generation, nodes, 2) for generation in range(3)]
 
     @staticmethod
     def fill(log: LedLog, leader: int, *messages: Tuple[int, bytes]) -> None:
@@ -562,42 +734,67 @@ class LogTests(unittest.TestCase):
             self.assertEqual(read_ends(message), {})
 
     def test_a_seal_holds_back_what_comes_behind_it(self) -> None:
-        log, later, _ = self.logs()
+        nodes, (log, later, _) = self.logs()
         a, b, c = (said_message(1, bytes(8), text) for text in (b"a", b"b", b"c"))
         self.fill(log, 0, (0, a), (1, SEAL), (0, b), (2, SEAL), (0, c), (2, SEAL))
         self.assertEqual((log.count(), log.sealed, log.is_left(), log.is_over()), (2, 2, True, False))
         self.assertEqual([it.payload for it in log.fresh()], [b"a", b"b"])
-        decide([log, later])
+        nodes.judge([log, later])
         self.assertFalse(log.is_decided)
         self.fill(later, 1, (1, ends_message({0: 3})))
-        decide([log, later])
+        nodes.judge([log, later])
         self.assertEqual((log.count(), log.is_over()), (3, True))
         self.assertEqual(log.fresh(), [RoomEntry(1, 0, 3, b"c")])
 
     def test_without_ends_the_marker_is_the_end(self) -> None:
-        log, later, _ = self.logs()
+        nodes, (log, later, _) = self.logs()
         self.fill(log, 0, (2, SEAL), (0, said_message(1, bytes(8), b"a")), (0, b"\0"))
         self.assertEqual((log.count(), log.is_over()), (0, False))
         self.fill(later, 1, (1, said_message(1, bytes(8), b"b")))
-        decide([log, later])
+        nodes.judge([log, later])
         self.assertEqual((log.count(), log.is_over()), (2, True))
 
     def test_a_generation_in_which_nothing_counts_decides_nothing(self) -> None:
-        first, second, third = self.logs()
+        nodes, (first, second, third) = self.logs()
         self.fill(first, 0, (0, said_message(1, bytes(8), b"a")), (2, SEAL))
         self.fill(second, 1, (2, SEAL), (1, ends_message({0: 0})))
         self.fill(third, 2, (2, ends_message({0: 1, 1: 0})))
-        decide([first, second, third])
+        nodes.judge([first, second, third])
         self.assertEqual((first.count(), first.is_over()), (1, True))
         self.assertEqual((second.count(), second.is_over()), (0, True))
-        first, second, third = self.logs()
+        nodes, (first, second, third) = self.logs()
         self.fill(first, 0, (0, said_message(1, bytes(8), b"a")), (2, SEAL))
         self.fill(second, 1, (1, b"\0"))
-        decide([first, second, third])
+        nodes.judge([first, second, third])
         self.assertFalse(first.is_over())
         self.fill(third, 2, (2, ends_message({0: 1})))
-        decide([first, second, third])
+        nodes.judge([first, second, third])
         self.assertTrue(first.is_over() and second.is_over())
+
+    def test_a_generation_whose_end_nothing_shows_is_skipped(self) -> None:
+        a, b = (said_message(1, bytes(8), text) for text in (b"a", b"b"))
+        for is_missing in (True, False):
+            with self.subTest(is_missing=is_missing):
+                nodes, (first, second, third) = self.logs()
+                self.fill(first, 0, (0, a), (0, b))
+                self.fill(third, 2, (2, a))
+                second.is_gone = True
+                logs = [first, third] if is_missing else [first, second, third]
+                nodes.judge(logs)
+                self.assertFalse(first.is_decided or first.is_over())
+                self.fill(first, 0, (2, SEAL), (0, b))
+                nodes.judge(logs)
+                self.assertEqual((first.is_gone, first.is_decided, first.count()), (True, False, 2))
+
+    def test_a_known_end_is_kept(self) -> None:
+        nodes, (log, later, third) = self.logs()
+        self.fill(later, 1, (1, ends_message({0: 2})))
+        self.fill(third, 2, (2, said_message(1, bytes(8), b"c")))
+        nodes.judge([log, later])
+        again = LedLog(0, nodes, 2)
+        self.fill(again, 0, *((0, said_message(1, bytes(8), text)) for text in (b"a", b"b", b"c")))
+        nodes.judge([again, third])
+        self.assertEqual((again.count(), again.is_over(), again.is_gone), (2, True, False))
 
 
 class AsyncOrderTests(unittest.IsolatedAsyncioTestCase):
