@@ -2083,7 +2083,10 @@ class Reader {
     return this.nodes.running().reduce((sum, node) => sum + log.of(node).count, 0);
   }
 
-  /** Says this member's marker where another one has gone on. */
+  /**
+   * Says this member's marker where another one has gone on.
+   * @returns {Promise<void>}
+   */
   async keepUp() {
     const { nodes } = this;
     this.owes = false;

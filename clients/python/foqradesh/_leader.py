@@ -286,7 +286,8 @@ class LedSpeaker(Speaker):
         here, because its end and theirs were known then. It ends early if another room has said the
         first message of this generation.
         """
-        nodes, ends = self._led, {}
+        nodes = self._led
+        ends: Dict[int, int] = {}
         for lower in range(generation - 1, max(-1, generation - 1 - LIVING), -1):
             if not (yield from nodes.look(nodes.node, lower)):
                 return ends
