@@ -241,15 +241,16 @@ none_first version [] none = refl
 none_first version (v ∷ vs) none = cc
 
 -- the first item of the walk is the first that waits at the first place
-pub size_first : (version : Version) (dest from p : ℕ) (rows : List Row) → p < length rows → 0 < length (queue dest (row_at rows p)) → walk p (queues dest rows) ≡ walk from (queues dest rows)
+pub size_first : (version : Version) (dest from p : ℕ) (rows : List Row) → p < length rows → 0 < length (get_or (queues dest rows) p []) → walk p (queues dest rows) ≡ walk from (queues dest rows)
     → (limits_of version).item_header + length (get_or (queue dest (row_at rows p)) 0 no_entry).payload ≡ first_size version (walk from (queues dest rows))
 size_first version dest from p rows within busy same =
-    let n = length-queues dest rows in
-    by (queue dest (row_at rows p)) refl busy (queues_at dest rows p (row_at rows p) within (row_here rows p within))
+    let here = queues_at dest rows p (row_at rows p) within (row_here rows p within) in
+    let l = ap length here in
+    by (queue dest (row_at rows p)) refl (omega (arith, l, busy)) here
   where
-    by : (q : List Entry) → queue dest (row_at rows p) ≡ q → 0 < length q → get_or (queues dest rows) p [] ≡ queue dest (row_at rows p)
+    by : (q : List Entry) → queue dest (row_at rows p) ≡ q → 0 < length (queue dest (row_at rows p)) → get_or (queues dest rows) p [] ≡ queue dest (row_at rows p)
         → (limits_of version).item_header + length (get_or (queue dest (row_at rows p)) 0 no_entry).payload ≡ first_size version (walk from (queues dest rows))
-    by [] is some here = absurd (omega (arith, some))
+    by [] is some here = let l = ap length is in absurd (omega (arith, some, l))
     by (x ∷ q) is some here =
         let n = length-queues dest rows in
         ap (λ (r : List Entry). (limits_of version).item_header + length (get_or r 0 no_entry).payload) is
