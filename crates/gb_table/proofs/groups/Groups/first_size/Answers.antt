@@ -10,7 +10,7 @@ returns-clause-size c =
     let dest = c.args.dest.number in
     let rows = c.args.self.now.rows in
     let some = c.in-Some.ensures in
-    let header : c.limits-header.result.item_header ≡ (limits_of c.args.version).item_header = ap (λ (l : VersionLimits). l.item_header) c.limits-header.ensures.value in
+    let header : c.limits.result.item_header ≡ (limits_of c.args.version).item_header = ap (λ (l : VersionLimits). l.item_header) c.limits.ensures.value in
     let bytes = c.measure_at-payload.ensures.bytes in
     rw (header, bytes) (size_first c.args.version dest c.index.result c.in-Some.place rows some.within some.busy some.same
     ∙ ap (λ from. first_size c.args.version (walk from (queues dest rows))) (cursor_now c.self.inside c.args.self.now c.args.dest c.index.result c.self.view_is c.index.ensures.value))
