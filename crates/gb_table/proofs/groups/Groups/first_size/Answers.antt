@@ -1,4 +1,4 @@
-use Rattle.gb_types.specs.Common.{◌≡◌, ◌∙◌, ap, limits_of}
+use Rattle.gb_types.specs.Common.{◌≡◌, ◌∙◌, ap, get_or, limits_of}
 use Rattle.gb_types.specs.declared.version.VersionLimits.{VersionLimits}
 use Rattle.gb_table.specs.Packing.{first_size, queues, walk}
 use Rattle.gb_table.proofs.BusyLemmas.{size_first}
@@ -12,5 +12,5 @@ returns-clause-size c =
     let some = c.in-Some.ensures in
     let header : c.limits.result.item_header ≡ (limits_of c.args.version).item_header = ap (λ (l : VersionLimits). l.item_header) c.limits.ensures.value in
     let bytes = c.measure_at-payload.ensures.bytes in
-    rw (header, bytes) (size_first c.args.version dest c.index.result c.in-Some.place rows some.within some.busy some.same
+    rw (header, bytes) (size_first c.args.version dest (get_or c.self.inside.cursors c.index.result 0) c.in-Some.place rows some.within some.busy some.same
     ∙ ap (λ from. first_size c.args.version (walk from (queues dest rows))) (cursor_now c.self.inside c.args.self.now c.args.dest c.index.result c.self.view_is c.index.ensures.value))
