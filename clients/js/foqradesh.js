@@ -2083,7 +2083,10 @@ class Reader {
     return this.nodes.running().reduce((sum, node) => sum + log.of(node).count, 0);
   }
 
-  /** Says this member's marker where another one has gone on. */
+  /**
+   * Says this member's marker where another one has gone on.
+   * @returns {Promise<void>}
+   */
   async keepUp() {
     const { nodes } = this;
     this.owes = false;
@@ -2268,7 +2271,7 @@ class LedNodes extends Nodes {
       const isMissing = later.generation !== next;
       const first = isMissing ? null : later.first();
       if (first !== null) this.ends.set(log.generation, readEnds(first).get(log.generation) ?? null);
-      else if (isMissing || later.isGone) log.isGone ||= log.sealed !== null;
+      else if (isMissing || later.isLost()) log.isSkipped = log.sealed !== null;
       else if (later.isOver()) continue;
       break;
     }
@@ -2312,6 +2315,8 @@ class LedLog extends ReadLog {
      * @type {number | null}
      */
     this.sealed = null;
+    /** It is sealed, and no later generation here tells any more how it ends. */
+    this.isSkipped = false;
     /** Whether a later generation tells how this one ends. */
     this.isDecided = false;
     /**
@@ -2335,6 +2340,11 @@ class LedLog extends ReadLog {
     } else if (origin === this.node && areEqual(payload, SEAL)) this.sealed ??= this.messages.length;
   }
 
+  /** Returns true if it was dropped here, or is passed over. */
+  isLost() {
+    return this.isGone || this.isSkipped;
+  }
+
   /** Returns true if the members go on to the next generation. */
   isLeft() {
     return this.isGone || this.last !== null || this.sealed !== null;
@@ -2353,10 +2363,10 @@ class LedLog extends ReadLog {
     if (!this.isDecided) [this.isDecided, this.end] = [true, end];
   }
 
-  /** Returns true if all messages that count were read. */
+  /** Returns true if all messages that count were read, or the others cannot be known here. */
   isOver() {
     const end = Math.min(this.last ?? Infinity, this.end ?? Infinity);
-    return this.isGone || this.count() >= end;
+    return this.isLost() || this.count() >= end;
   }
 
   /** Returns the first message that counts and is no marker, if one is known, or null. */
@@ -2387,8 +2397,9 @@ class LedReader extends Reader {
     super(nodes, speaker);
     this.led = nodes;
     /**
-     * How many messages of the leader count in a generation that was sealed and read.
-     * @type {Map<number, number>}
+     * How many messages of the leader each other node has in the end, in a generation that was sealed and read: those that count; null: it is passed over, so as
+     * many as this node.
+     * @type {Map<number, number | null>}
      */
     this.counts = new Map();
   }
@@ -2426,7 +2437,7 @@ class LedReader extends Reader {
 
   /** @param {ReadLog} log */
   needed(log) {
-    if (log instanceof LedLog && log.place !== log.messages.length) this.counts.set(log.generation, log.count());
+    if (log instanceof LedLog && log.place !== log.messages.length) this.counts.set(log.generation, log.isSkipped ? null : log.count());
     return log.place;
   }
 
@@ -2434,21 +2445,33 @@ class LedReader extends Reader {
   async keepUp() {}
 
   /**
-   * Finds out whether a node has all messages that count. In a generation that was sealed other messages stand too, and in another place at each node.
+   * Finds out whether a node has all messages that count, or that stand here. In a generation that was sealed other messages stand too, and in another place at
+   * each node.
    * @param {number} node
    * @param {Ended} ended
    * @returns {Promise<boolean>}
    */
   async hasAll(node, ended) {
-    const count = this.counts.get(ended.generation);
-    if (count === undefined) return super.hasAll(node, ended);
-    const log = new LedLog(ended.generation, this.led, node);
-    while (log.messages.length < count) {
-      const entries = await this.led.ask(node, (it) => it.fetch(this.led.tenant, this.led.name(log.generation), log.place));
-      if (entries.length === 0) return false;
+    const known = this.counts.get(ended.generation);
+    if (known === undefined) return super.hasAll(node, ended);
+    const count = known ?? (await this.#held(this.led.node, ended.generation, this.led.spec.messages));
+    return (await this.#held(node, ended.generation, count)) >= count;
+  }
+
+  /**
+   * Returns how many messages of the leader stand in a node's log. It may end at `most`.
+   * @param {number} node
+   * @param {number} generation
+   * @param {number} most
+   */
+  async #held(node, generation, most) {
+    const log = new LedLog(generation, this.led, node);
+    while (log.messages.length < most) {
+      const entries = await this.led.ask(node, (it) => it.fetch(this.led.tenant, this.led.name(generation), log.place));
+      if (entries.length === 0) break;
       this.take(log, entries);
     }
-    return true;
+    return log.messages.length;
   }
 }
 
@@ -2490,7 +2513,7 @@ class LedSpeaker extends Speaker {
   #log(generation) {
     const known = this.logs.get(generation) ?? new SpokenLog(generation, this.led, this.led.node);
     if (!this.logs.has(generation)) {
-      for (const old of [...this.logs.keys()]) if (old < generation - 2 * LIVING) this.logs.delete(old);
+      for (const [old, log] of [...this.logs]) if (old < generation - 2 * LIVING && log.isOver()) this.logs.delete(old);
       this.logs.set(generation, known);
     }
     return known;
@@ -2746,7 +2769,7 @@ class LedSpeaker extends Speaker {
       if (this.#log(generation).place === 0) await this.#readAll();
       if (!this.#isCut(generation)) await this.#begin(generation, end);
       const log = this.#log(generation);
-      if (log.isGone) {
+      if (log.isLost()) {
         this.speech = null;
         continue;
       }
@@ -2810,10 +2833,9 @@ class LedSpeaker extends Speaker {
     const named = { generation, number: this.#log(generation).messages.length + 1 };
     this.open = { named, message };
     try {
-      await this.settled(message, named, false);
+      await this.#sayNumbered(named, message, end, false);
     } catch (error) {
-      if (error instanceof UnknownOutcomeError) return named;
-      if (isOne(error, BadPlaceError, BudgetError, BytesError, WrongPhaseError, NoGroupError) || (error instanceof UnansweredError && !error.isUnknown)) this.open = null;
+      if (isOne(error, BadPlaceError, BudgetError, BytesError, WrongPhaseError, NoGroupError) || (error instanceof UnansweredError && error.generation === null)) this.open = null;
       if (error instanceof BadPlaceError) await this.#readUpTo(named, end, error);
       else if (isOne(error, BudgetError, BytesError)) speech.isFull = true;
       else if (isOne(error, WrongPhaseError, NoGroupError) && !speech.wasOpened) {
@@ -2845,15 +2867,34 @@ class LedSpeaker extends Speaker {
    */
   async #isSaidBefore(named, message, end) {
     try {
-      if (!this.#isCut(named.generation)) await this.settled(message, named, true);
+      if (!this.#isCut(named.generation)) await this.#sayNumbered(named, message, end, true);
     } catch (error) {
-      if (isOne(error, BadPlaceError, BudgetError, BytesError, TooLongError, WrongPhaseError)) {
-        this.open = null;
-        return false;
-      }
-      if (!(error instanceof UnknownOutcomeError)) throw error;
+      if (!isOne(error, BadPlaceError, BudgetError, BytesError, TooLongError, WrongPhaseError)) throw error;
+      this.open = null;
+      return false;
     }
     return this.#counts(named, message, end);
+  }
+
+  /**
+   * Says a message by the leader, with this number. Throws a refusal if it was not said. Without an error it was said, or may be. If its answer was lost and the
+   * leader's node has not opened the generation, the generation is started and the message said again.
+   * @param {RoomNumber} named
+   * @param {Uint8Array} message
+   * @param {number} end
+   * @param {boolean} isRepeated
+   */
+  async #sayNumbered(named, message, end, isRepeated) {
+    try {
+      return void (await this.settled(message, named, isRepeated));
+    } catch (error) {
+      if (!(error instanceof UnknownOutcomeError)) throw error;
+      if (!isOne(error.cause, WrongPhaseError, NoGroupError)) return;
+    }
+    await this.#inDoubt(named, this.led.start(named.generation, end));
+    await this.settled(message, named, true).catch((error) => {
+      if (!(error instanceof UnknownOutcomeError)) throw error;
+    });
   }
 
   /**
@@ -2862,20 +2903,33 @@ class LedSpeaker extends Speaker {
    * @param {Uint8Array} message
    * @param {number} end
    */
-  async #counts({ generation, number }, message, end) {
+  async #counts(named, message, end) {
     let until = this.end();
     try {
-      const counts = await this.#waitFor({ generation, number }, message, end);
+      const counts = await this.#inDoubt(named, this.#waitFor(named, message, end));
       [until, this.open] = [-Infinity, null];
       return counts;
+    } finally {
+      this.doubt = { generation: named.generation, until };
+    }
+  }
+
+  /**
+   * Returns what a promise returns. Throws UnknownOutcomeError of the message if it fails.
+   * @template T
+   * @param {RoomNumber} named
+   * @param {Promise<T>} promise
+   * @returns {Promise<T>}
+   */
+  async #inDoubt({ generation, number }, promise) {
+    try {
+      return await promise;
     } catch (error) {
       if (!(error instanceof FoqradeshError)) throw error;
       const unknown = new UnknownOutcomeError(`message ${number} of ${this.led.text(generation)} may count: ${error.message}`, number, { cause: error });
       unknown.generation = generation;
       unknown.node = error instanceof UnansweredError ? error.node : null;
       throw unknown;
-    } finally {
-      this.doubt = { generation, until };
     }
   }
 
@@ -2892,7 +2946,7 @@ class LedSpeaker extends Speaker {
       if (!log.isDecided && this.led.absent.has(log.leader)) await this.#prepare(message.length, end);
       if (!isKnown() && !(await this.#read(end)) && now() >= end) throw this.#late("it", generation);
     }
-    if (log.isGone && log.count() < number) throw new SpentError(`refused 3 Spent: ${this.led.text(generation)}`);
+    if (log.isLost() && log.count() < number) throw new SpentError(`refused 3 Spent: ${this.led.text(generation)}`);
     return log.count() >= number && areEqual(log.messages[number - 1], message);
   }
 }
@@ -2991,7 +3045,8 @@ export class Room {
    *
    * With a leader a payload has 4,086 bytes at most, and `repeat` is for the last say of the same room, else RangeError is thrown. Where a member crashed, the error
    * has its node as `node`: give that to `without`, and say the message again, with `repeat` if the error has a `generation`. If it led, the others seal its
-   * generation, and the next leader goes on. UnknownOutcomeError: the message was said, and is not delivered here yet. It may pass.
+   * generation, and the next leader goes on. UnknownOutcomeError: the message was said or may be, and is not delivered here yet. It may pass. If its `cause` is
+   * SpentError it does not: the generation that tells it was dropped here.
    * @param {Payload} payload
    * @param {{ repeat?: RoomNumber }} options
    * @returns {Promise<RoomNumber>}
@@ -3005,7 +3060,8 @@ export class Room {
    *
    * It begins with the oldest generation that lives at the node, of the 16 up to the newest. Each member's messages come in the order of their generations.
    * Within a generation they have the order in which the node delivered them. A generation that was read to its end is dropped at this node, once each other
-   * running member's node has its whole log; with `drops` false, and by a guest, nothing is dropped. It connects again where a connection ended.
+   * running member's node has its whole log; with `drops` false, and by a guest, nothing is dropped. With a leader a sealed generation is passed over if the one
+   * that tells its end was dropped here, and is then treated as read to its end. It connects again where a connection ended.
    * @param {{ idle?: number, drops?: boolean, signal?: AbortSignal }} options
    * @returns {AsyncGenerator<RoomEntry, void, void>}
    */

@@ -1,8 +1,8 @@
 // Rooms with a leader, against a cluster in memory: one order at all members, also where leaders crash.
 import assert from "node:assert/strict";
 import { test } from "node:test";
-import { Cluster, drawing, plan, sleep } from "./cluster.js";
-import { BadPlaceError, BytesError, MissingTokenError, NoRoomError, Room, SpentError, TimedOutError, TooLongError, UnansweredError, UnknownOutcomeError, textOf } from "../foqradesh.js";
+import { Cluster, clock, drawing, plan, sleep } from "./cluster.js";
+import { BadPlaceError, BytesError, ConnectionFailedError, MissingTokenError, NoRoomError, Room, SpentError, TimedOutError, TooLongError, UnansweredError, UnknownOutcomeError, textOf } from "../foqradesh.js";
 
 const ALL = [0, 1, 2];
 const SPEC = { kind: "fallack", members: ALL, messages: 8, totalBytes: 4_096, window: 8 };
@@ -41,6 +41,20 @@ async function failing(promise, kind) {
   return error;
 }
 const numberOf = (error) => ({ generation: error.generation, number: error.said });
+
+/** Returns a new room of node 0, whose generation 1 these nodes have made, and none has opened. */
+async function halfMade(cluster, nodes) {
+  const room = roomOf(cluster, 0);
+  for (let count = 0; count < 6; count += 1) await room.say(`${count}`);
+  for (const node of nodes) await cluster.session(node).make(7, { group: 1, generation: 1 }, SPEC);
+  return roomOf(cluster, 0, { patience: 5 });
+}
+
+/** Has what a room says next have this fate, and nothing else. */
+function loseSay(cluster, fate) {
+  let lost = 1;
+  cluster.fate = (node, text) => (/^say .* 03/.test(text) && lost-- > 0 ? fate : "carry");
+}
 
 test("who leads", async () => {
   const cluster = new Cluster();
@@ -151,6 +165,79 @@ test("a generation that is half made is made and opened everywhere", async () =>
     assert.deepEqual(await roomOf(cluster, 0).say("6"), { generation: 1, number: 1 });
     assert.deepEqual(await roomOf(cluster, 2).say("7"), { generation: 1, number: 2 });
     assert.deepEqual((await hear(roomOf(cluster, 1), 1)).map(({ text }) => text), ["0", "1", "2", "3", "4", "5", "6", "7"]);
+  }
+});
+
+/** Says a message through a leader whose answer is lost, until it is known where to repeat it; at once if it is sent again. Returns what says it again. */
+async function losing(cluster, room, text, fate) {
+  loseSay(cluster, fate);
+  if (fate === "lose reply") return () => room.say(text);
+  const repeat = numberOf(await failing(room.say(text), TimedOutError));
+  assert.deepEqual(repeat, { generation: 1, number: 1 });
+  return () => room.say(text, { repeat });
+}
+
+test("an answer that is lost in a generation that is half made", async () => {
+  // What is said again is refused: the leader's node lacks the generation, or it is not open there.
+  for (const made of [[0], ALL]) {
+    for (const fate of ["no request", "no reply", "lose reply"]) {
+      const cluster = new Cluster();
+      const say = await losing(cluster, await halfMade(cluster, made), "6", fate);
+      assert.deepEqual(await say(), { generation: 1, number: 1 });
+      assert.deepEqual(await roomOf(cluster, 2).say("7"), { generation: 1, number: 2 });
+      assert.deepEqual((await hear(roomOf(cluster, 2), 1)).map(({ text }) => text), ["0", "1", "2", "3", "4", "5", "6", "7"]);
+    }
+  }
+});
+
+test("another room says something while this one starts a generation in which its answer was lost", async () => {
+  for (const fate of ["no reply", "lose reply"]) {
+    const cluster = new Cluster();
+    const other = roomOf(cluster, 2);
+    const say = await losing(cluster, await halfMade(cluster, ALL), "7", fate);
+    const fates = cluster.fate;
+    cluster.fate = async (node, text) => {
+      if (text.startsWith("make")) {
+        cluster.fate = fates;
+        assert.deepEqual(await other.say("6"), { generation: 1, number: 1 });
+      }
+      return fates(node, text);
+    };
+    assert.deepEqual(await say(), { generation: 1, number: 2 });
+    assert.deepEqual((await hear(roomOf(cluster, 1), 1)).map(({ text }) => text), ["0", "1", "2", "3", "4", "5", "6", "7"]);
+  }
+});
+
+test("a crash while an answer is lost in a generation that is half made", async () => {
+  for (const fate of ["no reply", "lose reply"]) {
+    const cluster = new Cluster();
+    const room = await halfMade(cluster, [0]);
+    const say = await losing(cluster, room, "6", fate);
+    cluster.crash(2);
+    const error = await failing(say(), UnknownOutcomeError);
+    assert.deepEqual([numberOf(error), error.node], [{ generation: 1, number: 1 }, 2]);
+    assert.ok(error.cause instanceof ConnectionFailedError);
+    room.without(2);
+    assert.deepEqual(await room.say("6", { repeat: numberOf(error) }), { generation: 1, number: 1 });
+    assert.deepEqual((await hear(room, 1)).map(({ text }) => text), ["0", "1", "2", "3", "4", "5", "6"]);
+  }
+});
+
+test("a leader that crashes when its half made generation is started", async () => {
+  for (const fate of ["no reply", "lose reply"]) {
+    const cluster = new Cluster();
+    const room = await halfMade(cluster, ALL);
+    const say = await losing(cluster, room, "6", fate);
+    const fates = cluster.fate;
+    cluster.fate = (node, text) => {
+      if (node === 2 && text.startsWith("open")) cluster.crash(1);
+      return fates(node, text);
+    };
+    const error = await failing(say(), ConnectionFailedError);
+    assert.deepEqual([numberOf(error), error.node], [{ generation: 1, number: 1 }, 1]);
+    room.without(1);
+    assert.deepEqual(await room.say("6", { repeat: numberOf(error) }), { generation: 2, number: 2 });
+    assert.deepEqual((await hear(room, 1)).map(({ text }) => text), ["0", "1", "2", "3", "4", "5", "6"]);
   }
 });
 
@@ -325,6 +412,85 @@ test("what was said behind the seals is not taken as said, however far the room 
   }
 });
 
+test("a sealed generation that is passed over is dropped", async () => {
+  // A room keeps generation 0, as its say is in doubt, and drops the one that tells its end. Then it crashes, or speaks.
+  for (const isNew of [true, false]) {
+    const cluster = new Cluster();
+    const rooms = roomsOf(cluster, { patience: 30 }, MAJORITY);
+    await rooms[2].say("a");
+    rooms[1].without(0);
+    await rooms[1].say("b");
+    loseSay(cluster, "no reply");
+    await failing(rooms[2].say("c"), TimedOutError);
+    for (let count = 0; count < 6; count += 1) await rooms[1].say(`${count}`);
+    if (isNew) {
+      for (const _ of [1, 2]) await hearAll(rooms.slice(1), [[], []], 1);
+      rooms[2] = roomOf(cluster, 2, {}, MAJORITY);
+    } else await cluster.session(2).drop(7, { group: 1, generation: 1 });
+    assert.deepEqual(cluster.generations(2), [0, 2]);
+    const heard = [[], []];
+    for (const _ of [1, 2]) await hearAll(rooms.slice(1), heard, 1);
+    assert.deepEqual(heard[1].map(({ text }) => text), ["a", "4", "5"]);
+    if (!isNew) {
+      assert.deepEqual(cluster.living().slice(1), [[2], [0, 2]]);
+      await rooms[2].say("d");
+      await hearAll(rooms.slice(1), heard, 1);
+    }
+    assert.deepEqual(cluster.living().slice(1), [[2], [2]]);
+  }
+});
+
+test("a say is repeated many generations later", async () => {
+  // The ends of the latest 16 generations are known.
+  for (const [later, isKnown] of [[45, true], [120, false]]) {
+    const cluster = new Cluster();
+    const rooms = roomsOf(cluster, { patience: 1_000 }, MAJORITY);
+    const heard = [[], []];
+    await rooms[2].say("a");
+    rooms[1].without(0);
+    await rooms[1].say("b");
+    loseSay(cluster, "no reply");
+    const repeat = numberOf(await failing(rooms[2].say("c"), TimedOutError));
+    assert.deepEqual(repeat, { generation: 0, number: 2 });
+    const said = Array.from({ length: later }, (_, count) => `${count}`);
+    for (const text of said) {
+      await rooms[1].say(text);
+      await hearAll(rooms.slice(1), heard);
+    }
+    await hearAll(rooms.slice(1), heard, 1);
+    const [newest] = cluster.generations(1);
+    assert.deepEqual(cluster.living().slice(1), [[newest], [0, newest]]);
+    const begun = clock();
+    if (isKnown) assert.ok((await rooms[2].say("c", { repeat })).generation >= newest);
+    else {
+      const error = await failing(rooms[2].say("c", { repeat }), UnknownOutcomeError);
+      assert.ok(error.cause instanceof SpentError);
+      await rooms[2].say("c");
+    }
+    assert.ok(clock() - begun < 1);
+    await hearAll(rooms.slice(1), heard, 1);
+    assertOneOrder(heard, ["a", "b", ...said, "c"]);
+  }
+});
+
+test("a server that was started anew is sealed again", async () => {
+  const cluster = new Cluster();
+  const room = roomOf(cluster, 1, {}, MAJORITY);
+  await room.join();
+  cluster.crash(0);
+  room.without(0);
+  cluster.fate = (node, text) => (node === 2 && text.startsWith("say") ? "no request" : "carry");
+  const error = await failing(room.say("a"), TimedOutError);
+  assert.deepEqual([error.generation, error.node], [null, 2]);
+  const sealed = () => cluster.texts("say").filter(({ node, text }) => node === 1 && text === "say 7 1 02 1").length;
+  assert.equal(sealed(), 1);
+  cluster.fate = () => "carry";
+  cluster.nodes[1].living.clear();
+  cluster.nodes[1].greatest.clear();
+  assert.deepEqual(await room.say("a"), { generation: 1, number: 2 });
+  assert.equal(sealed(), 2);
+});
+
 test("a generation whose leader crashed before it was made at each node is sealed at each", async () => {
   // Node 0 has begun generation 1, which it was to lead, and crashes. Whoever says the first message of generation 2 has to know of it.
   const cluster = new Cluster();
@@ -414,15 +580,17 @@ test("what goes over the wire is what the Python package says", async (context) 
 });
 
 /** Makes and opens generations by hand. Returns what says a text of hexadecimal digits there, and what reads at node 2 what is new. */
-async function byHand(generations) {
+async function byHand(generations, spec = SPEC) {
   const cluster = new Cluster();
   const sessions = cluster.sessions();
   for (let generation = 0; generation < generations; generation += 1) {
-    for (const node of ALL) await sessions[node].make(7, { group: 1, generation }, SPEC);
+    for (const node of ALL) await sessions[node].make(7, { group: 1, generation }, spec);
     for (const node of ALL) await sessions[node].open(7, { group: 1, generation });
   }
-  const reader = roomOf(cluster, 2);
+  const reader = roomOf(cluster, 2, {}, spec);
   return {
+    cluster,
+    reader,
     say: (node, generation, text) => sessions[node].say(7, { group: 1, generation }, Buffer.from(text, "hex")),
     drop: (node, generation) => sessions[node].drop(7, { group: 1, generation }),
     read: async () => (await hear(reader, 0.5)).map(({ origin, generation, number, text }) => `${origin}: ${generation}.${number} ${text}`),
@@ -466,6 +634,28 @@ test("a generation whose end nothing tells any more is passed over", async () =>
   await drop(2, 1);
   await say(2, 2, `${SAID}61`);
   assert.deepEqual(await read(), ["1: 2.1 a"]);
+});
+
+test("a generation that is passed over is dropped when each node has its messages", async () => {
+  // Node 1 lacks messages that stand behind the seal at node 2. They may count, and node 2 has to relay them. One comes only after the generation was passed over.
+  const { cluster, reader, say, read, drop } = await byHand(3, MAJORITY);
+  reader.without(0);
+  cluster.hold("0-1", "2-1");
+  await say(2, 0, SEAL);
+  await say(0, 0, `${SAID}61`);
+  await drop(2, 1);
+  assert.deepEqual(await read(), []);
+  assert.deepEqual([cluster.payloads(1, 0).length, cluster.generations(2)], [0, [0, 2]]);
+  const relayed = cluster.nodes[2].living.get("7 1").waiting.get(1);
+  await say(0, 0, `${SAID}62`);
+  const late = relayed.pop();
+  assert.deepEqual(late, { origin: 0, number: 2 });
+  cluster.hold("0-1");
+  assert.deepEqual(await read(), []);
+  assert.deepEqual([cluster.payloads(1, 0).length, cluster.generations(2)], [2, [0, 2]]);
+  relayed.push(late);
+  assert.deepEqual(await read(), []);
+  assert.deepEqual([cluster.payloads(1, 0).length, cluster.generations(2)], [3, [2]]);
 });
 
 test("a room that comes after a crash", async () => {

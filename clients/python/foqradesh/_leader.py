@@ -2,7 +2,7 @@
 
 from __future__ import annotations
 
-from typing import Dict, List, Optional, Sequence, Set, Tuple
+from typing import Dict, List, Optional, Sequence, Set, Tuple, TypeVar
 
 from ._errors import (
     BadPlaceError,
@@ -26,6 +26,8 @@ from ._replies import Entry
 from ._speaking import AGAIN, RoomNumber, Speaker, Speech
 from ._words import LONGEST_PAYLOAD, MOST_ENTRIES
 
+T = TypeVar("T")
+
 
 class LedReader(Reader):
     """The messages that are read at a member's node of a room with a leader, in one line."""
@@ -34,9 +36,9 @@ class LedReader(Reader):
         """Make a reader that has read nothing."""
         super().__init__(nodes, speaker)
         self._led = nodes
-        # The number of the leader's messages that count, for each generation that was sealed and
-        # read.
-        self._counts: Dict[int, int] = {}
+        # How many of the leader's messages each other node has in the end, for each generation that
+        # was sealed and read: those that count. None: it is skipped, so as many as this node has.
+        self._counts: Dict[int, Optional[int]] = {}
 
     def _new_log(self, generation: int) -> LedLog:
         return LedLog(generation, self._led, self._led.node)
@@ -63,7 +65,7 @@ class LedReader(Reader):
 
     def _needed(self, log: ReadLog) -> int:
         if isinstance(log, LedLog) and log.place != len(log.messages):
-            self._counts[log.generation] = log.count()
+            self._counts[log.generation] = None if log.is_skipped else log.count()
         return log.place
 
     def keep_up(self) -> Plan[None]:
@@ -71,23 +73,44 @@ class LedReader(Reader):
         yield from ()
 
     def _has_all(self, node: int, ended: Ended) -> Plan[bool]:
-        """Find out whether a node has all messages of a generation that count.
+        """Find out whether a node has all messages of a generation that count, or that are here.
 
         A generation that was sealed has other messages too, at another index at each node.
         """
-        count = self._counts.get(ended.generation)
-        if count is None:
+        generation = ended.generation
+        if generation not in self._counts:
             return (yield from super()._has_all(node, ended))
-        log = LedLog(ended.generation, self._led, node)
-        words, name = self._led.words[node], self._led.name(ended.generation)
-        while len(log.messages) < count:
+        count = self._counts[generation]
+        if count is None:
+            count = yield from self._held(self._led.node, generation, self._led.spec.messages)
+        return (yield from self._held(node, generation, count)) >= count
+
+    def _held(self, node: int, generation: int, most: int) -> Plan[int]:
+        """Return how many of the leader's messages a node's log has. It may stop at `most`."""
+        log = LedLog(generation, self._led, node)
+        words, name = self._led.words[node], self._led.name(generation)
+        while len(log.messages) < most:
             entries = yield from asked(
                 node, words.fetch(self._led.tenant, name, log.place, MOST_ENTRIES)
             )
             if not entries:
-                return False
+                break
             self._take(log, entries)
-        return True
+        return len(log.messages)
+
+
+class SpokenLog(LedLog):
+    """The log of a generation in which a member speaks.
+
+    `others` are the logs that were read at other nodes, because it is sealed. `seals` are the nodes
+    whose members have said the seal.
+    """
+
+    def __init__(self, generation: int, nodes: LedNodes) -> None:
+        """Make one of which nothing was read."""
+        super().__init__(generation, nodes, nodes.node)
+        self.others: Dict[int, LedLog] = {}
+        self.seals: Set[int] = set()
 
 
 class LedSpeaker(Speaker):
@@ -98,11 +121,7 @@ class LedSpeaker(Speaker):
         super().__init__(nodes, patience)
         self._led = nodes
         self._identity = identity
-        # The logs of generations at this member's node, and at others if one was sealed.
-        self._logs: Dict[int, LedLog] = {}
-        self._others: Dict[Tuple[int, int], LedLog] = {}
-        # The seals that were said, by node and generation.
-        self._seals: Set[Tuple[int, int]] = set()
+        self._logs: Dict[int, SpokenLog] = {}
         # The last message that was said, if it is not known whether it counts.
         self._open: Optional[Tuple[RoomNumber, bytes]] = None
 
@@ -110,16 +129,14 @@ class LedSpeaker(Speaker):
         """Return the node that leads the generation in which the member speaks, or None."""
         return None if self.speech is None else self._led.speaker(self.speech.generation)
 
-    def _log(self, generation: int) -> LedLog:
+    def _log(self, generation: int) -> SpokenLog:
         """Return the log of a generation here. Those that are long over are forgotten."""
         log = self._logs.get(generation)
         if log is None:
-            log = self._logs[generation] = LedLog(generation, self._led, self._led.node)
+            log = self._logs[generation] = SpokenLog(generation, self._led)
             for old, known in list(self._logs.items()):
                 if old < generation - 2 * LIVING and known.is_over():
                     del self._logs[old]
-            self._others = {it: at for it, at in self._others.items() if it[1] in self._logs}
-            self._seals = {it for it in self._seals if it[1] in self._logs}
         return log
 
     def _is_cut(self, generation: int) -> bool:
@@ -142,18 +159,19 @@ class LedSpeaker(Speaker):
         """End the messages that count in a generation, by its leader's marker or by seals."""
         if self._log(generation).place == 0:
             yield from self._read_all()
-        if self._log(generation).is_over():
+        log = self._log(generation)
+        if log.is_over():
             return
         if not self._is_cut(generation):
             yield from self._led.mark(generation, end)
             return
         for node in self._led.sealing(generation):
-            if (node, generation) not in self._seals:
+            if node not in log.seals:
                 try:
                     yield from self._led.say_last(node, generation, SEAL, end)
                 except NoGroupError:
                     pass
-                self._seals.add((node, generation))
+                log.seals.add(node)
 
     def _is_started(self, generation: int, end: float, is_spare: bool) -> Plan[bool]:
         """Take a begun generation as started: its leader can say something only then."""
@@ -268,7 +286,8 @@ class LedSpeaker(Speaker):
         here, because its end and theirs were known then. It ends early if another room has said the
         first message of this generation.
         """
-        nodes, ends = self._led, {}
+        nodes = self._led
+        ends: Dict[int, int] = {}
         for lower in range(generation - 1, max(-1, generation - 1 - LIVING), -1):
             if not (yield from nodes.look(nodes.node, lower)):
                 return ends
@@ -297,12 +316,10 @@ class LedSpeaker(Speaker):
         """
         longest: List[bytes] = []
         for node in self._led.sealing(generation):
-            if node == self._led.node:
-                log = self._log(generation)
-            else:
-                log = self._others.setdefault(
-                    (node, generation), LedLog(generation, self._led, node)
-                )
+            log: LedLog = self._log(generation)
+            if node != self._led.node:
+                new = LedLog(generation, self._led, node)
+                log = self._log(generation).others.setdefault(node, new)
                 yield from self._read_other(log, node, end)
             if log.is_gone:  # It was dropped there, so all that count are here too.
                 yield from self._read_all()
@@ -354,7 +371,7 @@ class LedSpeaker(Speaker):
             if not self._is_cut(generation):
                 yield from self._begin(generation, end)
             speech, log = self.speech, self._log(generation)
-            if log.is_gone:
+            if log.is_lost():
                 self.speech = None
                 continue
             speech.next, speech.used = len(log.messages) + 1, log.used
@@ -407,7 +424,7 @@ class LedSpeaker(Speaker):
         number = RoomNumber(generation, len(self._log(generation).messages) + 1)
         self._open = (number, message)
         try:
-            yield from self._settled(message, number, repeated=False)
+            yield from self._say_numbered(number, message, end, repeated=False)
         except BadPlaceError:
             self._open = None
             while len(self._log(generation).messages) < number.number:
@@ -428,10 +445,8 @@ class LedSpeaker(Speaker):
             yield from self._led.start(generation, end)
             speech.was_opened = True
             return None
-        except UnknownOutcomeError:
-            pass
         except UnansweredError as error:
-            if not error.is_unknown:
+            if error.generation is None:
                 self._open = None
             raise
         return number
@@ -440,13 +455,31 @@ class LedSpeaker(Speaker):
         """Find out whether a message counts whose reply was lost."""
         if not self._is_cut(number.generation):
             try:
-                yield from self._settled(message, number, repeated=True)
+                yield from self._say_numbered(number, message, end, repeated=True)
             except (BadPlaceError, BudgetError, BytesError, TooLongError, WrongPhaseError):
                 self._open = None
                 return False
-            except UnknownOutcomeError:
-                pass
         return (yield from self._counts(number, message, end))
+
+    def _say_numbered(
+        self, number: RoomNumber, message: bytes, end: float, *, repeated: bool
+    ) -> Plan[None]:
+        """Say a message by the leader, with this number. Raises a refusal if it was not said.
+
+        Without an error it was said, or may be. If its reply was lost and the leader's node has not
+        opened the generation, the generation is started and the message said again.
+        """
+        try:
+            yield from self._settled(message, number, repeated=repeated)
+            return
+        except UnknownOutcomeError as error:
+            if not isinstance(error.__cause__, (WrongPhaseError, NoGroupError)):
+                return
+        yield from self._in_doubt(number, self._led.start(number.generation, end))
+        try:
+            yield from self._settled(message, number, repeated=True)
+        except UnknownOutcomeError:
+            pass
 
     def _counts(self, number: RoomNumber, message: bytes, end: float) -> Plan[bool]:
         """Wait until it is known whether a said message counts, that is, has this number.
@@ -455,17 +488,22 @@ class LedSpeaker(Speaker):
         """
         until = self.end()
         try:
-            counts = yield from self._wait_for(number, message, end)
+            counts = yield from self._in_doubt(number, self._wait_for(number, message, end))
             until, self._open = float("-inf"), None
             return counts
+        finally:
+            self._doubt = (number.generation, until)
+
+    def _in_doubt(self, number: RoomNumber, plan: Plan[T]) -> Plan[T]:
+        """Return what a plan returns. Raises UnknownOutcomeError of the message if it fails."""
+        try:
+            return (yield from plan)
         except FoqradeshError as error:
             text = f"message {number.number} of {self._led.text(number.generation)} may count: {error}"
             unknown = UnknownOutcomeError(text, number=number.number)
             unknown.generation = number.generation
             unknown.node = error.node if isinstance(error, UnansweredError) else None
             raise unknown from error
-        finally:
-            self._doubt = (number.generation, until)
 
     def _wait_for(self, number: RoomNumber, message: bytes, end: float) -> Plan[bool]:
         log = self._log(number.generation)
@@ -479,6 +517,6 @@ class LedSpeaker(Speaker):
                 yield from self._prepare(len(message), end)
             if not is_known() and not (yield from self._read(end)) and self._led.clock() >= end:
                 raise self._late("it", number.generation)
-        if log.is_gone and log.count() < number.number:
+        if log.is_lost() and log.count() < number.number:
             raise SpentError(f"{SpentError.text()}: {self._led.text(log.generation)}")
         return log.count() >= number.number and log.messages[number.number - 1] == message

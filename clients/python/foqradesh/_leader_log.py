@@ -123,8 +123,8 @@ class LedNodes(Nodes):
                 first = None if is_missing else later.first()
                 if first is not None:
                     self.ends[generation] = read_ends(first).get(generation)
-                elif is_missing or later.is_gone:
-                    log.is_gone = log.is_gone or log.sealed is not None
+                elif is_missing or later.is_lost():
+                    log.is_skipped = log.sealed is not None
                 elif later.is_over():
                     continue
                 break
@@ -154,6 +154,8 @@ class LedLog(ReadLog):
         self.last: Optional[int] = None
         # The number of them before the seal of this node's member.
         self.sealed: Optional[int] = None
+        # It is sealed, and no later generation here shows its end any more.
+        self.is_skipped = False
         # Whether a later generation says how this one ends, and how many messages count then.
         self.is_decided = False
         self.end: Optional[int] = None
@@ -169,6 +171,10 @@ class LedLog(ReadLog):
                 self.last = len(self.messages)
         elif entry.origin == self._node and entry.payload == SEAL and self.sealed is None:
             self.sealed = len(self.messages)
+
+    def is_lost(self) -> bool:
+        """Return True if it was dropped here, or is skipped."""
+        return self.is_gone or self.is_skipped
 
     def is_left(self) -> bool:
         """Return True if the members go on to the next generation."""
@@ -188,8 +194,8 @@ class LedLog(ReadLog):
             self.is_decided, self.end = True, end
 
     def is_over(self) -> bool:
-        """Return True if all messages that count were read."""
-        if self.is_gone:
+        """Return True if all messages that count were read, or the others cannot be known here."""
+        if self.is_lost():
             return True
         ends = [it for it in (self.last, self.end) if it is not None]
         return bool(ends) and self.count() >= min(ends)

@@ -131,8 +131,9 @@ class Room(RoomBase):
         - `repeat` is for the last say of the same room; otherwise ValueError is raised. If the
           message has a position in the order, it is found, and otherwise it is said anew: once in
           all.
-        - UnknownOutcomeError: the message was said, and is not delivered here yet. It may pass. If
-          its `__cause__` is SpentError it does not: the generation that shows it was dropped here.
+        - UnknownOutcomeError: the message was said or may be, and is not delivered here yet. It may
+          pass. If its `__cause__` is SpentError it does not: the generation that shows it was
+          dropped here.
 
         SpentError: the last generation, 4,294,967,295, is full. The other refusals are those of
         `make`, `open` and `say`. MissingTokenError is raised if a client has no token for a
@@ -154,6 +155,9 @@ class Room(RoomBase):
         those of the one before were read, up to the member's marker. Within a generation they have
         the order in which the node delivered them. A generation that was never made here, or that
         another client has dropped, is skipped.
+
+        With a leader a sealed generation is skipped too if the one that shows its end was dropped
+        here. Then it is treated as read to its end.
 
         A generation that was read to its end is dropped at this node, once the entry behind it is
         asked for and each other running member's node has its whole log: a drop discards the

@@ -20,6 +20,7 @@ from foqradesh import (
     AsyncRoom,
     BadPlaceError,
     BytesError,
+    ConnectionFailedError,
     Generation,
     NoRoomError,
     Room,
@@ -35,6 +36,7 @@ from foqradesh import (
 from foqradesh._leader import LedSpeaker
 from foqradesh._leader_log import (
     ENDS,
+    SAID,
     SEAL,
     LedLog,
     LedNodes,
@@ -93,6 +95,27 @@ def room_of(
     room = Room(cluster.clients(), 7, 1, spec, node=node, leader=leader, patience=patience)
     room._sleep = cluster.sleep
     return room
+
+
+def half_made(cluster: Cluster, nodes: Sequence[int]) -> Room:
+    """Return a new room at node 0, whose generation 1 these nodes have made, and not opened."""
+    room = room_of(cluster, 0)
+    for count in range(6):
+        room.say(str(count).encode())
+    for node in nodes:
+        cluster.client(node).make(7, Generation(1, 1), SPEC)
+    return room_of(cluster, 0)
+
+
+def lose_say(cluster: Cluster, fate: str) -> None:
+    """Let the next message of a room have this fate, and nothing else."""
+    fates = [fate]
+
+    def draw(node: int, body: str) -> str:
+        is_said = body.startswith("say") and f" {SAID.hex()}" in body
+        return fates.pop() if is_said and fates else "carry"
+
+    cluster.fate = draw
 
 
 class Ordered(unittest.TestCase):
@@ -212,6 +235,96 @@ class OrderTests(Ordered):
                 self.assertEqual(room_of(cluster, 2).say(b"7"), (1, 2))
                 heard = [it.payload for it in room_of(cluster, 1).follow(idle=1.0)]
                 self.assertEqual(heard, [str(count).encode() for count in range(8)])
+
+    def test_a_reply_that_is_lost_in_a_generation_that_is_half_made(self) -> None:
+        # The say is refused when it is repeated: the leader's node lacks the generation, or it is
+        # not open there.
+        for made in (ALL[:1], ALL):
+            for fate in ("no request", "no reply", "lose reply"):
+                with self.subTest(made=made, fate=fate):
+                    cluster = timed()
+                    late = half_made(cluster, made)
+                    lose_say(cluster, fate)
+                    repeat: Optional[RoomNumber] = None
+                    if fate != "lose reply":
+                        self.assertRaises(TimedOutError, late.say, b"6")
+                        repeat = RoomNumber(1, 1)
+                    self.assertEqual(late.say(b"6", repeat=repeat), (1, 1))
+                    self.assertEqual(room_of(cluster, 2).say(b"7"), (1, 2))
+                    heard = [it.payload for it in room_of(cluster, 2).follow(idle=1.0)]
+                    self.assertEqual(heard, [str(count).encode() for count in range(8)])
+
+    def test_a_number_that_another_message_has_in_a_generation_that_is_half_made(self) -> None:
+        # Another room says a message while this one starts the generation.
+        for fate in ("no reply", "lose reply"):
+            with self.subTest(fate=fate):
+                cluster = timed()
+                late, other = half_made(cluster, ALL), room_of(cluster, 2)
+                lose_say(cluster, fate)
+                repeat: Optional[RoomNumber] = None
+                if fate != "lose reply":
+                    self.assertRaises(TimedOutError, late.say, b"7")
+                    repeat = RoomNumber(1, 1)
+                fates = cluster.fate
+
+                def before_it(node: int, body: str) -> str:
+                    if body.startswith("make"):
+                        cluster.fate = fates
+                        self.assertEqual(other.say(b"6"), (1, 1))
+                    return fates(node, body)
+
+                cluster.fate = before_it
+                self.assertEqual(late.say(b"7", repeat=repeat), (1, 2))
+                heard = [it.payload for it in room_of(cluster, 1).follow(idle=1.0)]
+                self.assertEqual(heard, [str(count).encode() for count in range(8)])
+
+    def test_a_crash_while_a_reply_is_lost_in_a_generation_that_is_half_made(self) -> None:
+        for fate in ("no reply", "lose reply"):
+            with self.subTest(fate=fate):
+                cluster = timed()
+                late = half_made(cluster, ALL[:1])
+                lose_say(cluster, fate)
+                repeat: Optional[RoomNumber] = None
+                if fate != "lose reply":
+                    self.assertRaises(TimedOutError, late.say, b"6")
+                    repeat = RoomNumber(1, 1)
+                cluster.crash(2)
+                with self.assertRaises(UnknownOutcomeError) as caught:
+                    late.say(b"6", repeat=repeat)
+                error = caught.exception
+                self.assertEqual((error.generation, error.number, error.node), (1, 1, 2))
+                self.assertIsInstance(error.__cause__, ConnectionFailedError)
+                late.exclude(2)
+                self.assertEqual(late.say(b"6", repeat=RoomNumber(1, 1)), (1, 1))
+                heard = [it.payload for it in late.follow(idle=1.0)]
+                self.assertEqual(heard, [str(count).encode() for count in range(7)])
+
+    def test_a_leader_that_crashes_when_its_half_made_generation_is_started(self) -> None:
+        for fate in ("no reply", "lose reply"):
+            with self.subTest(fate=fate):
+                cluster = timed()
+                late = half_made(cluster, ALL)
+                lose_say(cluster, fate)
+                repeat: Optional[RoomNumber] = None
+                if fate != "lose reply":
+                    self.assertRaises(TimedOutError, late.say, b"6")
+                    repeat = RoomNumber(1, 1)
+                fates = cluster.fate
+
+                def after_it(node: int, body: str) -> str:
+                    if node == 2 and body.startswith("open"):
+                        cluster.crash(1)
+                    return fates(node, body)
+
+                cluster.fate = after_it
+                with self.assertRaises(ConnectionFailedError) as caught:
+                    late.say(b"6", repeat=repeat)
+                error = caught.exception
+                self.assertEqual((error.generation, error.number, error.node), (1, 1, 1))
+                late.exclude(1)
+                self.assertEqual(late.say(b"6", repeat=RoomNumber(1, 1)), (2, 2))
+                heard = [it.payload for it in late.follow(idle=1.0)]
+                self.assertEqual(heard, [str(count).encode() for count in range(7)])
 
     def test_what_cannot_be(self) -> None:
         cluster = timed()
@@ -457,6 +570,87 @@ class CrashTests(Ordered):
         self.assertEqual(nodes.ends, {0: 1})
         nodes.ends.clear()  # As if many generations had ended since.
         self.assertEqual(rooms[2].say(b"c", repeat=RoomNumber(0, 2)), (2, 3))
+
+    def test_a_sealed_generation_that_is_skipped_is_dropped(self) -> None:
+        # A room keeps generation 0, because its say is in doubt, and drops the one that shows its
+        # end. Then it crashes, or speaks.
+        for is_new in (True, False):
+            with self.subTest(is_new=is_new):
+                cluster = timed()
+                spec = Spec("fmajority", ALL, 8, 4_096, 8)
+                rooms = [room_of(cluster, node, spec, patience=30.0) for node in ALL]
+                heard: List[List[RoomEntry]] = [[], []]
+                rooms[2].say(b"a")
+                rooms[1].exclude(0)
+                rooms[1].say(b"b")
+                lose_say(cluster, "no reply")
+                self.assertRaises(TimedOutError, rooms[2].say, b"c")
+                for count in range(6):
+                    rooms[1].say(str(count).encode())
+                if is_new:
+                    hear(rooms[1:], heard, 1.0)
+                    hear(rooms[1:], heard, 1.0)
+                    rooms[2] = room_of(cluster, 2, spec)
+                else:
+                    cluster.client(2).drop(7, Generation(1, 1))
+                self.assertEqual(cluster.living()[2], [0, 2])
+                heard = [[], []]
+                hear(rooms[1:], heard, 1.0)
+                hear(rooms[1:], heard, 1.0)
+                self.assertEqual([it.payload for it in heard[1]], [b"a", b"4", b"5"])
+                if not is_new:
+                    self.assertEqual(cluster.living()[1:], [[2], [0, 2]])
+                    rooms[2].say(b"d")
+                    hear(rooms[1:], heard, 1.0)
+                self.assertEqual(cluster.living()[1:], [[2], [2]])
+
+    def test_a_generation_that_is_skipped_is_dropped_when_each_node_has_its_messages(self) -> None:
+        # Node 1 lacks messages that are behind the seal at node 2. They may count, and node 2 has
+        # to relay them. One comes only after the generation was skipped.
+        cluster = timed()
+        spec = Spec("fmajority", ALL, 8, 4_096, 8)
+        clients = cluster.clients()
+        for generation in range(3):
+            for node in ALL:
+                clients[node].make(7, Generation(1, generation), spec)
+                clients[node].open(7, Generation(1, generation))
+        cluster.held = {(0, 1), (2, 1)}
+        clients[2].say(7, 1, SEAL)
+        clients[0].say(7, 1, said_message(2, bytes(8), b"a"))
+        clients[2].drop(7, Generation(1, 1))
+        room = room_of(cluster, 2, spec)
+        room.exclude(0)
+        self.assertEqual(list(room.follow(idle=1.0)), [])
+        self.assertEqual((cluster.payloads(1, 0), cluster.living()[2]), ([], [0, 2]))
+        relayed = cluster.nodes[2].living[7, Generation(1, 0)].waiting[1]
+        late = said_message(2, bytes(8), b"b")
+        clients[0].say(7, 1, late)
+        self.assertEqual((relayed.pop(), cluster.payloads(2, 0)[-1]), ((0, 2), late))
+        cluster.held = {(0, 1)}
+        self.assertEqual(list(room.follow(idle=1.0)), [])
+        self.assertEqual((len(cluster.payloads(1, 0)), cluster.living()[2]), (2, [0, 2]))
+        relayed.append((0, 2))
+        self.assertEqual(list(room.follow(idle=1.0)), [])
+        self.assertEqual((len(cluster.payloads(1, 0)), cluster.living()[2]), (3, [2]))
+
+    def test_a_server_that_was_started_anew_is_sealed_again(self) -> None:
+        cluster = timed()
+        room = room_of(cluster, 1, Spec("fmajority", ALL, 8, 4_096, 8))
+        room.join()
+        cluster.crash(0)
+        room.exclude(0)
+        seal = f"say 7 1 {SEAL.hex()} 1"
+        lost = (2, "say")
+        cluster.fate = lambda node, body: "no request" if (node, body[:3]) == lost else "carry"
+        with self.assertRaises(TimedOutError) as caught:
+            room.say(b"a")
+        self.assertEqual((caught.exception.generation, caught.exception.node), (None, 2))
+        self.assertEqual(cluster.texts("say", 1), [seal])
+        cluster.fate = lambda node, body: "carry"
+        cluster.nodes[1].living.clear()
+        cluster.nodes[1].greatest.clear()
+        self.assertEqual(room.say(b"a"), (1, 2))
+        self.assertEqual(cluster.texts("say", 1)[1], seal)
 
     def test_a_say_is_repeated_many_generations_later(self) -> None:
         # The ends of the latest 16 generations are known.
@@ -784,7 +978,9 @@ class LogTests(unittest.TestCase):
                 self.assertFalse(first.is_decided or first.is_over())
                 self.fill(first, 0, (2, SEAL), (0, b))
                 nodes.judge(logs)
-                self.assertEqual((first.is_gone, first.is_decided, first.count()), (True, False, 2))
+                self.assertTrue(first.is_skipped and first.is_over())
+                self.assertFalse(first.is_gone or first.is_decided)
+                self.assertEqual(first.count(), 2)
 
     def test_a_known_end_is_kept(self) -> None:
         nodes, (log, later, third) = self.logs()
