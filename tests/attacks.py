@@ -346,9 +346,11 @@ def all_places_taken(attacks):
         for link in strangers:
             expect(link.ask(f"open {NOBODY} 7 1") == "refused 1 Denied", "a stranger is not refused")
         Link(server.sessions).figures()
-        members = [Link(server.sessions) for _ in range(20)]
-        for link in members:
-            expect(link.ask(f"fetch {member_token(7, 1)} 7 1 0 16") == "log 0", "a member is not let in")
+        # Each asks as soon as it is connected: until then it may make room for the next one.
+        members = []
+        for _ in range(20):
+            members.append(Link(server.sessions))
+            expect(members[-1].ask(f"fetch {member_token(7, 1)} 7 1 0 16") == "log 0", "a member is not let in")
         kept = [Link(server.sessions) for _ in range(5)]
         Link(server.sessions).figures()
         for link in members:
